@@ -134,9 +134,9 @@ impl<V: HasPosition, DE, UE, F> ConstrainedMesh<V, DE, UE, F> {
         }
     }
 
-    /// Makes constraints of the pieces of the path between two vertices, and gives its edges, unless
-    /// a constraint crosses it or the two are one: then it gives none, and takes no memory. A refusal
-    /// changes nothing.
+    /// Makes constraints of the pieces of the path between two vertices, and gives its edges,
+    /// unless a constraint crosses it or the two are one: then it gives none, and takes no memory.
+    /// A refusal changes nothing.
     pub fn try_add_path<P: PlaneTests<V::Scalar>>(
         &mut self,
         from: FixedVertexHandle,

@@ -13,8 +13,8 @@ use delaunay_paths::delaunay_core::point::HasPosition;
 use delaunay_paths::delaunay_location::PositionInTriangulation;
 use delaunay_paths::half_edge_mesh::{Dcel, FixedVertexHandle};
 
-// The new last vertex at a position that no vertex has, and how many constraints more there are: one
-// that the position is strictly within becomes two.
+// The new last vertex at a position that no vertex has, and how many constraints more there are:
+// one that the position is strictly within becomes two.
 pub(crate) fn insert_at<
     M: FreeByDefault<UE>,
     V: HasPosition,

@@ -120,8 +120,8 @@ pub record IsJoining {V D U F : Type 0} (place : V → Point) (P : U → Type 0)
   pub grows : GrowsAround (map place old.vertices) (place v) (state_of old) (state_of now)
   pub adds : AddsOnly P (edges old) (edges now)
 
--- the same, where the edge after the edge ahead does not see the vertex, and this is the edge before
--- the edge behind
+-- the same, where the edge after the edge ahead does not see the vertex, and this is the edge
+-- before the edge behind
 pub record IsJoiningBack {V D U F : Type 0} (place : V → Point) (P : U → Type 0)
     (old now : Contents V D U F) (v : V) (k before : ℕ) : Type 0 where
   pub ahead : ℕ

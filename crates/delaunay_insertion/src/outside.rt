@@ -32,8 +32,8 @@ fn is_on_left<V: HasPosition, DE, UE, F, P: PlaneTests<V::Scalar>>(
     requires sites { All (P.sites tests.now) (map V.place dcel.now.vertices) }
     requires covered { P.covered tests.now (place_of V.Scalar.whole position) }
     ensures { let points = map V.place dcel.now.vertices in let m = dcel.now.mesh in
-        IsTrue result ↔ TurnsLeft (place points (origin m edge)) (place points (origin m (rev edge)))
-        (fraction (place_of V.Scalar.whole position)) }
+        IsTrue result ↔ TurnsLeft (place points (origin m edge))
+        (place points (origin m (rev edge))) (fraction (place_of V.Scalar.whole position)) }
 {
     let ends = dcel.directed_edge(edge);
     let from = position_of(dcel, ends.from().fix());

@@ -15,9 +15,9 @@ use delaunay_legalization::half_edge_mesh::{
 };
 use delaunay_legalization::{is_constraint_edge, is_outer, make_constraint};
 
-// A vertex strictly within an edge, joined to the corner opposite the edge in each inner face beside
-// it, and the second half of the edge, which has default data as all new edges do; the first half
-// has those of the edge.
+// A vertex strictly within an edge, joined to the corner opposite the edge in each inner face
+// beside it, and the second half of the edge, which has default data as all new edges do; the first
+// half has those of the edge.
 fn split_at<V: HasPosition, DE: Default, UE: Default, F: Default>(
     dcel: &mut Dcel<V, DE, UE, F>,
     edge: FixedDirectedEdgeHandle,

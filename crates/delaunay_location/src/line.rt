@@ -13,8 +13,8 @@ use delaunay_legalization::half_edge_mesh::{FixedDirectedEdgeHandle, MeshViews};
 use delaunay_legalization::{is_same_point, is_strictly_within};
 
 impl<'a, V: HasPosition, DE, UE, F, P: PlaneTests<V::Scalar>> Search<'a, V, DE, UE, F, P> {
-    // The location of a position near the start of an edge of the line: on one of its edges, or past
-    // this vertex, where it has no other. An edge is told by the first of its directions.
+    // The location of a position near the start of an edge of the line: on one of its edges, or
+    // past this vertex, where it has no other. An edge is told by the first of its directions.
     fn place_near(&self, edge: FixedDirectedEdgeHandle) -> Option<PositionInTriangulation>
         requires within { edge < length self.now.dcel.directed }
         requires line { length self.now.dcel.faces ≡ 0 }

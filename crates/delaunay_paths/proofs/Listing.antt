@@ -301,16 +301,17 @@ pub record IsTwin {V D U F : Type 0} (x : Intersection V D U F) (e : DirectedEdg
   pub within : h < length e.dcel.now.directed
 
 pub twin_of : {V D U F : Type 0} {x : Intersection V D U F} {e : DirectedEdgeHandle V D U F}
-    (r : DirectedEdgeHandle V D U F) {h : ℕ} → x ≡ EdgeIntersection e → r.dcel ≡ e.dcel → r.index ≡ rev e.index → h ≡ r.index
-    → h < length r.dcel.now.directed → IsTwin x e h
+    (r : DirectedEdgeHandle V D U F) {h : ℕ} → x ≡ EdgeIntersection e → r.dcel ≡ e.dcel
+    → r.index ≡ rev e.index → h ≡ r.index → h < length r.dcel.now.directed → IsTwin x e h
 twin_of {V = V} {D = D} {U = U} {F = F} r {h = h} is mesh index value within = record {
   is = is;
   index = value ∙ index;
   within = subst (λ (d : Bor (Contents V D U F)). h < length d.now.directed) mesh within;
 }
 
-module _ {V D U F : Type 0} {x : Intersection V D U F} {e : DirectedEdgeHandle V D U F} {h : ℕ}
-    (c : Contents V D U F) (twin : IsTwin x e h) (same : state_of (mesh_of x).now ≡ state_of c) where
+module _ {V D U F : Type 0} {x : Intersection V D U F} {e : DirectedEdgeHandle V D U F}
+    {h : ℕ} (c : Contents V D U F) (twin : IsTwin x e h)
+    (same : state_of (mesh_of x).now ≡ state_of c) where
   twin_state : state_of e.dcel.now ≡ state_of c
   twin_state = sym (ap (λ (y : Intersection V D U F). state_of (mesh_of y).now) twin.is) ∙ same
 

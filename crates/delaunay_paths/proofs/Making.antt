@@ -1,7 +1,8 @@
 -- The loop that turns edges until none crosses.
--- Notions: IsMaking; free_on, kept_on, faces_kept_on, e_in, local, can_turn, turn_keeps, turn_keeps_faces,
--- turn_lowers, turn_has_shape, edges_on, turns_away, others_left, turns_across, others_and_made,
--- edge_if_none_crosses, making_begins, making_work, making_ends, making_goes_on, making_falls.
+-- Notions: IsMaking; free_on, kept_on, faces_kept_on, e_in, local, can_turn, turn_keeps,
+-- turn_keeps_faces, turn_lowers, turn_has_shape, edges_on, turns_away, others_left, turns_across,
+-- others_and_made, edge_if_none_crosses, making_begins, making_work, making_ends, making_goes_on,
+-- making_falls.
 use Rattle.std.proofs.Common.{◌≡◌, ◌⊎◌, ◌*◌, ◌/◌, ◌<◌, ◌≤◌, ◌∙◌}
 use Rattle.std.proofs.Common.{ℕ, List, length, map, refl, sym, ap, subst}
 use mathlib.Core.Logic.{inl, inr}

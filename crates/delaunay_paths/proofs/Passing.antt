@@ -1,5 +1,6 @@
 -- What a walk along a segment has passed, and what is left of it.
--- Notions: HasPassed; later_ones, earlier_ones, none_passed, one_more_passed, list_with, all_passed.
+-- Notions: HasPassed; later_ones, earlier_ones, none_passed, one_more_passed, list_with,
+-- all_passed.
 use Rattle.std.proofs.Common.{◌≡◌, [], ◌∷◌, ◌++◌, ◌∙◌}
 use Rattle.std.proofs.Common.{append-nil, suc, List, Some, None, sym, ap, subst, append_assoc}
 use Rattle.std.proofs.Common.{arith, inl, inr}

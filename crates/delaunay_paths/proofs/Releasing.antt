@@ -1,6 +1,6 @@
 -- A constraint that is released, and what is left to test then.
--- Lemmas: same_pair_or_not, double, one_edge, released_kept, released_left, released_room, released,
--- added_sites, added_fits, added_counts, added_room, added_left, constraints_added.
+-- Lemmas: same_pair_or_not, double, one_edge, released_kept, released_left, released_room,
+-- released, added_sites, added_fits, added_counts, added_room, added_left, constraints_added.
 use Rattle.std.proofs.Common.{◌≡◌, ◌≢◌, ◌⊎◌, ◌↔◌, ◌*◌, ◌<◌, ◌≤◌, [], ◌∷◌, ◌∙◌}
 use Rattle.std.proofs.Common.{ℕ, List, length, map, set, sym, ap, subst, inl, inr, arith}
 use Rattle.std.specs.Prelude.{Bool, false, All, Contains}

@@ -27,8 +27,8 @@ fn is_same_edge(edge: FixedDirectedEdgeHandle, other: FixedDirectedEdgeHandle) -
     edge.index() == other.index()
 }
 
-// The edge from one vertex to another, if there are such vertices and they are joined. It looks round
-// both at once, so it costs what the one with fewer edges costs.
+// The edge from one vertex to another, if there are such vertices and they are joined. It looks
+// round both at once, so it costs what the one with fewer edges costs.
 pub(crate) fn find_edge_between<V, DE, UE, F>(
     dcel: &Dcel<V, DE, UE, F>,
     from: FixedVertexHandle,

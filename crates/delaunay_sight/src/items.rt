@@ -86,8 +86,8 @@ impl<'a, V: HasPosition, DE, UE, F, G: FreeFaces, P: PlaneTests<V::Scalar>> Sigh
             && self.is_free_unless_on(edge, segment.side_of_to(edge))
     }
 
-    // Whether those that it has beside an item that it meets are: one of the two beside an edge that
-    // it runs along.
+    // Whether those that it has beside an item that it meets are: one of the two beside an edge
+    // that it runs along.
     fn passes(&self, item: &Intersection<'a, V, DE, UE, F>) -> bool
         requires { (mesh_of item.now).now ≡ self.now.dcel }
         ensures { IsTrue result ↔ Passes V.place G.free self.now (item_in item.now) }

@@ -70,11 +70,12 @@ loop-ahead-init g c =
     joining_begins g.V.HasPosition.place c.args.dcel.now c.args.value _ c.args.edge _
     c.requires.can.kept c.requires.outer.0 c.requires.outer.1
     ((told_of (map g.V.HasPosition.place c.args.dcel.now.vertices) c.args.dcel.now.mesh c.args.edge
-    c.position-position.ensures c.is_on_left.ensures).0 c.if-not-is_on_left.false) done.vertex done.data
-    done.links done.edges _ _ _ c.num_directed_edges-edges.ensures.value c.from_index-ahead.ensures
-    c.from_index-behind.ensures
+    c.position-position.ensures c.is_on_left.ensures).0 c.if-not-is_on_left.false) done.vertex
+    done.data done.links done.edges _ _ _ c.num_directed_edges-edges.ensures.value
+    c.from_index-ahead.ensures c.from_index-behind.ensures
 
-pub is_on_left-requires-in-loop-ahead-clause-sites : goal.is_on_left-requires-in-loop-ahead-clause-sites
+pub is_on_left-requires-in-loop-ahead-clause-sites
+    : goal.is_on_left-requires-in-loop-ahead-clause-sites
 is_on_left-requires-in-loop-ahead-clause-sites g c =
     sites_grown c.loop-ahead.invariant (g.P.PlaneTests.sites c.args.tests.now) c.requires.sites
 
@@ -100,23 +101,23 @@ pub loop-ahead-smaller : goal.loop-ahead-smaller
 loop-ahead-smaller g c =
     let j = c.loop-ahead.invariant in
     let done = c.create_single_face_between_edge_and_next-ahead.ensures in
-    (step_ahead j (seen_if j c.position-position.ensures c.is_on_left-in-loop-ahead.ensures (search rules)
-    c.loop-ahead-test.true) done.data done.edges done.links done.edge).1
+    (step_ahead j (seen_if j c.position-position.ensures c.is_on_left-in-loop-ahead.ensures
+    (search rules) c.loop-ahead-test.true) done.data done.edges done.links done.edge).1
 
 pub loop-ahead-preserved : goal.loop-ahead-preserved
 loop-ahead-preserved g c =
     let j = c.loop-ahead.invariant in
     let done = c.create_single_face_between_edge_and_next-ahead.ensures in
-    (step_ahead j (seen_if j c.position-position.ensures c.is_on_left-in-loop-ahead.ensures (search rules)
-    c.loop-ahead-test.true) done.data done.edges done.links done.edge).0
+    (step_ahead j (seen_if j c.position-position.ensures c.is_on_left-in-loop-ahead.ensures
+    (search rules) c.loop-ahead-test.true) done.data done.edges done.links done.edge).0
 
 pub loop-position-init : goal.loop-position-init
 loop-position-init g c = record {
   ahead = c.loop-ahead.ahead;
   behind = c.from_index-behind.result;
   joining = c.loop-ahead.invariant;
-  unseen = unseen_if c.loop-ahead.invariant c.position-position.ensures c.is_on_left-in-loop-ahead.ensures
-      (search rules) c.loop-ahead-test.false;
+  unseen = unseen_if c.loop-ahead.invariant c.position-position.ensures
+      c.is_on_left-in-loop-ahead.ensures (search rules) c.loop-ahead-test.false;
   before_is = search rules;
   before_in = search rules;
 }

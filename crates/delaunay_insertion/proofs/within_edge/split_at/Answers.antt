@@ -25,7 +25,8 @@ pub split_edge-vertex-requires-clause-between : goal.split_edge-vertex-requires-
 split_edge-vertex-requires-clause-between g c = record {
   within = rw c.requires.can.takes.kept.fits.directed_fit at c.requires.can.within;
   inner = positive _ (λ none. both_ways _ (c.is_outer.ensures.1 none) c.if-is_outer.false);
-  twin_inner = positive _ (λ none. both_ways _ (c.is_outer-else-is_outer.ensures.1 (rw c.rev-else-is_outer.ensures none))
+  twin_inner = positive _ (λ none. both_ways _
+      (c.is_outer-else-is_outer.ensures.1 (rw c.rev-else-is_outer.ensures none))
       c.if-is_outer-2.false);
 }
 
@@ -116,7 +117,8 @@ returns-else-is_outer-2 g c =
     let here = rw kept.fits.directed_fit at can.within in
     let inner = positive _ (λ none. both_ways _ (c.is_outer.ensures.1 none) c.if-is_outer.false) in
     let twin_inner = positive _ (λ none. both_ways _
-    (c.is_outer-else-is_outer.ensures.1 (rw c.rev-else-is_outer.ensures none)) c.if-is_outer-2.false) in
+    (c.is_outer-else-is_outer.ensures.1 (rw c.rev-else-is_outer.ensures none))
+    c.if-is_outer-2.false) in
     let turns = flippable old.mesh c.args.edge kept.valid here inner twin_inner in
     record {
       takes = gains old can.takes (ap (λ d. d.vertices) done.data.contents) done.data.whole
@@ -130,5 +132,6 @@ returns-else-is_outer-2 g c =
           done.links.triangles);
       edges = inner_split old new (whole_mesh old kept) _ c.args.edge _ can.within
           (c.as_undirected-else-is_outer-2.ensures
-          ∙ ap (λ xs. get_or xs 1 c.index-halves-1-else-is_outer-2.result / 2) done.parts) done.edges;
+          ∙ ap (λ xs. get_or xs 1 c.index-halves-1-else-is_outer-2.result / 2) done.parts)
+          done.edges;
     }

@@ -11,8 +11,10 @@ pub returns-then-is_constraint_edge : goal.returns-then-is_constraint_edge
 returns-then-is_constraint_edge g c =
     let marked = g.met.M.ConstraintMarker.constraints_are_marked in
     let here = rw (c.as_undirected.ensures.dcel, c.as_undirected.ensures.index) at c.data.ensures in
-    let told = sym c.is_constraint_edge.ensures ∙ c.if-is_constraint_edge.true in
-    (sym c.as_edge_intersection.ensures ∙ c.in_ok-edge.was, is_constraint_edge _ _ marked _ _ _ here told)
+    let told = sym c.is_constraint_edge.ensures ∙ c.if-is_constraint_edge.true in (
+      sym c.as_edge_intersection.ensures ∙ c.in_ok-edge.was,
+      is_constraint_edge _ _ marked _ _ _ here told,
+    )
 
 pub returns-else-is_constraint_edge : goal.returns-else-is_constraint_edge
 returns-else-is_constraint_edge g c e is fixed =

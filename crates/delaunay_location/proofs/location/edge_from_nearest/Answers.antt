@@ -15,7 +15,8 @@ loop-index-preserved g c =
     let here = c.directed_edge.ensures in
     let there = c.directed_edge-in-loop-index.ensures in
     let start = c.fix-start.ensures.value ∙ rw (here.dcel, here.index) at c.from.ensures.index in
-    let other = c.fix-other.ensures.value ∙ rw (there.dcel, there.index) at c.from-in-loop-index.ensures.index in
+    let other = c.fix-other.ensures.value
+    ∙ rw (there.dcel, there.index) at c.from-in-loop-index.ensures.index in
     let nearer = rw (start, other) at c.is_nearer.ensures in
     elim c.if-is_nearer.branch [
       | then-is_nearer w ↦ rw w.nearest-is

@@ -65,7 +65,8 @@ opposite_side-requires g c =
     c.requires.starts in
     rw turned.whole.fits.directed_fit (flat_strip s.whole flat.0 turned).within
 
-pub disconnect_edge_strip-requires-else-is_corner : goal.disconnect_edge_strip-requires-else-is_corner
+pub disconnect_edge_strip-requires-else-is_corner
+    : goal.disconnect_edge_strip-requires-else-is_corner
 disconnect_edge_strip-requires-else-is_corner g c =
     let s = c.shrink_hull_star-count.ensures.shrinks in
     let turned = c.turn_away.ensures in

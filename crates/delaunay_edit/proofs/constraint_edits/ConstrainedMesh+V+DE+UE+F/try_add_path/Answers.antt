@@ -19,9 +19,9 @@ pub returns-in_err-push-clause-none : goal.returns-in_err-push-clause-none
 returns-in_err-push-clause-none g c =
     let kept = c.self.invariant.legal.kept in
     let found = c.in-Some.ensures.some in
-    let free = joined_is_free g.V.HasPosition.place (state_of c.self.inside.dcel) kept c.in-Some.edge
-    (rw kept.fits.directed_fit at found.0) is_constraint constraint_edges (λ ds. refl)
-    c.args.from c.args.to found.1 found.2 in
+    let free = joined_is_free g.V.HasPosition.place (state_of c.self.inside.dcel) kept
+    c.in-Some.edge (rw kept.fits.directed_fit at found.0) is_constraint constraint_edges
+    (λ ds. refl) c.args.from c.args.to found.1 found.2 in
     λ barred. absurd (elim barred as (λ _. ⊥) [
       | inl same ↦ both_ways _ (c.eq.ensures ∙ eq-eqb _ _ same) c.if-eq.false
       | inr none ↦ none (rw (← c.self.view_is) free)

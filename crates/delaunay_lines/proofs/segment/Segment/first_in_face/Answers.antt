@@ -27,5 +27,6 @@ returns g c =
     let exit = rw (← c.self.view_is) at c.edge_over-exit.ensures in
     let left = rw (c.side_of_to.ensures, ← c.self.view_is) at c.is_on_left_side.ensures in
     let on = rw (c.side_of_start.ensures, ← c.self.view_is) at c.is_on_line.ensures in
-    rw (c.rev.ensures, ← c.self.view_is) (through_side c.self.invariant c.edge_over-exit.result exit.within exit.start given.apart
-    exit.over (unless left c.if-is_on_left_side.false) (unless on c.if-is_on_line.false))
+    rw (c.rev.ensures, ← c.self.view_is) (through_side c.self.invariant
+    c.edge_over-exit.result exit.within exit.start given.apart exit.over
+    (unless left c.if-is_on_left_side.false) (unless on c.if-is_on_line.false))

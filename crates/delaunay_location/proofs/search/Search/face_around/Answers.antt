@@ -28,7 +28,8 @@ returns-then-is_strictly_inside g c =
       omega (arith, face),
       omega (arith, face, count, c.loop-index-test.true),
       (inside_face (map g.V.HasPosition.place d.vertices) d.mesh _ _ _ _ _ corners.first
-          corners.second corners.third).0 (c.is_strictly_inside.ensures.0 c.if-is_strictly_inside.true),
+          corners.second corners.third).0
+          (c.is_strictly_inside.ensures.0 c.if-is_strictly_inside.true),
     )
 
 pub loop-index-preserved : goal.loop-index-preserved

@@ -31,7 +31,8 @@ returns-then-is_same_point-2 g c =
     let here = c.directed_edge-here.ensures in
     rw (← c.self.view_is) (at_vertex _ _ c.self.invariant.kept _ _
     (rw (c.to.ensures.dcel, here.dcel) at c.fix-then-is_same_point-2.ensures.in_range)
-    (rw (c.fix-then-is_same_point-2.ensures.value ∙ rw (here.dcel, here.index) at c.to.ensures.index)
+    (rw (c.fix-then-is_same_point-2.ensures.value
+    ∙ rw (here.dcel, here.index) at c.to.ensures.index)
     (sym ends.stop.to ∙ c.is_same_point-2.ensures.0 c.if-is_same_point-2.true)))
 
 pub returns-then-is_strictly_within : goal.returns-then-is_strictly_within

@@ -19,14 +19,14 @@ loop-item-init g c =
 
 pub push_reserved-requires : goal.push_reserved-requires
 push_reserved-requires g c = piece_walk_has_room c.loop-item.invariant c.in-Some.ensures.steps
-    (twin_of c.rev.result c.in-EdgeIntersection.is c.rev.ensures.dcel c.rev.ensures.index c.fix.ensures.value
-    c.fix.ensures.in_range) c.loop-item.self.waiting.ok.0 c.requires.room
+    (twin_of c.rev.result c.in-EdgeIntersection.is c.rev.ensures.dcel c.rev.ensures.index
+    c.fix.ensures.value c.fix.ensures.in_range) c.loop-item.self.waiting.ok.0 c.requires.room
 
 pub loop-item-preserved-in-EdgeIntersection : goal.loop-item-preserved-in-EdgeIntersection
 loop-item-preserved-in-EdgeIntersection g c =
     piece_walk_crosses c.loop-item.invariant c.in-Some.ensures.steps
-    (twin_of c.rev.result c.in-EdgeIntersection.is c.rev.ensures.dcel c.rev.ensures.index c.fix.ensures.value
-    c.fix.ensures.in_range) c.in-Some.ensures.goes.keeps
+    (twin_of c.rev.result c.in-EdgeIntersection.is c.rev.ensures.dcel c.rev.ensures.index
+    c.fix.ensures.value c.fix.ensures.in_range) c.in-Some.ensures.goes.keeps
     (record { waiting = c.push_reserved.ensures.capacity; unseen = refl })
     c.push_reserved.ensures.items refl
 
