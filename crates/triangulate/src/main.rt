@@ -15,29 +15,15 @@ use triangulate_watched::Watched;
 /// The status where the arguments name no sheet.
 const WRONG_ARGUMENTS: u8 = 2;
 
-/// The argument at this index, if it is one byte. None is longer where it names a sheet, so that
-/// the arguments are read without memory of the heap.
-fn letter_at(rt: &impl Env, index: usize) -> Option<u8> {
+/// The sheet that the arguments name: there is one behind the program's name, and it is a sheet's
+/// letter. None is longer, so that the arguments are read without memory of the heap.
+fn sheet_of(rt: &impl Env) -> Option<Sheet> {
     let mut letter = [0u8; 1];
-    match rt.arg(index, &mut letter) {
-        Ok(1) => Some(letter[0]),
+    rt.arg(1, &mut letter).ok()?;
+    match rt.arg(2, &mut [0u8; 1]) {
+        Err(FillError::NotPresent) => letter_named(str::from_utf8(&letter).ok()?),
         _ => None,
     }
-}
-
-/// Whether the arguments end before this index.
-fn ends_before(rt: &impl Env, index: usize) -> bool {
-    matches!(rt.arg(index, &mut [0u8; 1]), Err(FillError::NotPresent))
-}
-
-/// The sheet that the arguments name: there is one behind the program's name, and it is a sheet's
-/// letter.
-fn sheet_of(rt: &impl Env) -> Option<Sheet> {
-    let letter = [letter_at(rt, 1)?];
-    if !ends_before(rt, 2) {
-        return None;
-    }
-    letter_named(str::from_utf8(&letter).ok()?)
 }
 
 /// Answers what the reader gives on standard output.
@@ -57,28 +43,19 @@ fn answer_all<R: Read + Drop>(
     )
 }
 
-/// Answers standard input on standard output. Where there is no memory for a buffer, each byte is
-/// read by a call of its own.
-fn answer(rt: &(impl Input + Print + AllocGlobal), sheet: Sheet) -> Result<(), RunError> {
-    match BufReader::new(rt.alloc(), rt.reader()) {
-        Ok(reader) => answer_all(rt, sheet, reader),
-        Err(_) => answer_all(rt, sheet, rt.reader()),
-    }
-}
-
 /// Does what the arguments ask for, tells of a fault on standard error, and gives the exit status.
-fn status(rt: &(impl Env + Input + Print + Eprint + AllocGlobal)) -> u8 {
-    let Some(sheet) = sheet_of(rt) else {
+/// Where there is no memory for a buffer, each byte is read by a call of its own.
+fn main(rt: HostRuntime) -> ExitCode {
+    let Some(sheet) = sheet_of(&rt) else {
         let _ = rt.eprintln(USAGE);
-        return WRONG_ARGUMENTS;
+        return ExitCode::from(WRONG_ARGUMENTS);
     };
-    let outcome = answer(rt, sheet);
+    let outcome = match BufReader::new(rt.alloc(), rt.reader()) {
+        Ok(reader) => answer_all(&rt, sheet, reader),
+        Err(_) => answer_all(&rt, sheet, rt.reader()),
+    };
     if let Err(fault) = &outcome {
         let _ = rt.eprintln(fault_text(fault));
     }
-    exit_status_of(&outcome)
-}
-
-fn main(rt: HostRuntime) -> ExitCode {
-    ExitCode::from(status(&rt))
+    ExitCode::from(exit_status_of(&outcome))
 }

@@ -1,14 +1,17 @@
 -- The lookups' steps: nothing is found up to a place.
--- Lemmas: none_up_to, not_here, all_listed, all_listed_sites.
+-- Lemmas: none_up_to, not_here, at_found, first_circle, all_listed, all_listed_sites.
 use Rattle.std.proofs.Common.{◌≡◌, ◌+◌, ◌<◌, ◌&&◌, ◌∙◌}
 use Rattle.std.proofs.Common.{true, ℕ, Bool, false, List, arith, inl, inr, ap, sym, subst}
+use Rattle.std.proofs.Common.{[], Some, cond, length, drop, get_or}
 use Rattle.std.specs.Ordering.{int_eq}
-use Rattle.std.specs.Prelude.{All}
-use Rattle.std.proofs.lemmas.List.{get_or_default}
+use Rattle.std.specs.Prelude.{All, Option, MatchOption}
+use Rattle.std.proofs.lemmas.List.{get_or_default, at_drop_more}
 use Rattle.std.proofs.lemmas.Bool.{cases_eq, and_from, true≢false}
 use Rattle.std.proofs.lemmas.Bool.Decides.{Decides-int_eq}
 use Rattle.delaunay_edit.specs.plane.Fraction.{Point}
 use Rattle.triangulate_run.specs.declared.points.SheetPoint.{SheetPoint}
+use Rattle.triangulate_run.specs.declared.circles.Circle.{Circle}
+use Rattle.triangulate_run.specs.Table.{lists, circle_in}
 use Rattle.triangulate_run.specs.Points.{point_in, place, nowhere, IsListed, IsListedSite}
 
 -- what holds neither below i nor at i holds at no number below i + 1
@@ -25,6 +28,22 @@ not_here ps i p b e f h = true≢false
     (sym (and_from (int_eq (point_in ps i).x p.x) (int_eq (point_in ps i).y p.y)
     ((Decides-int_eq (point_in ps i).x p.x).1 (ap (λ q. q.x) h))
     ((Decides-int_eq (point_in ps i).y p.y).1 (ap (λ q. q.y) h))) ∙ sym e ∙ f)
+
+-- an index that a lookup gives is as the lookup says
+pub at_found : (A : Type 0) (B : ℕ → Type 0) (o : Option ℕ) (i : ℕ) → o ≡ Some i
+    → MatchOption o A B → B i
+at_found A B o i e found = subst (λ (o : Option ℕ). MatchOption o A B) e found
+
+-- the first circle from place n on is the one there, where it lists the triple, and else the first
+-- behind it
+pub first_circle : (cs : List Circle) (n i j k : ℕ) (b : Bool) → n < length cs
+    → lists (get_or cs n record { triples = []; inside = [] }).triples i j k ≡ b
+    → circle_in (drop n cs) i j k ≡ cond b (Some (get_or cs n record { triples = []; inside = [] }))
+    (circle_in (drop (n + 1) cs) i j k)
+first_circle cs n i j k b h listed =
+    at_drop_more (λ cs. circle_in cs i j k) cs n record { triples = []; inside = [] } h
+    ∙ ap (λ b. cond b (Some (get_or cs n record { triples = []; inside = [] }))
+    (circle_in (drop (n + 1) cs) i j k)) listed
 
 -- each point of a list is listed
 pub all_listed : (ps qs : List SheetPoint) → qs ≡ ps → All (λ s. IsListed ps (place s)) qs

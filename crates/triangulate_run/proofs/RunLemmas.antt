@@ -1,20 +1,22 @@
 -- The states of a run, one after another.
--- Notions: IsRunning; consumes_break, start, byte_more, line_more, line_fault, end_fault,
--- end_more.
-use Rattle.std.proofs.Common.{◌≡◌, ◌≢◌, [], ◌∷◌, ◌++◌, ◌∙◌}
+-- Notions: IsRunning; consumes_break, kept_more, start, byte_more, line_more, line_fault,
+-- end_fault, end_more.
+use Rattle.std.proofs.Common.{◌≡◌, ◌≢◌, ◌<◌, ◌≤◌, ◌+◌, [], ◌∷◌, ◌++◌, ◌∙◌, inl, inr}
+use Rattle.std.specs.Prelude.{Result, Ok, Err, IsOk, OnOk, OnErr, ◌↔◌}
+use Rattle.arrayvec.specs.ArrayVec.{ArrayVec}
 use Rattle.std.proofs.Common.{ℕ, true, false, List, Option, Some, None, refl, sym, ap, subst, arith}
-use Rattle.std.proofs.Common.{append_assoc, append-nil}
+use Rattle.std.proofs.Common.{append_assoc, append-nil, length, length-take}
 use Rattle.std.specs.List.{flat_map}
 use Rattle.std.specs.Io.KnownBytes.{Appends, Consumes, IsAtEnd}
 use Rattle.std.proofs.lemmas.Grind.{flat_map-append}
 use Rattle.std.proofs.lemmas.List.Elements.{All-push, All-nil}
-use Rattle.std.proofs.lemmas.List.{length_push}
-use Rattle.std.proofs.lemmas.Bool.Decides.{nat_tests}
+use Rattle.std.proofs.lemmas.List.{length_push, take_all, take-append-le}
+use Rattle.triangulate_grammar.specs.Grammar.{Spells}
 use Rattle.triangulate_watched.specs.declared.Watched.{Watched}
 use Rattle.triangulate_watched.specs.Watched.{inner_of, has_failed}
 use Rattle.triangulate_run.specs.declared.points.SheetPoint.{SheetPoint}
 use Rattle.triangulate_run.specs.Stage.{Stage, first_stage, Fits}
-use Rattle.triangulate_run.specs.Line.{kept, push_kept}
+use Rattle.triangulate_run.specs.Line.{kept}
 use Rattle.triangulate_run.specs.Output.{AppendsPart}
 use Rattle.triangulate_run.specs.Run.{Cut, IsOneLine, Answers, AnswersAll, IsAllowed, end_text}
 use Rattle.triangulate_run.specs.Run.{RanToEnd, RanInPart}
@@ -23,7 +25,7 @@ use Rattle.triangulate_run.proofs.OutputLemmas.{appends_more, appends_nil, part_
 -- between two bytes: these lines were read and answered, and this much of the next
 pub record IsRunning {R W : Type 0} (points : List SheetPoint) (remaining : R → Option (List ℕ))
     (contents : W → Option (List ℕ)) (r0 r1 : Watched R) (w0 w1 : Watched W)
-    (line : Option (List ℕ)) (stage : Stage) : Type 0 where
+    (line : List ℕ) (stage : Stage) : Type 0 where
   pub input : List ℕ
   pub lines : List (List ℕ)
   pub rest : List ℕ
@@ -55,9 +57,52 @@ pub consumes_break : (a b : Option (List ℕ)) (byte : ℕ) → byte ≡ 10 → 
     → Consumes a b (10 ∷ [])
 consumes_break a b byte e h = subst (λ (x : ℕ). Consumes a b (x ∷ [])) e h
 
--- a line that is kept and gets a byte is the longer line as it is kept
-kept_push : (line : List ℕ) (b : ℕ) → push_kept (kept line) b ≡ kept (line ++ b ∷ [])
-kept_push line b = grind (arith, nat_tests, length_push)
+-- what is kept of a line and gets a byte, where there is room, is what is kept of the longer line
+pub kept_more : {T E : Type 0} (r : Result T E) (rest : List ℕ) (b : ℕ) {old new : ArrayVec ℕ}
+    → old.items ≡ kept rest → IsOk r ↔ (length old.items < 121)
+    → OnOk r (new.items ≡ old.items ++ b ∷ []) → OnErr r (length old.items ≡ 121)
+    → OnErr r (new ≡ old) → new.items ≡ kept (rest ++ b ∷ [])
+kept_more (Ok x) rest b e room ok full err =
+    let short : length (kept rest) < 121 = rw e at (room.0 refl) in
+    let all = take_all 121 rest (omega (arith, length-take 121 rest, short)) in
+    ok ∙ ap (λ ys. ys ++ b ∷ []) (e ∙ all)
+    ∙ sym (take_all 121 (rest ++ b ∷ [])
+    (omega (arith, length_push rest b, length-take 121 rest, short)))
+kept_more (Err x) rest b e room ok full err =
+    let long : length (kept rest) ≡ 121 = rw e at full in
+    ap (λ v. v.items) err ∙ e
+    ∙ sym (take-append-le 121 rest (b ∷ []) (omega (arith, length-take 121 rest, long)))
+
+-- a line of which at most 120 bytes are kept is kept whole
+kept_whole : (line : List ℕ) → length (kept line) ≤ 120 → kept line ≡ line
+kept_whole line few = take_all 121 line (omega (arith, length-take 121 line, few))
+
+-- a line is answered as what is kept of it
+answers_kept : (points : List SheetPoint) (old : Stage) (line text : List ℕ) (new : Stage)
+    → Answers points old (kept line) text new → Answers points old line text new
+answers_kept points old line text new (inl (command, spells, told)) =
+    inl (command, subst (λ (l : List ℕ). Spells l command) (kept_whole line spells.0) spells, told)
+answers_kept points old line text new (inr (none, bad, same)) = inr (
+  (λ command spells. none command (subst (λ (l : List ℕ). Spells l command)
+      (sym (take_all 121 line (omega (arith, spells.0)))) spells)),
+  bad,
+  same,
+)
+
+answers_whole : {points : List SheetPoint} {old : Stage} {line text : List ℕ} {new : Stage}
+    (whole : List ℕ) → line ≡ kept whole → Answers points old line text new
+    → Answers points old whole text new
+answers_whole {points} {old} {line} {text} {new} whole e answers =
+    answers_kept points old whole text new
+    (subst (λ (l : List ℕ). Answers points old l text new) e answers)
+
+end_kept : (line : List ℕ) → end_text (kept line) ≡ end_text line
+end_kept [] = refl
+end_kept (byte ∷ line) = refl
+
+-- what is written at the end is told by what is kept
+end_whole : (line whole : List ℕ) → line ≡ kept whole → end_text line ≡ end_text whole
+end_whole line whole e = ap end_text e ∙ end_kept whole
 
 -- one more line is answered
 answers_more : (points : List SheetPoint) (old : Stage) (lines : List (List ℕ)) (text : List ℕ)
@@ -108,8 +153,8 @@ cut_line input lines rest cut = record {
 
 -- a run begins with nothing read, nothing written and no vertices
 pub start : {R W : Type 0} (remaining : R → Option (List ℕ)) (contents : W → Option (List ℕ))
-    (r : Watched R) (w : Watched W) (line : Option (List ℕ)) (points : List SheetPoint)
-    (stage : Stage) → line ≡ Some [] → stage ≡ first_stage → has_failed r ≡ false
+    (r : Watched R) (w : Watched W) (line : List ℕ) (points : List SheetPoint)
+    (stage : Stage) → line ≡ [] → stage ≡ first_stage → has_failed r ≡ false
     → has_failed w ≡ false → IsRunning points remaining contents r r w w line stage
 start remaining contents r w line points stage e f hr hw = record {
   input = [];
@@ -127,11 +172,11 @@ start remaining contents r w line points stage e f hr hw = record {
 
 -- a run goes on where one more byte, which ends no line, is read and kept
 pub byte_more : {R W : Type 0} {remaining : R → Option (List ℕ)} {contents : W → Option (List ℕ)}
-    {r0 r1 : Watched R} {w0 w1 : Watched W} {line : Option (List ℕ)} {points : List SheetPoint}
-    {stage : Stage} → IsRunning points remaining contents r0 r1 w0 w1 line stage
-    → (r2 : Watched R) (b : ℕ) (after : Option (List ℕ))
+    {r0 r1 : Watched R} {w0 w1 : Watched W} {line : List ℕ} {points : List SheetPoint}
+    {stage : Stage} (s : IsRunning points remaining contents r0 r1 w0 w1 line stage)
+    → (r2 : Watched R) (b : ℕ) (after : List ℕ)
     → Consumes (remaining (inner_of r1)) (remaining (inner_of r2)) (b ∷ []) → has_failed r2 ≡ false
-    → b ≢ 10 → after ≡ push_kept line b
+    → b ≢ 10 → after ≡ kept (s.rest ++ b ∷ [])
     → IsRunning points remaining contents r0 r2 w0 w1 after stage
 byte_more s r2 b after took works ne e = record {
   input = s.input ++ b ∷ [];
@@ -142,20 +187,20 @@ byte_more s r2 b after took works ne e = record {
   written = s.written;
   cut = cut_byte s.input s.lines s.rest b s.cut ne;
   answered = s.answered;
-  held = e ∙ ap (λ k. push_kept k b) s.held ∙ kept_push s.rest b;
+  held = e;
   reader_works = works;
   writer_works = s.writer_works;
 }
 
 -- a run goes on where the end of a line is read and its answer is written
 pub line_more : {R W : Type 0} {remaining : R → Option (List ℕ)} {contents : W → Option (List ℕ)}
-    {r0 r1 : Watched R} {w0 w1 : Watched W} {line : Option (List ℕ)} {points : List SheetPoint}
+    {r0 r1 : Watched R} {w0 w1 : Watched W} {line : List ℕ} {points : List SheetPoint}
     {stage : Stage} (s : IsRunning points remaining contents r0 r1 w0 w1 line stage)
-    → (r2 : Watched R) (w2 : Watched W) (first : List ℕ) (new : Stage) (after : Option (List ℕ))
+    → (r2 : Watched R) (w2 : Watched W) (first : List ℕ) (new : Stage) (after : List ℕ)
     → Consumes (remaining (inner_of r1)) (remaining (inner_of r2)) (10 ∷ []) → has_failed r2 ≡ false
-    → Answers points stage s.rest first new → Fits new
+    → Answers points stage line first new → Fits new
     → Appends (contents (inner_of w1)) (contents (inner_of w2)) first → has_failed w2 ≡ false
-    → after ≡ Some [] → IsRunning points remaining contents r0 r2 w0 w2 after new
+    → after ≡ [] → IsRunning points remaining contents r0 r2 w0 w2 after new
 line_more {points = points} {stage = stage} s r2 w2 first new after took works answer fits wrote
     still e = record {
       input = s.input ++ 10 ∷ [];
@@ -167,7 +212,7 @@ line_more {points = points} {stage = stage} s r2 w2 first new after took works a
       cut = cut_line s.input s.lines s.rest s.cut;
       answered =
           answers_more points first_stage s.lines s.text stage s.rest first new
-          s.answered answer fits;
+          s.answered (answers_whole s.rest s.held answer) fits;
       held = e;
       reader_works = works;
       writer_works = still;
@@ -175,11 +220,11 @@ line_more {points = points} {stage = stage} s r2 w2 first new after took works a
 
 -- a run ends where the writer fails within the answer to a line
 pub line_fault : {R W : Type 0} {remaining : R → Option (List ℕ)} {contents : W → Option (List ℕ)}
-    {r0 r1 : Watched R} {w0 w1 : Watched W} {line : Option (List ℕ)} {points : List SheetPoint}
+    {r0 r1 : Watched R} {w0 w1 : Watched W} {line : List ℕ} {points : List SheetPoint}
     {stage : Stage} (s : IsRunning points remaining contents r0 r1 w0 w1 line stage)
     → (r2 : Watched R) (w2 : Watched W) (first : List ℕ) (new : Stage)
     → Consumes (remaining (inner_of r1)) (remaining (inner_of r2)) (10 ∷ []) → has_failed r2 ≡ false
-    → Answers points stage s.rest first new → Fits new
+    → Answers points stage line first new → Fits new
     → AppendsPart (contents (inner_of w1)) (contents (inner_of w2)) first → has_failed w2 ≡ true
     → RanInPart points remaining contents r0 r2 w0 w2
 line_fault {points = points} {stage = stage} s r2 w2 first new took works answer fits wrote failed =
@@ -195,7 +240,7 @@ line_fault {points = points} {stage = stage} s r2 w2 first new took works answer
         stage = new;
         cut = cut_line s.input s.lines s.rest s.cut;
         answered = answers_more points first_stage s.lines s.text stage s.rest first new
-            s.answered answer fits;
+            s.answered (answers_whole s.rest s.held answer) fits;
         whole = sym (append-nil (s.text ++ first));
       };
       reader_works = works;
@@ -205,7 +250,7 @@ line_fault {points = points} {stage = stage} s r2 w2 first new took works answer
 -- what was written so far, with what is written at the end of the input, is allowed for what was
 -- read
 allowed_to_end : {R W : Type 0} {remaining : R → Option (List ℕ)} {contents : W → Option (List ℕ)}
-    {r0 r1 : Watched R} {w0 w1 : Watched W} {line : Option (List ℕ)} {points : List SheetPoint}
+    {r0 r1 : Watched R} {w0 w1 : Watched W} {line : List ℕ} {points : List SheetPoint}
     {stage : Stage} (s : IsRunning points remaining contents r0 r1 w0 w1 line stage)
     → IsAllowed points (s.input ++ []) (s.text ++ end_text s.rest)
 allowed_to_end {stage = stage} s = record {
@@ -220,17 +265,18 @@ allowed_to_end {stage = stage} s = record {
 
 -- a run ends where the writer fails within what is written at the end of the input
 pub end_fault : {R W : Type 0} {remaining : R → Option (List ℕ)} {contents : W → Option (List ℕ)}
-    {r0 r1 : Watched R} {w0 w1 : Watched W} {line : Option (List ℕ)} {points : List SheetPoint}
+    {r0 r1 : Watched R} {w0 w1 : Watched W} {line : List ℕ} {points : List SheetPoint}
     {stage : Stage} (s : IsRunning points remaining contents r0 r1 w0 w1 line stage)
     → (r2 : Watched R) (w2 : Watched W)
     → Consumes (remaining (inner_of r1)) (remaining (inner_of r2)) [] → has_failed r2 ≡ false
-    → AppendsPart (contents (inner_of w1)) (contents (inner_of w2)) (end_text s.rest)
+    → AppendsPart (contents (inner_of w1)) (contents (inner_of w2)) (end_text line)
     → has_failed w2 ≡ true → RanInPart points remaining contents r0 r2 w0 w2
 end_fault s r2 w2 took works wrote failed = record {
   input = s.input ++ [];
   text = s.text ++ end_text s.rest;
   read = consumes_more _ _ _ s.input [] s.read took;
-  written = part_behind _ _ _ s.text (end_text s.rest) s.written wrote;
+  written = part_behind _ _ _ s.text (end_text s.rest) s.written
+      (rw (end_whole _ s.rest s.held) at wrote);
   allowed = allowed_to_end s;
   reader_works = works;
   writer_failed = failed;
@@ -238,19 +284,20 @@ end_fault s r2 w2 took works wrote failed = record {
 
 -- a run ends where the input does and what is written at its end is written
 pub end_more : {R W : Type 0} {remaining : R → Option (List ℕ)} {contents : W → Option (List ℕ)}
-    {r0 r1 : Watched R} {w0 w1 : Watched W} {line : Option (List ℕ)} {points : List SheetPoint}
+    {r0 r1 : Watched R} {w0 w1 : Watched W} {line : List ℕ} {points : List SheetPoint}
     {stage : Stage} (s : IsRunning points remaining contents r0 r1 w0 w1 line stage)
     → (r2 : Watched R) (w2 : Watched W)
     → Consumes (remaining (inner_of r1)) (remaining (inner_of r2)) []
     → IsAtEnd (remaining (inner_of r2)) → has_failed r2 ≡ false
-    → Appends (contents (inner_of w1)) (contents (inner_of w2)) (end_text s.rest)
+    → Appends (contents (inner_of w1)) (contents (inner_of w2)) (end_text line)
     → has_failed w2 ≡ false → RanToEnd points remaining contents r0 r2 w0 w2
 end_more s r2 w2 took end works wrote still = record {
   input = s.input ++ [];
   text = s.text ++ end_text s.rest;
   read = consumes_more _ _ _ s.input [] s.read took;
   at_end = end;
-  written = appends_more _ _ _ s.text (end_text s.rest) s.written wrote;
+  written = appends_more _ _ _ s.text (end_text s.rest) s.written
+      (rw (end_whole _ s.rest s.held) at wrote);
   allowed = allowed_to_end s;
   reader_works = works;
   writer_works = still;

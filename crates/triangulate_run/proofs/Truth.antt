@@ -7,6 +7,7 @@ use Rattle.delaunay_edit.specs.plane.Circle.{InsideCircle}
 use Rattle.triangulate_run.specs.declared.sheet.Sheet.{Sheet}
 use Rattle.triangulate_run.specs.declared.sheet.Sheet.TheVariants.{G, B, R, L, X}
 use Rattle.triangulate_run.specs.declared.circles.Circle.{Circle}
+use Rattle.triangulate_run.specs.declared.points.SheetPoint.{SheetPoint}
 use Rattle.triangulate_run.specs.declared.table.TheConstants.{G_POINTS, B_POINTS, R_POINTS}
 use Rattle.triangulate_run.specs.declared.table.TheConstants.{L_POINTS, X_POINTS, GRID_CIRCLES}
 use Rattle.triangulate_run.specs.declared.table.TheConstants.{L_CIRCLES, X_CIRCLES}
@@ -41,19 +42,25 @@ circles_are_true X =
     circles_true X_POINTS X_CIRCLES (sides_true X_POINTS X_CIRCLES x_sides) x_circles
 
 -- at points that stand in the list
-pub side_from : (s : Sheet) (circles : List Circle) (r : Side) (a b c : Point) (i j k : ℕ)
-    → circles ≡ circles_of s → HoldsAt (points_of s) i a → HoldsAt (points_of s) j b
-    → HoldsAt (points_of s) k c → r ≡ side_in circles i j k → r ≡ side (whole a) (whole b) (whole c)
-side_from s circles r a b c i j k table ha hb hc e = rw (← ha.1, ← hb.1, ← hc.1)
-    (e ∙ ap (λ t. side_in t i j k) table ∙ sides_are_true s i j k ha.0 hb.0 hc.0)
+pub side_from : (s : Sheet) {points : List SheetPoint} {circles : List Circle} (r : Side)
+    (a b c : Point) (i j k : ℕ) → (points ≡ points_of s) × (circles ≡ circles_of s)
+    → HoldsAt points i a → HoldsAt points j b → HoldsAt points k c → r ≡ side_in circles i j k
+    → r ≡ side (whole a) (whole b) (whole c)
+side_from s r a b c i j k (listed, table) ha hb hc e = rw (← ha.1, ← hb.1, ← hc.1, listed)
+    (e ∙ ap (λ t. side_in t i j k) table
+    ∙ sides_are_true s i j k (rw listed at ha.0) (rw listed at hb.0) (rw listed at hc.0))
 
 -- the answer of the table tells whether site q is inside the circle of three sites that turn left
-pub inside_from : (s : Sheet) (circles : List Circle) (r : Bool) (a b c q : Point) (i j k l : ℕ)
-    → circles ≡ circles_of s → IsSiteAt (points_of s) i a → IsSiteAt (points_of s) j b
-    → IsSiteAt (points_of s) k c → IsSiteAt (points_of s) l q
-    → TurnsLeft (whole a) (whole b) (whole c) → r ≡ is_inside_in circles i j k l → IsTrue r
-    ↔ InsideCircle (whole a) (whole b) (whole c) (whole q)
-inside_from s circles r a b c q i j k l table ha hb hc hq turns e =
-    rw (e, table, ← ha.0.1, ← hb.0.1, ← hc.0.1, ← hq.0.1)
-    (circles_are_true s i j k l ha.0.0 hb.0.0 hc.0.0 hq.0.0 ha.1 hb.1 hc.1 hq.1
-    (rw (ha.0.1, hb.0.1, hc.0.1) turns))
+pub inside_from : (s : Sheet) {points : List SheetPoint} {circles : List Circle} (r : Bool)
+    (a b c q : Point) (i j k l : ℕ) → (points ≡ points_of s) × (circles ≡ circles_of s)
+    → IsSiteAt points i a → IsSiteAt points j b → IsSiteAt points k c → IsSiteAt points l q
+    → TurnsLeft (whole a) (whole b) (whole c) → r ≡ is_inside_in circles i j k l
+    → IsTrue r ↔ InsideCircle (whole a) (whole b) (whole c) (whole q)
+inside_from s r a b c q i j k l (listed, table) ha hb hc hq turns e =
+    let ia = rw listed at ha in
+    let ib = rw listed at hb in
+    let ic = rw listed at hc in
+    let iq = rw listed at hq in
+    rw (e, table, ← ia.0.1, ← ib.0.1, ← ic.0.1, ← iq.0.1)
+    (circles_are_true s i j k l ia.0.0 ib.0.0 ic.0.0 iq.0.0 ia.1 ib.1 ic.1 iq.1
+    (rw (ia.0.1, ib.0.1, ic.0.1) turns))

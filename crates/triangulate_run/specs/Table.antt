@@ -1,7 +1,9 @@
 -- What a table says, by the indexes of points: a listed triple turns left, its rotations too, their
 -- three other orders turn right, and the rest is on.
 use Rattle.std.specs.Prelude.{ℕ, ◌==◌, Bool, false, ◌&&◌, ◌||◌, if◌then◌else◌, List, get_or}
-use Rattle.std.specs.List.{list_any}
+use Rattle.std.specs.Prelude.{Option, is_some}
+use Rattle.std.specs.List.{list_any, find}
+use Rattle.std.specs.Option.{option_map_or}
 use Rattle.delaunay_edit.specs.plane.Side.{Side, left, right, on}
 use Rattle.triangulate_run.specs.declared.circles.Circle.{Circle}
 
@@ -17,9 +19,13 @@ is_turned t i j k = is_triple t i j k || (is_triple t j k i || is_triple t k i j
 abbrev pub lists : List (List ℕ) → ℕ → ℕ → ℕ → Bool
 lists ts i j k = list_any (λ t. is_turned t i j k) ts
 
--- some circle of the table lists i, j, k or a rotation of it
+-- the first circle of the table that lists i, j, k or a rotation of it
+abbrev pub circle_in : List Circle → ℕ → ℕ → ℕ → Option Circle
+circle_in circles i j k = find (λ c. lists c.triples i j k) circles
+
+-- some circle lists them
 abbrev pub is_left_in : List Circle → ℕ → ℕ → ℕ → Bool
-is_left_in circles i j k = list_any (λ c. lists c.triples i j k) circles
+is_left_in circles i j k = is_some (circle_in circles i j k)
 
 -- the side that the table tells of i, j, k: left, right, or on the line
 abbrev pub side_in : List Circle → ℕ → ℕ → ℕ → Side
@@ -29,4 +35,4 @@ side_in circles i j k =
 -- l is inside the circle of the listed triple i j k
 abbrev pub is_inside_in : List Circle → ℕ → ℕ → ℕ → ℕ → Bool
 is_inside_in circles i j k l =
-    list_any (λ c. lists c.triples i j k && get_or c.inside l false) circles
+    option_map_or (λ c. get_or c.inside l false) (circle_in circles i j k) false

@@ -1,7 +1,6 @@
 //! A table of left-turning triples, read by the indexes of points.
-ghost use Rattle.std.specs.Prelude.{◌≡◌, false, get_or};
-ghost use Rattle.triangulate_run.specs.Table.{is_triple, is_turned, lists, is_left_in, side_in};
-ghost use Rattle.triangulate_run.specs.Table.{is_inside_in};
+ghost use Rattle.std.specs.Prelude.{◌≡◌, MatchOption, Some, None};
+ghost use Rattle.triangulate_run.specs.Table.{is_turned, circle_in, side_in, is_inside_in};
 
 use delaunay_edit::delaunay_core::line_side_info::LineSideInfo;
 
@@ -14,53 +13,48 @@ pub(crate) struct Circle {
     pub inside: [bool; 9],
 }
 
-fn is_triple(triple: &[usize; 3], i: usize, j: usize, k: usize) -> bool
-    ensures { result ≡ is_triple triple.now i j k }
-{
-    triple[0] == i && triple[1] == j && triple[2] == k
-}
-
 /// Whether the indexes are the triple, or one of its rotations.
 fn is_turned(triple: &[usize; 3], i: usize, j: usize, k: usize) -> bool
     ensures { result ≡ is_turned triple.now i j k }
 {
-    is_triple(triple, i, j, k) || is_triple(triple, j, k, i) || is_triple(triple, k, i, j)
+    let [a, b, c] = *triple;
+    (a == i && b == j && c == k) || (a == j && b == k && c == i) || (a == k && b == i && c == j)
 }
 
-fn lists(triples: &[[usize; 3]], i: usize, j: usize, k: usize) -> bool
-    ensures { result ≡ lists triples.now i j k }
+/// The circle in whose triples the indexes are, which is one where they turn left.
+fn circle_of(circles: &[Circle], i: usize, j: usize, k: usize) -> Option<&Circle>
+    ensures { MatchOption result (circle_in circles.now i j k ≡ None)
+        (λ c. circle_in circles.now i j k ≡ Some c.now) }
 {
-    triples.iter().any(|triple| is_turned(triple, i, j, k))
-}
-
-fn is_left(circles: &[Circle], i: usize, j: usize, k: usize) -> bool
-    ensures { result ≡ is_left_in circles.now i j k }
-{
-    circles.iter().any(|circle| lists(&circle.triples, i, j, k))
+    for circle in circles {
+        for triple in circle.triples.as_slice() {
+            if is_turned(triple, i, j, k) {
+                return Some(circle);
+            }
+        }
+    }
+    None
 }
 
 /// The side of the point `k`, as seen along the line from `i` to `j`.
 pub(crate) fn side_at(circles: &[Circle], i: usize, j: usize, k: usize) -> LineSideInfo
     ensures { result ≡ side_in circles.now i j k }
 {
-    if is_left(circles, i, j, k) {
+    if circle_of(circles, i, j, k).is_some() {
         LineSideInfo::left()
-    } else if is_left(circles, i, k, j) {
+    } else if circle_of(circles, i, k, j).is_some() {
         LineSideInfo::right()
     } else {
         LineSideInfo::on_line()
     }
 }
 
-fn is_marked(marks: &[bool; 9], l: usize) -> bool
-    ensures { result ≡ get_or marks.now l false }
-{
-    *marks.get(l).unwrap_or(&false)
-}
-
 /// Whether `l` is inside the circle of the left-turning triple.
 pub(crate) fn is_inside_at(circles: &[Circle], i: usize, j: usize, k: usize, l: usize) -> bool
     ensures { result ≡ is_inside_in circles.now i j k l }
 {
-    circles.iter().any(|circle| lists(&circle.triples, i, j, k) && is_marked(&circle.inside, l))
+    match circle_of(circles, i, j, k) {
+        Some(circle) => *circle.inside.get(l).unwrap_or(&false),
+        None => false,
+    }
 }

@@ -9,7 +9,6 @@ pub mod fault;
 mod input;
 pub mod law;
 mod line;
-mod line_buffer;
 mod nearest;
 mod output;
 mod piece;

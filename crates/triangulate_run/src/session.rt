@@ -1,8 +1,6 @@
 //! Lines in, replies out.
-ghost use Rattle.std.specs.Prelude.{◌≡◌, ℕ, List, true, false, All, IfSome, IfNone};
-ghost use Rattle.triangulate_grammar.specs.Grammar.{Spells, SpellsNone};
+ghost use Rattle.std.specs.Prelude.{◌≡◌, ℕ, List, true, false, All};
 ghost use Rattle.triangulate_watched.specs.Watched.{has_failed};
-ghost use Rattle.triangulate_run.specs.Line.{kept};
 ghost use Rattle.triangulate_run.specs.Points.{place};
 ghost use Rattle.triangulate_run.specs.Output.{Writes};
 ghost use Rattle.triangulate_run.specs.Stage.{Stage, first_stage, Fits};
@@ -13,14 +11,19 @@ ghost use Rattle.triangulate_run.specs.declared.points.SheetPoint.{SheetPoint};
 use crate::engine::PointEngine;
 use crate::fault::RunError;
 use crate::input::next_byte;
-use crate::line_buffer::LineBuffer;
 use crate::output::{Written, write_all};
 use crate::points::SheetPoint;
+use arrayvec::ArrayVec;
 use spade_delaunay::{HintGenerator, PlaneTests};
 use std::alloc::Global;
 use std::io::{Read, Write};
 use triangulate_grammar::command::Command;
+use triangulate_grammar::{MAX_LINE, parse};
 use triangulate_watched::{Failed, Watched};
+
+/// How many bytes of a line are kept: one more than a command has, so that of a longer line enough
+/// is kept to be none.
+const LINE_ROOM: usize = MAX_LINE + 1;
 
 /// What answers commands.
 pub(crate) trait Engine {
@@ -43,14 +46,6 @@ pub(crate) trait Engine {
             × Writes W.contents writer.old writer.new result text };
 }
 
-/// The command of a line.
-fn command_of(line: &LineBuffer) -> Option<Command>
-    ensures found { (whole : List ℕ) → line.now ≡ kept whole → IfSome result (Spells whole) }
-    ensures none { (whole : List ℕ) → line.now ≡ kept whole → IfNone result (SpellsNone whole) }
-{
-    triangulate_grammar::parse(line.bytes()?)
-}
-
 /// Writes the bytes, and has the writer pass them on.
 fn send<W: Write>(writer: &mut Watched<W>, bytes: &[u8]) -> Written
     requires works { has_failed writer.old ≡ false }
@@ -61,22 +56,18 @@ fn send<W: Write>(writer: &mut Watched<W>, bytes: &[u8]) -> Written
 }
 
 /// Answers a line, and has the writer pass the answer on.
-fn answer<E: Engine, W: Write>(
-    engine: &mut E,
-    line: &LineBuffer,
-    writer: &mut Watched<W>,
-) -> Written
+fn answer<E: Engine, W: Write>(engine: &mut E, line: &[u8], writer: &mut Watched<W>) -> Written
     requires ready { E.is_ready engine.old }
     requires fits { Fits (E.stage engine.old) }
     requires works { has_failed writer.old ≡ false }
     ensures ready { E.is_ready engine.new }
     ensures listed { E.listed engine.new ≡ E.listed engine.old }
     ensures fits { Fits (E.stage engine.new) }
-    ensures answered { (whole : List ℕ) → line.now ≡ kept whole → (text : List ℕ)
-        × Answers (E.listed engine.old) (E.stage engine.old) whole text (E.stage engine.new)
+    ensures answered { (text : List ℕ)
+        × Answers (E.listed engine.old) (E.stage engine.old) line.now text (E.stage engine.new)
         × Writes W.contents writer.old writer.new result text }
 {
-    let Some(command) = command_of(line) else {
+    let Some(command) = parse(line) else {
         return send(writer, b"bad line\n");
     };
     engine.answer(command, writer)?;
@@ -84,10 +75,9 @@ fn answer<E: Engine, W: Write>(
 }
 
 /// Answers what stands behind the last newline.
-fn finish<W: Write>(line: &LineBuffer, writer: &mut Watched<W>) -> Written
+fn finish<W: Write>(line: &[u8], writer: &mut Watched<W>) -> Written
     requires works { has_failed writer.old ≡ false }
-    ensures { (whole : List ℕ) → line.now ≡ kept whole
-        → Writes W.contents writer.old writer.new result (end_text whole) }
+    ensures { Writes W.contents writer.old writer.new result (end_text line.now) }
 {
     if line.is_empty() {
         return Ok(());
@@ -109,17 +99,17 @@ pub(crate) fn converse<E: Engine, R: Read, W: Write>(
     ensures { Ran (E.listed engine.old) R.remaining W.contents reader.old reader.new writer.old
         writer.new result }
 {
-    let mut line = LineBuffer::new();
+    let mut line: ArrayVec<u8, LINE_ROOM> = ArrayVec::new();
     loop {
         match next_byte(reader) {
-            Ok(Some(b'\n')) => match answer(engine, &line, writer) {
+            Ok(Some(b'\n')) => match answer(engine, line.as_slice(), writer) {
                 Ok(()) => line.clear(),
                 Err(Failed) => return Err(RunError::Write),
             },
             Ok(Some(byte)) => {
-                line.push(byte);
+                let _ = line.try_push(byte);
             }
-            Ok(None) => match finish(&line, writer) {
+            Ok(None) => match finish(line.as_slice(), writer) {
                 Ok(()) => return Ok(()),
                 Err(Failed) => return Err(RunError::Write),
             },

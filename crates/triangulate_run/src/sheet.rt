@@ -4,7 +4,7 @@ ghost use Rattle.std.specs.Prelude.{true, All, IfSome, IfNone, IsTrue, map, stri
 ghost use Rattle.delaunay_edit.specs.plane.Fraction.{whole};
 ghost use Rattle.delaunay_edit.specs.plane.Side.{side, TurnsLeft};
 ghost use Rattle.delaunay_edit.specs.plane.Circle.{InsideCircle};
-ghost use Rattle.triangulate_run.specs.Points.{place, HoldsAt, IsSiteAt};
+ghost use Rattle.triangulate_run.specs.Points.{place};
 ghost use Rattle.triangulate_run.specs.Sheet.{points_of, circles_of, letter_of, IsCovered, IsSite};
 ghost use Rattle.triangulate_run.specs.Range.{covered_in_range};
 ghost use Rattle.triangulate_run.specs.Stage.{position};
@@ -69,46 +69,21 @@ impl Sheet {
         ensures covered { All (λ s. IsCovered self (place s)) result.now }
         ensures sites { All (λ s. s.site ≡ true → IsSite self (place s)) result.now }
     {
-        self.listed()
+        self.table().0
     }
 
-    #[tactic(auto, unfolding(crate::specs::Sheet::points_of))]
-    fn listed(self) -> &'static [SheetPoint]
-        ensures { result.now ≡ points_of self }
+    /// Its points, and its circles by their indexes.
+    #[tactic(auto, unfolding(crate::specs::Sheet::points_of, crate::specs::Sheet::circles_of))]
+    fn table(self) -> (&'static [SheetPoint], &'static [Circle])
+        ensures { (result.0.now ≡ points_of self) × (result.1.now ≡ circles_of self) }
     {
         match self {
-            Sheet::G => &G_POINTS,
-            Sheet::B => &B_POINTS,
-            Sheet::R => &R_POINTS,
-            Sheet::L => &L_POINTS,
-            Sheet::X => &X_POINTS,
+            Sheet::G => (&G_POINTS, &GRID_CIRCLES),
+            Sheet::B => (&B_POINTS, &GRID_CIRCLES),
+            Sheet::R => (&R_POINTS, &[]),
+            Sheet::L => (&L_POINTS, &L_CIRCLES),
+            Sheet::X => (&X_POINTS, &X_CIRCLES),
         }
-    }
-
-    #[tactic(auto, unfolding(crate::specs::Sheet::circles_of))]
-    fn circles(self) -> &'static [Circle]
-        ensures { result.now ≡ circles_of self }
-    {
-        match self {
-            Sheet::G | Sheet::B => &GRID_CIRCLES,
-            Sheet::R => &[],
-            Sheet::L => &L_CIRCLES,
-            Sheet::X => &X_CIRCLES,
-        }
-    }
-
-    fn covered_index(self, point: Point2<i64>) -> usize
-        requires { IsCovered self (position point) }
-        ensures { HoldsAt (points_of self) result (position point) }
-    {
-        index_of(self.listed(), point).unwrap()
-    }
-
-    fn site_index(self, point: Point2<i64>) -> usize
-        requires { IsSite self (position point) }
-        ensures { IsSiteAt (points_of self) result (position point) }
-    {
-        site_index_of(self.listed(), point).unwrap()
     }
 }
 
@@ -128,11 +103,12 @@ impl PlaneTests<i64> for Sheet {
         ensures { result ≡ side (whole (position from)) (whole (position to))
             (whole (position point)) }
     {
+        let (points, circles) = self.table();
         side_at(
-            self.circles(),
-            self.covered_index(from),
-            self.covered_index(to),
-            self.covered_index(point),
+            circles,
+            index_of(points, from).unwrap(),
+            index_of(points, to).unwrap(),
+            index_of(points, point).unwrap(),
         )
     }
 
@@ -152,12 +128,13 @@ impl PlaneTests<i64> for Sheet {
         ensures { IsTrue result ↔ InsideCircle (whole (position v1)) (whole (position v2))
             (whole (position v3)) (whole (position point)) }
     {
+        let (points, circles) = self.table();
         is_inside_at(
-            self.circles(),
-            self.site_index(v1),
-            self.site_index(v2),
-            self.site_index(v3),
-            self.site_index(point),
+            circles,
+            site_index_of(points, v1).unwrap(),
+            site_index_of(points, v2).unwrap(),
+            site_index_of(points, v3).unwrap(),
+            site_index_of(points, point).unwrap(),
         )
     }
 }

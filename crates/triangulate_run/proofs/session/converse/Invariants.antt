@@ -10,7 +10,7 @@ invariant-loop-engine g l = record {
   listed : g.E.Engine.listed l.engine ≡ g.E.Engine.listed l.fn.engine;
   fits : Fits (g.E.Engine.stage l.engine);
   running : IsRunning (g.E.Engine.listed l.fn.engine) g.R.Read.remaining g.W.Write.contents
-      l.fn.reader l.reader l.fn.writer l.writer l.line (g.E.Engine.stage l.engine);
+      l.fn.reader l.reader l.fn.writer l.writer l.line.items (g.E.Engine.stage l.engine);
 }
 
 abbrev pub decreases-loop-engine : goal.decreases-loop-engine
