@@ -13,3 +13,6 @@ invariant_of-self g c =
     held_after_path g.V.HasPosition.place c.self.inside.edited c.try_add_path.new.self _
     c.self.invariant _ _ (λ edges. edges.items) c.try_add_path.result
     c.try_add_path.ensures.path c.try_add_path.ensures.err
+
+pub returns-clause-none : goal.returns-clause-none
+returns-clause-none g c = rw (← c.self.view_is) c.try_add_path.ensures.none
