@@ -1,5 +1,5 @@
 -- Bits in words of 64, as one is set or cleared, and as words are added.
--- Lemmas: no_bit, no_bits, bit_within, one_bit_more, one_bit_less, bits_grown.
+-- Lemmas: no_bit, no_bits, bit_within, bit_told, one_bit_more, one_bit_less, bits_grown.
 use Rattle.std.proofs.Common.{◌≡◌, ◌⊎◌, ◌*◌, ◌/◌, ◌%◌, ◌^◌, ◌<◌, ◌∙◌}
 use Rattle.std.proofs.Common.{[], ◌∷◌, ◌++◌, List, ℕ, zero, suc, length, get_or, set}
 use Rattle.std.proofs.Common.{replicate, refl, sym, ap, subst, eq-eqb, arith, w64}
@@ -10,7 +10,7 @@ use Rattle.std.specs.Int.{bit_at, bit_not}
 use Rattle.std.proofs.lemmas.Bool.{ne_eqb, cases_eq, cases_lt}
 use Rattle.std.proofs.lemmas.List.{get_or-set_same, get_or-set_other, get_or_past}
 use Rattle.std.proofs.lemmas.Nat.Bits.{bit_at-zero, bit_at_set_same, bit_at_set_other}
-use Rattle.std.proofs.lemmas.Nat.Bits.{bit_at_clear_same, bit_at_clear_other}
+use Rattle.std.proofs.lemmas.Nat.Bits.{bit_at_clear_same, bit_at_clear_other, shr_and_one}
 use Rattle.mesh_embedding.proofs.plane_tiling.Totals.{get_or_any}
 use Rattle.delaunay_legalization.specs.Bits.{has_bit}
 
@@ -81,6 +81,11 @@ module _ (words : List ℕ) (n : ℕ) {word : ℕ} (here : n / 64 < length words
     (read : word ≡ get_or words (n / 64) word) where
   as_read : word ≡ get_or words (n / 64) 0
   as_read = read ∙ get_or_any words (n / 64) word 0 here
+
+  -- the test of the word tells whether the bit is set
+  pub bit_told : nat_eq (bit_and (word / 2 ^ (n % 64)) 1) 1 ≡ has_bit words n
+  bit_told = ap (λ (x : ℕ). nat_eq x 1) (shr_and_one word (n % 64))
+      ∙ ap (λ (x : ℕ). nat_eq (bit_at x (n % 64)) 1) as_read
 
   pub one_bit_more : (k : ℕ)
       → has_bit (set words (n / 64) (bit_or word (1 * 2 ^ (n % 64) % 2 ^ 64))) k

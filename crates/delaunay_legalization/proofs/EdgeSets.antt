@@ -1,16 +1,16 @@
 -- Lists whose entries have flags, as they grow and shrink at their end.
--- Lemmas: not_both, flag_within, one_fits, listed_by, not_listed_by, one_flagged_more, last_within,
--- one_flagged_less, flags_grown, flags_resized.
+-- Lemmas: not_both, flag_within, one_fits, listed_by, not_listed_by, test_tells, one_flagged_more,
+-- last_within, one_flagged_less, flags_grown, flags_resized.
 use Rattle.std.proofs.Common.{◌≡◌, ◌-◌, ◌*◌, ◌/◌, ◌<◌, ◌≤◌, Bool, true, false, List, [], ◌∷◌}
-use Rattle.std.proofs.Common.{◌++◌, ℕ, length, replicate, sym, ap, ◌∙◌, subst, take}
-use Rattle.std.proofs.Common.{eq-eqb, arith}
+use Rattle.std.proofs.Common.{◌++◌, ◌%◌, ◌^◌, ℕ, length, replicate, sym, ap, ◌∙◌, subst, take}
+use Rattle.std.proofs.Common.{get_or, eq-eqb, arith}
 use mathlib.Core.Logic.{inl, inr, ◌≢◌}
-use Rattle.std.specs.Prelude.{Contains, if◌then◌else◌, cond, nat_eq}
+use Rattle.std.specs.Prelude.{◌↔◌, Contains, IsTrue, bit_and, if◌then◌else◌, cond, nat_eq}
 use Rattle.std.proofs.lemmas.Bool.{cases_eq, ne_eqb}
 use Rattle.std.proofs.lemmas.List.{length-append, length-replicate, take_all}
 use Rattle.delaunay_legalization.specs.Bits.{has_bit}
 use Rattle.delaunay_legalization.specs.EdgeSet.{AreFlagged}
-use Rattle.delaunay_legalization.proofs.Bits.{bit_within, bits_grown}
+use Rattle.delaunay_legalization.proofs.Bits.{bit_told, bit_within, bits_grown}
 use Rattle.mesh_embedding.proofs.WorkLists.{once_after, once_before, last_not_before}
 use Rattle.mesh_embedding.proofs.WorkLists.{at_most_so_many, contains_last, contains_before}
 use Rattle.mesh_embedding.proofs.WorkLists.{last_or_before}
@@ -39,17 +39,23 @@ one_fits {items = items} {flags = flags} {k = k} p within not =
     let fits = p.fits in
     omega (arith, few, count, fits)
 
--- where a flag that was read is set, the edge is listed
-pub listed_by : {items flags : List ℕ} {capacity k i : ℕ} {b : Bool}
-    → AreFlagged items flags capacity → i ≡ k → b ≡ has_bit flags i → b ≡ true → Contains items k
-listed_by {flags = flags} {k = k} p at is on =
-    p.listed k (subst (λ (j : ℕ). has_bit flags j ≡ true) at (sym is ∙ on))
+-- the word of an edge, as it was read
+module _ {items flags : List ℕ} {capacity k i word : ℕ} (p : AreFlagged items flags capacity)
+    (at : i ≡ k) (within : k < 64 * length flags) (read : word ≡ get_or flags (i / 64) word) where
+  told : nat_eq (bit_and (word / 2 ^ (i % 64)) 1) 1 ≡ has_bit flags k
+  told = bit_told flags i (omega (arith, within, at)) read ∙ ap (has_bit flags) at
 
--- where it is not, the edge is not
-pub not_listed_by : {items flags : List ℕ} {capacity k i : ℕ} {b : Bool}
-    → AreFlagged items flags capacity → i ≡ k → b ≡ has_bit flags i → b ≡ false → ¬ Contains items k
-not_listed_by {flags = flags} {k = k} p at is off h =
-    not_both (p.flagged k h) (subst (λ (j : ℕ). has_bit flags j ≡ false) at (sym is ∙ off))
+  -- where it has the flag, the edge is listed
+  pub listed_by : bit_and (word / 2 ^ (i % 64)) 1 ≡ 1 → Contains items k
+  listed_by on = p.listed k (sym told ∙ eq-eqb _ 1 on)
+
+  -- where it has not, the edge is not
+  pub not_listed_by : ¬ (bit_and (word / 2 ^ (i % 64)) 1 ≡ 1) → ¬ Contains items k
+  not_listed_by off h = not_both (p.flagged k h) (sym told ∙ ne_eqb _ 1 off)
+
+  -- so the test tells whether it is
+  pub test_tells : IsTrue (nat_eq (bit_and (word / 2 ^ (i % 64)) 1) 1) ↔ Contains items k
+  test_tells = (λ t. p.listed k (sym told ∙ t), λ h. told ∙ p.flagged k h)
 
 -- ---- how they change
 -- flags of which one alone was written

@@ -1,8 +1,7 @@
 //! Lists of edges that are marked while they are listed, so that none is searched for.
-ghost use Rattle.std.specs.Prelude.{◌≡◌, ℕ, ◌/◌, ◌<◌, ◌≤◌, ◌++◌, ◌∷◌, [], false, true, cond};
-ghost use Rattle.std.specs.Prelude.{nat_eq, length, ◌↔◌, Contains, IfNone, IfSome, IsTrue, OnOk};
+ghost use Rattle.std.specs.Prelude.{◌≡◌, ℕ, ◌<◌, ◌≤◌, ◌++◌, ◌∷◌, []};
+ghost use Rattle.std.specs.Prelude.{◌↔◌, Contains, IfNone, IfSome, IsTrue, OnOk};
 ghost use Rattle.mesh_embedding.specs.Legal.{Gains};
-ghost use Rattle.delaunay_legalization.specs.Bits.{has_bit};
 
 use mesh_embedding::half_edge_mesh::FixedUndirectedEdgeHandle;
 use std::alloc::{AllocError, Global};
@@ -10,14 +9,6 @@ use std::marker::Model;
 
 // How many bits a word has.
 const BITS: usize = 64;
-
-// Whether the bit of an index is set.
-fn is_set(words: &Vec<u64>, index: usize) -> bool
-    requires { index / 64 < length words.now.items }
-    ensures { result ≡ has_bit words.now.items index }
-{
-    (words[index / BITS] >> (index % BITS)) & 1 == 1
-}
 
 /// Undirected edges, each once, in the order in which they were put there, and how many indexes of
 /// edges there is room for.
@@ -73,7 +64,7 @@ impl EdgeSet {
         ensures { IsTrue result ↔ Contains self.now.items edge }
     {
         let index = edge.index() as usize;
-        index / BITS < self.flags.len() && is_set(&self.flags, index)
+        index / BITS < self.flags.len() && (self.flags[index / BITS] >> (index % BITS)) & 1 == 1
     }
 
     /// Lists an edge as the last one, unless it is listed.
@@ -85,10 +76,10 @@ impl EdgeSet {
         ensures room { self.new.room ≡ self.old.room }
     {
         let index = edge.index() as usize;
-        if is_set(&self.flags, index) {
+        let word = self.flags[index / BITS];
+        if (word >> (index % BITS)) & 1 == 1 {
             return;
         }
-        let word = self.flags[index / BITS];
         self.flags[index / BITS] = word | 1 << (index % BITS);
         self.edges.push_reserved(edge);
     }
