@@ -43,11 +43,11 @@ both_inner {f = f} {g = g} asked off = (
 )
 
 -- where one beside an edge is, the edge does not fail
-pub outer_passes : {points : List Point} {m : Mesh} {e : ℕ} {b : Bool}
-    → (IsTrue b ↔ ((face m e ≡ 0) ⊎ (face m (rev e) ≡ 0))) → b ≡ true → ¬ IsFailing points m e
-outer_passes asked on x =
+pub outer_passes : {points : List Point} {m : Mesh} {e : ℕ}
+    → (face m e ≡ 0) ⊎ (face m (rev e) ≡ 0) → ¬ IsFailing points m e
+outer_passes outer x =
     let inner = x.inner in let twin_inner = x.twin_inner in
-    elim (asked.0 on) [
+    elim outer [
       | inl e ↦ absurd (omega (arith, inner, e))
       | inr e ↦ absurd (omega (arith, twin_inner, e))
     ]
@@ -115,7 +115,7 @@ module _ {S V D U F P : Type 0} {number : S → ℤ} {place : V → Point} {IsSi
 
   -- beside the outer face it does not fail
   pub read_outer_passes : it.is_outer ≡ true → ¬ IsFailing (map place c.vertices) c.mesh opposite
-  read_outer_passes on = outer_passes outer on
+  read_outer_passes on = outer_passes (outer.0 on)
 
   -- else what was read tells whether it fails, with the place of the vertex
   module _ {centre : Point}

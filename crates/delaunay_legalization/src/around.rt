@@ -10,7 +10,7 @@ ghost use Rattle.delaunay_legalization.specs.Legalized.{Legalizes};
 ghost use Rattle.delaunay_legalization.specs.Placed.{IsPlaced};
 
 use crate::constraint_marker::ConstraintMarker;
-use crate::legalization::{ccw_edge, flip, is_constraint_edge};
+use crate::legalization::{flip, is_constraint_edge, position_of};
 use crate::placed::Placed;
 use delaunay_core::math::PlaneTests;
 use delaunay_core::point::{HasPosition, Point2};
@@ -35,13 +35,14 @@ impl<'a, V: HasPosition, DE, UE, F, P: PlaneTests<V::Scalar>> Placed<'a, V, DE, 
         ensures { IsOpposite V.Scalar.whole (P.sites self.now.tests)
             (map V.place self.now.dcel.vertices) self.now.dcel.mesh spoke result }
     {
-        let edge = self.dcel.directed_edge(spoke).next().fix();
+        let spoke = self.dcel.directed_edge(spoke);
+        let edge = spoke.next();
         let twin = edge.rev();
         Opposite {
-            is_outer: self.is_outer_beside(spoke, edge),
-            from: self.start_of(edge),
-            to: self.end_of(edge),
-            beyond: self.start_before(twin),
+            is_outer: spoke.is_outer_edge() || twin.is_outer_edge(),
+            from: position_of(self.dcel, edge.from().fix()),
+            to: position_of(self.dcel, edge.next().from().fix()),
+            beyond: position_of(self.dcel, twin.prev_from().fix()),
         }
     }
 }
@@ -107,7 +108,7 @@ pub(crate) fn legalize_round<
     let mut spoke = first;
     let mut opposite = placed.opposite_of(spoke);
     loop {
-        let next = ccw_edge(dcel, spoke);
+        let next = dcel.directed_edge(spoke).ccw().fix();
         let placed = Placed { dcel, tests };
         let ahead = placed.opposite_of(next);
         if turn_opposite::<M, _, _, _, _, _>(dcel, spoke, opposite, centre, tests, flips) {

@@ -1,13 +1,13 @@
 //! A mesh with its points, for reads.
-ghost use Rattle.std.specs.Prelude.{◌≡◌, ◌↔◌, ◌⊎◌, ◌<◌, ◌≤◌, length, map, IsTrue};
-ghost use Rattle.mesh_embedding.specs.half_edge_mesh.Mesh.{origin, prev, face, face_edge, rev};
+ghost use Rattle.std.specs.Prelude.{◌≡◌, ◌↔◌, ◌<◌, ◌≤◌, length, map, IsTrue};
+ghost use Rattle.mesh_embedding.specs.half_edge_mesh.Mesh.{origin, prev, face_edge, rev};
 ghost use Rattle.mesh_embedding.specs.half_edge_mesh.Triangles.{triangle_at};
 ghost use Rattle.mesh_embedding.specs.Legal.{IsFailing};
 ghost use Rattle.delaunay_core.specs.Place.{place_of};
 ghost use Rattle.delaunay_legalization.specs.Known.{point_at};
 ghost use Rattle.delaunay_legalization.specs.Parts.{IsMeshFace};
 
-use crate::legalization::{is_outer, position_of};
+use crate::legalization::position_of;
 use delaunay_core::math::PlaneTests;
 use delaunay_core::point::{HasPosition, Point2};
 use mesh_embedding::half_edge_mesh::{Dcel, FixedDirectedEdgeHandle, FixedFaceHandle, MeshViews};
@@ -98,21 +98,6 @@ impl<'a, V: HasPosition, DE, UE, F, P: PlaneTests<V::Scalar>> Placed<'a, V, DE, 
         )
     }
 
-    // Whether the outer face is on the left of one edge, or on the right of another.
-    #[inline(always)]
-    pub(crate) fn is_outer_beside(
-        &self,
-        edge: FixedDirectedEdgeHandle,
-        other: FixedDirectedEdgeHandle,
-    ) -> bool
-        requires edge { edge < length self.now.dcel.directed }
-        requires other { other < length self.now.dcel.directed }
-        ensures { IsTrue result ↔
-            ((face self.now.dcel.mesh edge ≡ 0) ⊎ (face self.now.dcel.mesh (rev other) ≡ 0)) }
-    {
-        is_outer(self.dcel, edge) || is_outer(self.dcel, other.rev())
-    }
-
     // Whether an edge lies between two inner faces, of which one has its third corner inside the
     // circle of the other.
     #[inline(always)]
@@ -121,13 +106,18 @@ impl<'a, V: HasPosition, DE, UE, F, P: PlaneTests<V::Scalar>> Placed<'a, V, DE, 
         ensures { IsTrue result ↔
             IsFailing (map V.place self.now.dcel.vertices) self.now.dcel.mesh edge }
     {
-        let tests = self.tests;
-        if self.is_outer_beside(edge, edge) {
+        let edge = self.dcel.directed_edge(edge);
+        let twin = edge.rev();
+        if edge.is_outer_edge() {
             return false;
         }
-        let twin = edge.rev();
-        let (from, to) = (self.start_of(edge), self.start_of(twin));
-        let (left, right) = (self.start_before(edge), self.start_before(twin));
-        tests.is_in_circle(from, to, left, right)
+        if twin.is_outer_edge() {
+            return false;
+        }
+        let from = position_of(self.dcel, edge.from().fix());
+        let to = position_of(self.dcel, twin.from().fix());
+        let left = position_of(self.dcel, edge.prev_from().fix());
+        let right = position_of(self.dcel, twin.prev_from().fix());
+        self.tests.is_in_circle(from, to, left, right)
     }
 }

@@ -1,4 +1,5 @@
-use Rattle.std.proofs.Common.{sym, ◌∙◌}
+use Rattle.std.proofs.Common.{◌≡◌, sym, ◌∙◌, rules}
+use Rattle.mesh_embedding.specs.half_edge_mesh.Peel.{turn}
 use Rattle.delaunay_legalization.proofs.RoundSteps.{turning_begins, turn_fits, centre_is}
 use Rattle.delaunay_legalization.proofs.RoundSteps.{h_in, fewer_turned, turning_goes_on}
 use Rattle.delaunay_legalization.proofs.RoundSteps.{turning_goes_next, fewer_next, turning_ends}
@@ -11,8 +12,8 @@ loop-next-init g c = record {
   placed = c.requires.placed;
 }
 
-pub ccw_edge-next-requires : goal.ccw_edge-next-requires
-ccw_edge-next-requires g c =
+pub directed_edge-requires : goal.directed_edge-requires
+directed_edge-requires g c =
     let i = c.loop-next.invariant in
     rw i.placed.kept.fits.directed_fit (h_in i.placed.kept i.turning)
 
@@ -57,18 +58,20 @@ loop-next-preserved-then-turn_opposite g c =
 
 pub loop-next-smaller : goal.loop-next-smaller
 loop-next-smaller g c =
+    let next : c.fix-next.result ≡ turn c.loop-next.dcel.mesh c.loop-next.spoke = search rules in
     let i = c.loop-next.invariant in let did = c.turn_opposite.ensures in
     fewer_next i.placed.kept i.turning did.contents (did.stays c.if-turn_opposite.false)
-    c.ccw_edge-next.ensures.value
+    next
     (λ e. c.if-index.false (c.index.ensures ∙ e ∙ sym c.index-in-loop-next.ensures))
 
 pub loop-next-preserved : goal.loop-next-preserved
 loop-next-preserved g c =
+    let next : c.fix-next.result ≡ turn c.loop-next.dcel.mesh c.loop-next.spoke = search rules in
     let i = c.loop-next.invariant in let did = c.turn_opposite.ensures in
     let stays = did.stays c.if-turn_opposite.false in
     record {
       turning = turning_goes_next i.placed.kept i.turning did.contents stays
-          c.ccw_edge-next.ensures.value
+          next
           (λ e. c.if-index.false (c.index.ensures ∙ e ∙ sym c.index-in-loop-next.ensures));
       opposite = rw (did.contents, stays.same) c.opposite_of-ahead.ensures;
       placed = did.placed;
@@ -76,9 +79,10 @@ loop-next-preserved g c =
 
 pub returns : goal.returns
 returns g c =
+    let next : c.fix-next.result ≡ turn c.loop-next.dcel.mesh c.loop-next.spoke = search rules in
     let i = c.loop-next.invariant in let did = c.turn_opposite.ensures in
     record {
       legalizes = turning_ends i.placed.kept i.turning did.contents
-          (did.stays c.if-turn_opposite.false) c.ccw_edge-next.ensures.value
+          (did.stays c.if-turn_opposite.false) next
           (sym c.index.ensures ∙ c.if-index.true ∙ c.index-in-loop-next.ensures);
     }

@@ -1,40 +1,59 @@
-use Rattle.std.proofs.Common.{refl}
-use Rattle.delaunay_legalization.proofs.CircleQuestions.{both_inner, circle_tells, left_turn}
-use Rattle.delaunay_legalization.proofs.CircleQuestions.{outer_passes}
-use Rattle.delaunay_legalization.proofs.Placing.{kept_by_value, twin_within}
+use Rattle.std.proofs.Common.{refl, inl, inr, rules}
+use Rattle.delaunay_core.specs.Place.{place_of}
+use Rattle.delaunay_legalization.proofs.CircleQuestions.{circle_tells, left_turn, outer_passes}
+use Rattle.delaunay_legalization.proofs.Legalizing.{positive}
 use Rattle.delaunay_legalization.proofs.Questions.{both_ways}
 use Rattle.delaunay_legalization.proofs.placed.Placed.is_failing.Goals as goal
 
-pub start_of-to-requires : goal.start_of-to-requires
-start_of-to-requires g c =
-    twin_within (kept_by_value c.self.view_is c.self.invariant) c.requires c.rev-twin.ensures
-
-pub start_before-right-requires : goal.start_before-right-requires
-start_before-right-requires g c =
-    twin_within (kept_by_value c.self.view_is c.self.invariant) c.requires c.rev-twin.ensures
-
 pub is_in_circle-requires-clause-left_turn : goal.is_in_circle-requires-clause-left_turn
 is_in_circle-requires-clause-left_turn g c =
-    let kept = kept_by_value c.self.view_is c.self.invariant in
-    left_turn kept (rw (← kept.fits.directed_fit) c.requires) (record {
-      from_is = c.start_of-from.ensures.place;
-      to_is = rw c.rev-twin.ensures at c.start_of-to.ensures.place;
-      left_is = c.start_before-left.ensures.place;
-      right_is = rw c.rev-twin.ensures at c.start_before-right.ensures.place;
-    }) (both_inner c.is_outer_beside.ensures c.if-is_outer_beside.false)
+    let kept = c.self.invariant.kept in
+    left_turn kept {e = c.args.edge}
+    (rw (← kept.fits.directed_fit) (rw (← c.self.view_is) at c.requires))
+    {right = place_of g.V.Scalar.SpadeNum.whole c.position_of-right.result} (record {
+      from_is = search rules;
+      to_is = search rules;
+      left_is = search rules;
+      right_is = search rules;
+    }) (
+      positive _ (λ z. both_ways _ (c.is_outer_edge.ensures.1 (search (rules, z)))
+          c.if-is_outer_edge.false),
+      positive _ (λ z. both_ways _ (c.is_outer_edge-2.ensures.1 (search (rules, z)))
+          c.if-is_outer_edge-2.false),
+    )
 
-pub returns-then-is_outer_beside : goal.returns-then-is_outer_beside
-returns-then-is_outer_beside g c = (
+pub returns-then-is_outer_edge : goal.returns-then-is_outer_edge
+returns-then-is_outer_edge g c = rw (← c.self.view_is) (
   (λ t. absurd (both_ways _ t refl)),
-  (λ x. absurd (outer_passes c.is_outer_beside.ensures c.if-is_outer_beside.true x)),
+  (λ x. absurd (outer_passes (inl (rw (
+    c.directed_edge-edge.ensures.index,
+    c.directed_edge-edge.ensures.dcel,
+  ) at (c.is_outer_edge.ensures.0 c.if-is_outer_edge.true))) x)),
+)
+
+pub returns-then-is_outer_edge-2 : goal.returns-then-is_outer_edge-2
+returns-then-is_outer_edge-2 g c = rw (← c.self.view_is) (
+  (λ t. absurd (both_ways _ t refl)),
+  (λ x. absurd (outer_passes (inr (rw (
+    c.rev-twin.ensures.index,
+    c.rev-twin.ensures.dcel,
+    c.directed_edge-edge.ensures.index,
+    c.directed_edge-edge.ensures.dcel,
+  ) at (c.is_outer_edge-2.ensures.0 c.if-is_outer_edge-2.true))) x)),
 )
 
 pub returns : goal.returns
 returns g c =
-    let kept = kept_by_value c.self.view_is c.self.invariant in
-    circle_tells kept (rw (← kept.fits.directed_fit) c.requires) (record {
-      from_is = c.start_of-from.ensures.place;
-      to_is = rw c.rev-twin.ensures at c.start_of-to.ensures.place;
-      left_is = c.start_before-left.ensures.place;
-      right_is = rw c.rev-twin.ensures at c.start_before-right.ensures.place;
-    }) (both_inner c.is_outer_beside.ensures c.if-is_outer_beside.false) c.is_in_circle.ensures
+    let kept = c.self.invariant.kept in
+    rw (← c.self.view_is) (circle_tells kept {e = c.args.edge}
+    (rw (← kept.fits.directed_fit) (rw (← c.self.view_is) at c.requires)) (record {
+      from_is = search rules;
+      to_is = search rules;
+      left_is = search rules;
+      right_is = search rules;
+    }) (
+      positive _ (λ z. both_ways _ (c.is_outer_edge.ensures.1 (search (rules, z)))
+          c.if-is_outer_edge.false),
+      positive _ (λ z. both_ways _ (c.is_outer_edge-2.ensures.1 (search (rules, z)))
+          c.if-is_outer_edge-2.false),
+    ) c.is_in_circle.ensures)

@@ -1,29 +1,52 @@
-use Rattle.std.proofs.Common.{◌≡◌, ◌∙◌}
-use Rattle.mesh_embedding.specs.half_edge_mesh.Mesh.{next}
-use Rattle.delaunay_legalization.proofs.Placing.{twin_within}
+use Rattle.std.proofs.Common.{◌∙◌, sym, inl, inr, rules}
+use Rattle.delaunay_legalization.proofs.Questions.{both_ways, covered_in}
+use Rattle.delaunay_legalization.proofs.placed.Placed.opposite_of.Goals.{then-is_outer_edge}
+use Rattle.delaunay_legalization.proofs.placed.Placed.opposite_of.Goals.{else-is_outer_edge}
 use Rattle.delaunay_legalization.proofs.placed.Placed.opposite_of.Goals as goal
-
-pub start_before-requires : goal.start_before-requires
-start_before-requires g c =
-    rw (← c.self.view_is)
-    (twin_within c.self.invariant.kept (rw (c.next.ensures.dcel, c.directed_edge.ensures.dcel) at
-    c.fix-edge.ensures.in_range) c.rev-twin.ensures)
 
 pub returns : goal.returns
 returns g c =
-    let edge : c.fix-edge.result ≡ next c.args.self.now.dcel.mesh c.args.spoke =
-    rw (← c.self.view_is, ← c.directed_edge.ensures.index, ← c.directed_edge.ensures.dcel)
-    (c.fix-edge.ensures.value ∙ c.next.ensures.index) in
-    let twin = rw edge at c.rev-twin.ensures in
-    record {
-      outer = rw edge at c.is_outer_beside.ensures;
+    let kept = c.self.invariant.kept in
+    let ends = (kept.valid.sound.edges _ (kept.valid.sound.edges c.args.spoke
+    (rw (← kept.fits.directed_fit) (rw (← c.self.view_is) at c.requires))).next_in).starts in
+    let sites = g.P.PlaneTests.sites c.self.inside.tests.now in
+    let outer = rw (c.directed_edge-spoke.ensures.index, c.directed_edge-spoke.ensures.dcel) at
+    c.is_outer_edge.ensures in
+    rw (← c.self.view_is) (record {
+      outer = elim c.if-is_outer_edge.branch [
+        | then-is_outer_edge w ↦ (
+          (λ t. inl (outer.0 w.if-is_outer_edge.true)),
+          (λ s. w.result-is ∙ w.if-is_outer_edge.true),
+        )
+        | else-is_outer_edge w ↦
+            let twin = rw (
+              c.rev-twin.ensures.index,
+              c.rev-twin.ensures.dcel,
+              c.next-edge.ensures.index,
+              c.next-edge.ensures.dcel,
+              c.directed_edge-spoke.ensures.index,
+              c.directed_edge-spoke.ensures.dcel,
+            ) at w.is_outer_edge-else-is_outer_edge.ensures in (
+              (λ t. inr (twin.0 (sym w.result-is ∙ t))),
+              (λ s. elim s [
+                | inl z ↦ absurd (both_ways _ (outer.1 z) w.if-is_outer_edge.false)
+                | inr z ↦ w.result-is ∙ twin.1 z
+              ]),
+            )
+      ];
       from = record {
-        place = rw edge at c.start_of.ensures.place;
-        site = c.start_of.ensures.site;
+        place = search rules;
+        site = covered_in sites sites (λ _ s. s) _ _ c.self.invariant.sites
+            c.position_of.ensures.listed;
       };
-      to = record { place = rw edge at c.end_of.ensures.place; site = c.end_of.ensures.site };
+      to = record {
+        place = search (rules, ends);
+        site = covered_in sites sites (λ _ s. s) _ _ c.self.invariant.sites
+            c.position_of-2.ensures.listed;
+      };
       beyond = record {
-        place = rw twin at c.start_before.ensures.place;
-        site = c.start_before.ensures.site;
+        place = search rules;
+        site = covered_in sites sites (λ _ s. s) _ _ c.self.invariant.sites
+            c.position_of-3.ensures.listed;
       };
-    }
+    })
