@@ -1,9 +1,10 @@
 -- A legalization from its first work list to its end, by the sides of a turned edge that it leaves
 -- to test.
--- Notions: IsUnderwayBy; last_edge_within, last_within, edges_before, step_drops, step_turns,
--- steps_begin, can_step, steps_go_on, steps_end.
+-- Notions: IsUnderwayBy; steps_begin, last_edge_within, last_within, edges_before, flip_fits,
+-- steps_drop, drop_falls, steps_turn, turn_falls, steps_end.
 use Rattle.std.proofs.Common.{◌≡◌, ℕ, ◌+◌, ◌*◌, ◌<◌, ◌≤◌, List, [], ◌∷◌, ◌++◌}
 use Rattle.std.proofs.Common.{length, map, refl, sym, ap, subst, arith}
+use Rattle.std.specs.Prelude.{◌^◌, Contains}
 use Rattle.std.proofs.lemmas.List.{length-append}
 use Rattle.mesh_embedding.specs.half_edge_mesh.Contents.{Contents}
 use Rattle.mesh_embedding.specs.half_edge_mesh.Flip.{flipped}
@@ -13,7 +14,7 @@ use Rattle.mesh_embedding.specs.plane.Fraction.{Point}
 use Rattle.mesh_embedding.specs.plane.Pairs.{Joins}
 use Rattle.mesh_embedding.specs.plane_tiling.Local.{IsMesh}
 use Rattle.mesh_embedding.specs.Drawn.{drawn, faces_of, outer_of}
-use Rattle.mesh_embedding.specs.Legal.{AreEdges, GainsRound, IsFailing, IsPartlyLegal}
+use Rattle.mesh_embedding.specs.Legal.{AreEdges, GainsRound, IsFailing, IsPartlyLegal, steps_left}
 use Rattle.mesh_embedding.proofs.half_edge_links.Sound.Valid.{valid_flipped}
 use Rattle.mesh_embedding.proofs.MeshLegal.{dropped}
 use Rattle.mesh_embedding.proofs.WorkLists.{contains_last, contains_before, once_before}
@@ -23,14 +24,13 @@ use Rattle.delaunay_legalization.specs.Constraints.{constraint_pairs}
 use Rattle.delaunay_legalization.specs.Flips.{FlipsFit}
 use Rattle.delaunay_legalization.specs.Legalized.{Legalizes}
 use Rattle.delaunay_legalization.specs.Shape.{IsTriangulated}
-use Rattle.delaunay_legalization.specs.Sides.{AreLeftToTest, CanStep, GainsSides, HasStepped}
-use Rattle.delaunay_legalization.specs.Sides.{Suffice}
-use Rattle.delaunay_legalization.specs.State.{State, state_of}
+use Rattle.delaunay_legalization.specs.Sides.{AreLeftToTest, GainsSides, Suffice}
+use Rattle.delaunay_legalization.specs.State.{state_of}
 use Rattle.delaunay_legalization.proofs.AmongSteps.{six, moves, only_stay, legal_among}
 use Rattle.delaunay_legalization.proofs.Legalizing.{IsUnderway, underway_begins, step_fits}
 use Rattle.delaunay_legalization.proofs.Legalizing.{step_kept}
 use Rattle.delaunay_legalization.proofs.Legalizing.{underway_ends, underway_counts, underway_keeps}
-use Rattle.delaunay_legalization.proofs.Legalizing.{turned_by, fewer_by}
+use Rattle.delaunay_legalization.proofs.Legalizing.{turned_by, fewer_by, fixed_stay}
 use Rattle.delaunay_legalization.proofs.Legalizing.{failing_apart, failing_flippable}
 
 -- ---- one step
@@ -53,64 +53,6 @@ module _ (points : List Point) (m : Mesh) (s : IsValidMesh m) (shape : IsMesh po
       (six points m s shape e within x) (moves points m s shape e within x).edge_count
       (only_stay points m s shape e within x es.now.items enough) g own legal
 
-module _ {V D U F : Type 0} {place : V → Point} {s : State V D U F}
-    (kept : IsTriangulated place s) {sides : Sides} {ks : List ℕ} {k before : ℕ}
-    (can : CanStep sides (map place s.vertices) s.mesh ks k before) where
-  abbrev points : List Point
-  points = map place s.vertices
-
-  in_mesh : (2 * k) < length s.mesh.half_edges
-  in_mesh = can.edges.within k (contains_last ks k)
-
-  -- the edge is one of the mesh, and so is its first direction
-  pub last_edge_within : k < length s.undirected
-  last_edge_within =
-      let fit = kept.fits.undirected_fit in let within = in_mesh in omega (arith, within, fit)
-
-  pub last_within : (2 * k) < length s.directed
-  last_within = rw kept.fits.directed_fit in_mesh
-
-  -- without it the work list is one still
-  pub edges_before : AreEdges s.mesh ks
-  edges_before = record {
-    within = λ j l. can.edges.within j (contains_before ks k j l);
-    once = once_before ks k can.edges.once;
-  }
-
-  -- an edge that is a constraint or does not fail leaves the work list
-  pub step_drops : {constraints : List (ℕ × ℕ)}
-      → (¬ Joins constraints (origin s.mesh (2 * k)) (origin s.mesh (rev (2 * k)))
-      → ¬ IsFailing points s.mesh (2 * k))
-      → HasStepped sides points constraints s.mesh s.mesh (ks ++ k ∷ []) ks before before
-  step_drops {constraints = constraints} passes = record {
-    legal = λ was start p. dropped points constraints was s.mesh ks k start before kept.valid p
-        passes;
-    suffice = can.suffice;
-    fewer = less _ (length ks) (length (ks ++ k ∷ [])) (length-append ks (k ∷ []));
-  }
-    where
-      less : (q a b : ℕ) → b ≡ a + 1 → q + a < q + b
-      less q a b e = omega (arith, e)
-
-  -- one that fails is turned and counted, and the sides that it leaves are in the work list
-  pub step_turns : {constraints : List (ℕ × ℕ)} {more : List ℕ} → IsFailing points s.mesh (2 * k)
-      → GainsSides sides s.mesh (2 * k) ks more → AreEdges s.mesh more
-      → HasStepped sides points constraints s.mesh (flipped s.mesh (2 * k)) (ks ++ k ∷ []) more
-      before (before + 1)
-  step_turns {constraints = constraints} {more = more} x g own = record {
-    legal = λ was start p. left_by points s.mesh kept.valid kept.shape (2 * k) in_mesh x constraints
-        was (valid_flipped s.mesh (2 * k) kept.valid
-        (failing_flippable kept.valid kept.shape in_mesh x)
-        (failing_apart kept.valid kept.shape in_mesh x))
-        start (before + 1) ks more sides can.suffice g own
-        (λ all round edges. turned_by points constraints was s.mesh
-        (flipped s.mesh (2 * k)) ks all k start before (before + 1) kept.valid refl refl x round
-        edges p);
-    suffice = suffice_still points s.mesh kept.valid kept.shape (2 * k) in_mesh x sides can.suffice;
-    fewer = fewer_by points s.mesh (flipped s.mesh (2 * k)) ks more k kept.valid kept.shape refl x
-        can.edges own;
-  }
-
 -- ---- all steps
 -- what holds from one edge to the next
 pub record IsUnderwayBy {V D U F : Type 0} (sides : Sides) (at : V → Point) (fix : List U → List ℕ)
@@ -132,39 +74,102 @@ module _ {V D U F : Type 0} {sides : Sides} {at : V → Point} {fix : List U →
   }
 
   module _ {now : Contents V D U F} {all : List ℕ} {room flips : ℕ}
-      (u : IsUnderwayBy sides at fix was now all room_was room start flips) where
-    same_points : map at now.vertices ≡ map at was.vertices
+      (u : IsUnderwayBy sides at fix was now all room_was room start flips)
+      (kept : IsTriangulated at (state_of now)) where
+    abbrev points : List Point
+    points = map at now.vertices
+
+    abbrev constraints : List (ℕ × ℕ)
+    constraints = constraint_pairs fix now.mesh now.undirected
+
+    same_points : points ≡ map at was.vertices
     same_points = ap (λ (c : Contents V D U F). map at c.vertices) u.underway.contents
 
+    suffice : Suffice sides points now.mesh
+    suffice = subst (λ ps. Suffice sides ps now.mesh) (sym same_points) u.suffice
+
     module _ (ks : List ℕ) (k : ℕ) (popped : all ≡ ks ++ k ∷ []) where
-      -- the last edge of the list may be tested and turned
-      pub can_step : IsValidMesh now.mesh → FlipsFit (length was.vertices) start
-          → CanStep sides (map at now.vertices) now.mesh ks k flips
-      can_step s fit = record {
-        suffice = subst (λ ps. Suffice sides ps now.mesh) (sym same_points) u.suffice;
-        edges = subst (AreEdges now.mesh) popped u.underway.legal.edges;
-        fits = step_fits at fix was now all room_was room start flips u.underway ks k popped s fit;
+      edges : AreEdges now.mesh (ks ++ k ∷ [])
+      edges = subst (AreEdges now.mesh) popped u.underway.legal.edges
+
+      in_mesh : (2 * k) < length now.mesh.half_edges
+      in_mesh = edges.within k (contains_last ks k)
+
+      -- the edge is one of the mesh, and so is its first direction
+      pub last_edge_within : k < length now.undirected
+      last_edge_within =
+          let fit = kept.fits.undirected_fit in let within = in_mesh in omega (arith, within, fit)
+
+      pub last_within : (2 * k) < length now.directed
+      last_within = rw kept.fits.directed_fit in_mesh
+
+      -- without it the work list is one still
+      pub edges_before : AreEdges now.mesh ks
+      edges_before = record {
+        within = λ j l. edges.within j (contains_before ks k j l);
+        once = once_before ks k edges.once;
       }
 
-      -- after it the rest is under way
-      pub steps_go_on : {after : Contents V D U F} {more : List ℕ} {room_after flips_after : ℕ}
-          → after ≡ record now { mesh = after.mesh } → constraint_pairs fix after.mesh
-          after.undirected ≡ constraint_pairs fix now.mesh now.undirected
-          → HasStepped sides (map at now.vertices) (constraint_pairs fix now.mesh now.undirected)
-          now.mesh after.mesh (ks ++ k ∷ []) more flips flips_after → room_after ≡ room
-          → IsUnderwayBy sides at fix was after more room_was room_after start flips_after
-      steps_go_on {after = after} {more = more} {room_after = room_after}
-          {flips_after = flips_after} contents constraints step stays = record {
-            underway =
-                step_kept at fix was now all room_was room start flips u.underway ks k popped after
-                more room_after flips_after contents constraints step.legal stays;
-            suffice = subst (λ ps. Suffice sides ps after.mesh) same_points step.suffice;
-          }
+      -- where it fails, the count has room for one more flip
+      pub flip_fits : FlipsFit (length was.vertices) start → IsFailing points now.mesh (2 * k)
+          → flips + 1 < 2 ^ 64
+      flip_fits fit = step_fits at fix was now all room_was room start flips u.underway ks k popped
+          kept.valid fit
+
+      -- one that is a constraint or does not fail leaves the work list
+      pub steps_drop : {room_now : ℕ} → (¬ Joins constraints (origin now.mesh (2 * k))
+          (origin now.mesh (rev (2 * k))) → ¬ IsFailing points now.mesh (2 * k))
+          → room_now ≡ room → IsUnderwayBy sides at fix was now ks room_was room_now start flips
+      steps_drop {room_now = room_now} passes stays = record {
+        underway = step_kept at fix was now all room_was room start flips u.underway ks k popped now
+            ks room_now flips refl refl (λ first begun p. dropped points constraints first now.mesh
+            ks k begun flips kept.valid p passes) stays;
+        suffice = u.suffice;
+      }
+
+      pub drop_falls : steps_left points now.mesh ks < steps_left points now.mesh all
+      drop_falls =
+          subst (λ zs. steps_left points now.mesh ks < steps_left points now.mesh zs) (sym popped)
+          (less _ (length ks) (length (ks ++ k ∷ [])) (length-append ks (k ∷ [])))
+        where
+          less : (q a b : ℕ) → b ≡ a + 1 → q + a < q + b
+          less q a b e = omega (arith, e)
+
+      -- one that fails and is none is turned and counted, and leaves the sides that are put there
+      module _ {new : Contents V D U F} {more : List ℕ} (x : IsFailing points now.mesh (2 * k))
+          (own : AreEdges now.mesh more)
+          (contents : new ≡ record now { mesh = flipped now.mesh (2 * k) }) where
+        pub steps_turn : {room_now flips_now : ℕ} → ¬ Contains (fix now.undirected) k
+            → GainsSides sides now.mesh (2 * k) ks more → flips_now ≡ flips + 1 → room_now ≡ room
+            → IsUnderwayBy sides at fix was new more room_was room_now start flips_now
+        steps_turn {room_now = room_now} free gained counted stays =
+            subst (λ (y : Contents V D U F × ℕ). IsUnderwayBy sides at fix was y.0 more room_was
+            room_now start y.1) (λ i. (sym contents i, sym counted i)) (record {
+              underway = step_kept at fix was now all room_was room start flips u.underway ks k
+                  popped (record now { mesh = flipped now.mesh (2 * k) }) more room_now (flips + 1)
+                  refl (fixed_stay fix kept last_within x free) (λ first begun p. left_by points
+                  now.mesh kept.valid kept.shape (2 * k) in_mesh x constraints first
+                  (valid_flipped now.mesh (2 * k) kept.valid
+                  (failing_flippable kept.valid kept.shape in_mesh x)
+                  (failing_apart kept.valid kept.shape in_mesh x)) begun (flips + 1) ks more sides
+                  suffice gained own (λ every round edges. turned_by points constraints first
+                  now.mesh (flipped now.mesh (2 * k)) ks every k begun flips (flips + 1) kept.valid
+                  refl refl x round edges p)) stays;
+              suffice = subst (λ ps. Suffice sides ps (flipped now.mesh (2 * k))) same_points
+                  (suffice_still points now.mesh kept.valid kept.shape (2 * k) in_mesh x sides
+                  suffice);
+            })
+
+        pub turn_falls : steps_left (map at new.vertices) new.mesh more
+            < steps_left points now.mesh all
+        turn_falls = subst (λ (y : Contents V D U F × List ℕ).
+            steps_left (map at y.0.vertices) y.0.mesh more < steps_left points now.mesh y.1)
+            (λ i. (sym contents i, sym popped i)) (fewer_by points now.mesh
+            (flipped now.mesh (2 * k)) ks more k kept.valid kept.shape refl x edges own)
 
     -- when no edge is left, the triangulation is legalized
-    pub steps_end : IsTriangulated at (state_of now) → all ≡ []
-        → Legalizes at fix was now start flips
-    steps_end kept none = record {
+    pub steps_end : all ≡ [] → Legalizes at fix was now start flips
+    steps_end none = record {
       contents = u.underway.contents;
       legal = record {
         kept = kept;

@@ -1,12 +1,11 @@
 -- The flips of a legalization, by the sides of a turned edge that it leaves to test.
-use Rattle.std.specs.Prelude.{ℕ, ◌+◌, ◌*◌, ◌<◌, ◌^◌, List, [], ◌∷◌, ◌++◌, map, ⊤}
+use Rattle.std.specs.Prelude.{ℕ, List, map, ⊤}
 use Rattle.mesh_embedding.specs.half_edge_mesh.Contents.{Contents}
 use Rattle.mesh_embedding.specs.half_edge_mesh.Mesh.{Mesh}
 use Rattle.mesh_embedding.specs.plane.Fraction.{Point}
 use Rattle.mesh_embedding.specs.plane_edits.Legal.{AllPassBut}
 use Rattle.mesh_embedding.specs.Drawn.{faces_of}
-use Rattle.mesh_embedding.specs.Legal.{AreEdges, GainsRound, IsFailing, IsPartlyLegal, pairs_at}
-use Rattle.mesh_embedding.specs.Legal.{steps_left}
+use Rattle.mesh_embedding.specs.Legal.{AreEdges, GainsRound, pairs_at}
 use Rattle.delaunay_legalization.specs.declared.sides.Sides.{Sides}
 use Rattle.delaunay_legalization.specs.declared.sides.Sides.TheVariants.{Round, Among}
 use Rattle.delaunay_legalization.specs.Among.{FailOnlyOf}
@@ -22,22 +21,6 @@ Suffice (Among es) points m = FailOnlyOf points m es.now.items
 abbrev pub GainsSides : Sides → Mesh → ℕ → List ℕ → List ℕ → Type 0
 GainsSides Round m e old new = GainsRound m e old new
 GainsSides (Among es) m e old new = GainsRoundAmong m es.now.items e old new
-
--- undirected edge k, the last of the work list, may be tested and turned
-pub record CanStep (sides : Sides) (points : List Point) (m : Mesh) (ks : List ℕ)
-    (k flips : ℕ) : Type 0 where
-  pub suffice : Suffice sides points m
-  pub edges : AreEdges m (ks ++ k ∷ [])
-  pub fits : IsFailing points m (2 * k) → flips + 1 < 2 ^ 64
-
--- so it was: a mesh that was partly legal still is, with fewer steps left
-pub record HasStepped (sides : Sides) (points : List Point) (constraints : List (ℕ × ℕ))
-    (old new : Mesh) (before after : List ℕ) (flips_before flips_after : ℕ) : Type 0 where
-  pub legal : (was : Mesh) (start : ℕ)
-      → IsPartlyLegal points constraints was old before start flips_before
-      → IsPartlyLegal points constraints was new after start flips_after
-  pub suffice : Suffice sides points new
-  pub fewer : steps_left points new after < steps_left points old before
 
 -- these are edges, and each other one passes, but for the outer ones and the constraints
 pub record AreLeftToTest {V D U F : Type 0} (place : V → Point) (constraints_of : List U → List ℕ)

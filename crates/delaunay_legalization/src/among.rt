@@ -1,6 +1,6 @@
 //! A legalization where at most some edges fail: each other one has an empty circle on one of its
 //! sides.
-ghost use Rattle.std.specs.Prelude.{◌≡◌, ◌*◌, ◌≤◌, length, map, All, IsTrue};
+ghost use Rattle.std.specs.Prelude.{◌*◌, ◌≤◌, length, map, All, IsTrue};
 ghost use Rattle.delaunay_legalization.specs.Among.{FailOnlyOf};
 ghost use Rattle.delaunay_legalization.specs.Flips.{FlipsFit};
 ghost use Rattle.delaunay_legalization.specs.Legalized.{Legalizes};

@@ -1,18 +1,16 @@
 //! Flips of edges that fail the circle test, until each edge passes but the constraints.
-ghost use Rattle.std.specs.Prelude.{◌≡◌, ◌↔◌, ◌+◌, ◌-◌, ◌*◌, ◌/◌, ◌<◌, ◌≤◌, ◌^◌, ◌++◌, ◌∷◌, []};
+ghost use Rattle.std.specs.Prelude.{◌≡◌, ◌↔◌, ◌+◌, ◌*◌, ◌/◌, ◌<◌, ◌≤◌, ◌^◌, []};
 ghost use Rattle.std.specs.Prelude.{length, map, All, Contains, IsTrue};
 ghost use Rattle.mesh_embedding.specs.half_edge_mesh.Mesh.{origin, prev, face};
 ghost use Rattle.mesh_embedding.specs.half_edge_mesh.Flip.{flipped};
 ghost use Rattle.mesh_embedding.specs.half_edge_mesh.Peel.{turn};
 ghost use Rattle.mesh_embedding.specs.Legal.{AreEdges, Gains, IsFailing};
 ghost use Rattle.delaunay_core.specs.Place.{place_of};
-ghost use Rattle.delaunay_legalization.specs.Constraints.{constraint_pairs, KeepsConstraints};
 ghost use Rattle.delaunay_legalization.specs.Flips.{FlipsFit};
 ghost use Rattle.delaunay_legalization.specs.Known.{point_at};
 ghost use Rattle.delaunay_legalization.specs.Legalized.{Legalizes};
-ghost use Rattle.delaunay_legalization.specs.Placed.{IsPlaced};
 ghost use Rattle.delaunay_legalization.specs.Shape.{IsTriangulated};
-ghost use Rattle.delaunay_legalization.specs.Sides.{AreLeftToTest, CanStep, HasStepped, Suffice};
+ghost use Rattle.delaunay_legalization.specs.Sides.{AreLeftToTest, Suffice};
 ghost use Rattle.delaunay_legalization.specs.State.{state_of};
 
 use crate::constraint_marker::ConstraintMarker;
@@ -133,39 +131,6 @@ pub fn push_side<V, DE, UE, F>(
     work.put(edge.as_undirected());
 }
 
-// Tests an edge that was taken from the work list. One that is no constraint and fails is turned,
-// and leaves these of the edges round it to test.
-fn legalize_edge<M: ConstraintMarker<UE>, V: HasPosition, DE, UE, F, P: PlaneTests<V::Scalar>>(
-    dcel: &mut Dcel<V, DE, UE, F>,
-    edge: FixedUndirectedEdgeHandle,
-    sides: &Sides,
-    tests: &P,
-    work: &mut EdgeSet,
-    flips: &mut u64,
-)
-    requires placed { IsPlaced V.place P.sites dcel.old tests.now }
-    requires step { CanStep sides.now (map V.place dcel.old.vertices) dcel.old.mesh work.old.items
-        edge flips.old }
-    requires room { length dcel.old.undirected ≤ work.old.room }
-    ensures placed { IsPlaced V.place P.sites dcel.new tests.now }
-    ensures contents { dcel.new ≡ record dcel.old { mesh = dcel.new.mesh } }
-    ensures constraints { KeepsConstraints M.constraints dcel.old dcel.new }
-    ensures step { HasStepped sides.now (map V.place dcel.old.vertices)
-        (constraint_pairs M.constraints dcel.old.mesh dcel.old.undirected) dcel.old.mesh
-        dcel.new.mesh (work.old.items ++ edge ∷ []) work.new.items flips.old flips.new }
-    ensures capacity { work.new.room ≡ work.old.room }
-{
-    if is_constraint_edge::<M, _, _, _, _>(dcel, edge) {
-        return;
-    }
-    let placed = Placed { dcel, tests };
-    let directed = edge.as_directed();
-    if placed.is_failing(directed) {
-        push_sides(dcel, directed, sides, work);
-        flip(dcel, edge, flips);
-    }
-}
-
 /// Flips edges until each passes the circle test, but for the outer ones and the constraints, where
 /// before perhaps only those of the work list fail; each flip adds 1 to `flips`. Each turned edge
 /// leaves these of the edges round it to test. The work list has room for each edge of the mesh. A
@@ -187,6 +152,14 @@ pub fn legalize<M: ConstraintMarker<UE>, V: HasPosition, DE, UE, F, P: PlaneTest
     ensures work { work.new ≡ record work.old { items = [] } }
 {
     while let Some(edge) = work.pop() {
-        legalize_edge::<M, _, _, _, _, _>(dcel, edge, sides, tests, work, flips);
+        if is_constraint_edge::<M, _, _, _, _>(dcel, edge) {
+            continue;
+        }
+        let placed = Placed { dcel, tests };
+        let directed = edge.as_directed();
+        if placed.is_failing(directed) {
+            push_sides(dcel, directed, sides, work);
+            flip(dcel, edge, flips);
+        }
     }
 }
