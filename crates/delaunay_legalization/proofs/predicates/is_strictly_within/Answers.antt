@@ -13,7 +13,10 @@ pub returns-then-is_from : goal.returns-then-is_from
 returns-then-is_from g c = (
   (λ t. within_if _ _ _ c.requires.ends_apart c.requires.not_from c.requires.not_to
       (sym c.side.ensures ∙ c.is_on_line.ensures.0 c.if-not-is_on_line.false)
-      (record { x = c.is_from.ensures.0 c.if-is_from.true; y = c.is_from-then-is_from.ensures.0 t })),
+      (record {
+        x = c.is_from.ensures.0 c.if-is_from.true;
+        y = c.is_from-then-is_from.ensures.0 t;
+      })),
   (λ w. c.is_from-then-is_from.ensures.1 (if_within _ _ _ w).1.y),
 )
 
