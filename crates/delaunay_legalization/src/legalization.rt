@@ -1,7 +1,7 @@
 //! Flips of edges that fail the circle test, until each edge passes but the constraints.
 ghost use Rattle.std.specs.Prelude.{◌≡◌, ◌↔◌, ◌+◌, ◌*◌, ◌/◌, ◌<◌, ◌≤◌, ◌^◌, []};
 ghost use Rattle.std.specs.Prelude.{length, map, All, Contains, IsTrue};
-ghost use Rattle.mesh_embedding.specs.half_edge_mesh.Mesh.{origin, prev, face};
+ghost use Rattle.mesh_embedding.specs.half_edge_mesh.Mesh.{origin, face};
 ghost use Rattle.mesh_embedding.specs.half_edge_mesh.Flip.{flipped};
 ghost use Rattle.mesh_embedding.specs.half_edge_mesh.Peel.{turn};
 ghost use Rattle.mesh_embedding.specs.Legal.{AreEdges, Gains, IsFailing};
@@ -47,20 +47,6 @@ pub fn start_of<V: HasPosition, DE, UE, F>(
     ensures listed { Contains (map V.place dcel.now.vertices) (place_of V.Scalar.whole result) }
 {
     position_of(dcel, dcel.directed_edge(edge).from().fix())
-}
-
-/// The position where the edge before an edge starts: in an inner face the corner opposite the
-/// edge.
-pub fn start_before<V: HasPosition, DE, UE, F>(
-    dcel: &Dcel<V, DE, UE, F>,
-    edge: FixedDirectedEdgeHandle,
-) -> Point2<V::Scalar>
-    requires { edge < length dcel.now.directed }
-    ensures place { place_of V.Scalar.whole result ≡
-        point_at (map V.place dcel.now.vertices) (origin dcel.now.mesh (prev dcel.now.mesh edge)) }
-    ensures listed { Contains (map V.place dcel.now.vertices) (place_of V.Scalar.whole result) }
-{
-    position_of(dcel, dcel.directed_edge(edge).prev_from().fix())
 }
 
 /// The edge after an edge, against the clock round the vertex where it starts.

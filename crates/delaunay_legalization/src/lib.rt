@@ -24,8 +24,7 @@ pub use constraint_marker::{ConstraintMarker, NoConstraints};
 pub use among::legalize_list;
 pub use edge_set::EdgeSet;
 pub use legalization::{
-    ccw_edge, is_constraint_edge, is_outer, legalize, position_of, push_side, start_before,
-    start_of,
+    ccw_edge, is_constraint_edge, is_outer, legalize, position_of, push_side, start_of,
 };
 pub use marking::{free_edge, make_constraint};
 pub use placed::Placed;

@@ -10,7 +10,7 @@ ghost use Rattle.delaunay_paths.specs.Turning.{AreInMesh, corners_round};
 
 use delaunay_lines::delaunay_core::math::PlaneTests;
 use delaunay_lines::delaunay_core::point::{HasPosition, Point2, SpadeNum};
-use delaunay_lines::delaunay_legalization::{position_of, start_before, start_of, turns_left};
+use delaunay_lines::delaunay_legalization::{position_of, turns_left};
 use delaunay_lines::half_edge_mesh::{Dcel, FixedDirectedEdgeHandle, FixedVertexHandle, MeshViews};
 use std::marker::Model;
 
@@ -136,15 +136,14 @@ pub(crate) fn turning_at<'a, V: HasPosition, DE, UE, F, P: PlaneTests<V::Scalar>
     ensures { result ≡
         corners_round (map V.place dcel.now.vertices) dcel.now.mesh from to edge tests.now }
 {
-    let next = dcel.directed_edge(edge).next().fix();
-    let twin = dcel.directed_edge(edge).rev().fix();
+    let edge = dcel.directed_edge(edge);
     Turning {
         from: position_of(dcel, from),
         to: position_of(dcel, to),
-        start: start_of(dcel, edge),
-        behind: start_before(dcel, twin),
-        end: start_of(dcel, next),
-        ahead: start_before(dcel, edge),
+        start: position_of(dcel, edge.from().fix()),
+        behind: position_of(dcel, edge.rev().prev_from().fix()),
+        end: position_of(dcel, edge.next().from().fix()),
+        ahead: position_of(dcel, edge.prev_from().fix()),
         tests,
     }
 }

@@ -14,10 +14,10 @@ invariant_of-result g c =
     record {
       from = listed _ c.position_of.ensures.listed;
       to = listed _ c.position_of-2.ensures.listed;
-      start = listed _ c.start_of.ensures.listed;
-      behind = listed _ c.start_before.ensures.listed;
-      end = listed _ c.start_of-2.ensures.listed;
-      ahead = listed _ c.start_before-2.ensures.listed;
+      start = listed _ c.position_of-3.ensures.listed;
+      behind = listed _ c.position_of-4.ensures.listed;
+      end = listed _ c.position_of-5.ensures.listed;
+      ahead = listed _ c.position_of-6.ensures.listed;
     }
 
 pub returns : goal.returns
