@@ -1,6 +1,6 @@
 -- What the circle test tells of an edge between two faces, and of the edge opposite a vertex.
--- Notions: AreCorners, MayFlip; both_inner, outer_passes, left_turn, circle_tells,
--- read_outer_passes, read_turns_left, read_tells, flips_either, stays_as_is.
+-- Notions: AreCorners, MayFlip; outer_passes, left_turn, circle_tells, read_outer_passes,
+-- read_turns_left, read_tells, flips_either, stays_as_is.
 use Rattle.std.proofs.Common.{◌≡◌, ◌⊎◌, ◌*◌, ◌/◌, ◌<◌, ◌∙◌, ℕ, Bool, true, false, List, length, map}
 use Rattle.std.proofs.Common.{refl, sym, ap, subst, inl, inr, arith}
 use Rattle.std.specs.Prelude.{◌↔◌, ℤ, IsTrue}
@@ -35,7 +35,7 @@ pub record AreCorners (points : List Point) (m : Mesh) (e : ℕ) (from to left r
   pub right_is : right ≡ point_at points (origin m (prev m (rev e)))
 
 -- where none of two faces is the outer one, as was asked, both are inner
-pub both_inner : {b : Bool} {f g : ℕ} → (IsTrue b ↔ ((f ≡ 0) ⊎ (g ≡ 0))) → b ≡ false
+both_inner : {b : Bool} {f g : ℕ} → (IsTrue b ↔ ((f ≡ 0) ⊎ (g ≡ 0))) → b ≡ false
     → (0 < f) × (0 < g)
 both_inner {f = f} {g = g} asked off = (
   positive f (λ z. both_ways _ (asked.1 (inl z)) off),

@@ -91,9 +91,9 @@ pub loop-edge-preserved : goal.loop-edge-preserved
 loop-edge-preserved g c =
     let i = c.loop-edge.invariant in
     record {
-      underway = steps_drop i.underway i.placed.kept _ _ c.in-Some.ensures.last (λ free x. both_ways _
-          (c.is_failing.ensures.1 (rw c.as_directed-directed.ensures x)) c.if-is_failing.false)
-          c.pop.ensures.room;
+      underway = steps_drop i.underway i.placed.kept _ _ c.in-Some.ensures.last
+          (λ free x. both_ways _ (c.is_failing.ensures.1 (rw c.as_directed-directed.ensures x))
+          c.if-is_failing.false) c.pop.ensures.room;
       placed = i.placed;
     }
 
