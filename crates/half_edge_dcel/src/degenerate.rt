@@ -29,7 +29,7 @@ impl<V, DE, UE, F> Dcel<V, DE, UE, F> {
     {
         self.recall_invariant();
         let edge = reversed(out);
-        let left = self.links.next(edge);
+        let left = self.links.half_edge(edge).next;
         self.links.pass(edge);
         left
     }

@@ -60,7 +60,7 @@ impl<V, DE, UE, F> Dcel<V, DE, UE, F> {
         ensures whole { IsMeshWithData self.new }
     {
         let side = edges[0].index();
-        let first = self.links().prev(side);
+        let first = self.links().half_edge(side).prev;
         let vertex = self.links().prev_origin(side);
         self.disconnect(first, edges.len());
         IsolateVertexResult {
@@ -77,7 +77,7 @@ impl<V, DE, UE, F> Dcel<V, DE, UE, F> {
     {
         let second = self.next_spoke(first);
         let third = self.next_spoke(second);
-        let face = self.links().face(third);
+        let face = self.links().half_edge(third).face;
         self.open_face(face)
     }
 
@@ -154,7 +154,7 @@ impl<V, DE, UE, F> Dcel<V, DE, UE, F> {
             (length border.now) }
         ensures whole { IsMeshWithData self.new }
     {
-        let first = self.links().prev(border[0].index());
+        let first = self.links().half_edge(border[0].index()).prev;
         self.fill_hole(first, border.len());
         IsolateVertexResult { vertex }
     }

@@ -56,7 +56,7 @@ impl<V, DE, UE, F> Dcel<V, DE, UE, F> {
         requires { IsPeelable self.old.mesh edge }
         ensures { PeelsFullEdge self.old self.new edge result }
     {
-        let left = self.links.face(edge) as usize - 1;
+        let left = self.links.half_edge(edge).face as usize - 1;
         let spoke = self.links.peel(edge);
         self.faces.swap_remove(left);
         self.undirected.swap_remove(edge as usize / 2);
@@ -81,7 +81,7 @@ impl<V, DE, UE, F> Dcel<V, DE, UE, F> {
         ensures whole { IsMeshWithData self.now }
     {
         self.recall_invariant();
-        reversed(self.links.prev(edge))
+        reversed(self.links.half_edge(edge).prev)
     }
 
     // The index that the edge after `edge` gets once `edge` is removed.
@@ -91,7 +91,7 @@ impl<V, DE, UE, F> Dcel<V, DE, UE, F> {
         ensures whole { IsMeshWithData self.now }
     {
         self.recall_invariant();
-        let after = self.links.next(edge);
+        let after = self.links.half_edge(edge).next;
         self.links.index_after_removal(edge, after)
     }
 }

@@ -122,13 +122,11 @@ impl<V> Links<V> {
     {
         let n = self.half_edge_count() as u32;
         let g = self.inner_face_count() as u32;
-        let face = self.face(edge);
-        let next = self.next(edge);
-        let prev = self.prev(edge);
+        let first = self.half_edge(edge);
         fan_edges(&mut self.half_edges, v, edge, g);
-        self.face_edges[face as usize - 1] = edge;
-        self.face_edges.push_reserved(next);
-        self.face_edges.push_reserved(prev);
+        self.face_edges[first.face as usize - 1] = edge;
+        self.face_edges.push_reserved(first.next);
+        self.face_edges.push_reserved(first.prev);
         set_out_edge(&mut self.vertices, v, Some(n + 1));
     }
 

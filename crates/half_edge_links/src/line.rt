@@ -65,9 +65,9 @@ impl<V> Links<V> {
         ensures valid { IsValidMesh self.new.mesh }
     {
         let t = reversed(e);
-        let k = self.next(e);
+        let k = self.half_edge(e).next;
         let there = self.half_edge(k);
-        let z = self.prev(t);
+        let z = self.half_edge(t).prev;
         slide_edges(&mut self.half_edges, e, t, k, there.next, z);
         set_out_edge(&mut self.vertices, there.origin, Some(k));
     }

@@ -1,7 +1,7 @@
 //! The vertices, edges and faces of a mesh, and reads of them.
 ghost use Rattle.std.specs.Prelude.{◌≡◌, ◌-◌, ◌<◌, ◌≤◌, length, [], slice_get, Some};
 ghost use Rattle.half_edge_links.specs.Mesh.{edge_at, empty, IsInner, AreSoundLinks, IsValidMesh};
-ghost use Rattle.half_edge_links.specs.Mesh.{face_edge, out_edge, origin, next, prev, face};
+ghost use Rattle.half_edge_links.specs.Mesh.{face_edge, out_edge, origin, prev};
 
 use crate::edge_list::EdgeList;
 use crate::records::HalfEdge;
@@ -77,7 +77,7 @@ impl<V> Links<V> {
         let _ = &self.vertices;
     }
 
-    /// The directed edge `h`.
+    /// The directed edge `h`. The edge after it says where it starts.
     #[tactic(auto, using(crate::proofs::Views::joined_reads))]
     pub fn half_edge(&self, h: u32) -> HalfEdge
         requires { h < length self.now.mesh.half_edges }
@@ -92,47 +92,6 @@ impl<V> Links<V> {
             prev: edge.prev,
             face: edge.face,
         }
-    }
-
-    /// The edge after directed edge `h` round the face on its left.
-    #[tactic(auto, using(crate::proofs::Stored::Shown::shown_reads))]
-    pub fn next(&self, h: u32) -> u32
-        requires { h < length self.now.mesh.half_edges }
-        ensures value { result ≡ next self.now.mesh h }
-        ensures valid { IsValidMesh self.now.mesh }
-    {
-        self.half_edges.stored(h).next
-    }
-
-    /// The edge before directed edge `h` round the face on its left.
-    #[tactic(auto, using(crate::proofs::Stored::Shown::shown_reads))]
-    pub fn prev(&self, h: u32) -> u32
-        requires { h < length self.now.mesh.half_edges }
-        ensures value { result ≡ prev self.now.mesh h }
-        ensures valid { IsValidMesh self.now.mesh }
-    {
-        self.half_edges.stored(h).prev
-    }
-
-    /// The face on the left of directed edge `h`.
-    #[tactic(auto, using(crate::proofs::Stored::Shown::shown_reads))]
-    pub fn face(&self, h: u32) -> u32
-        requires { h < length self.now.mesh.half_edges }
-        ensures value { result ≡ face self.now.mesh h }
-        ensures valid { IsValidMesh self.now.mesh }
-    {
-        self.half_edges.stored(h).face
-    }
-
-    /// The vertex at which directed edge `h` starts: the edge after it says so.
-    #[tactic(auto, using(crate::proofs::Views::joined_reads))]
-    pub fn origin(&self, h: u32) -> u32
-        requires { h < length self.now.mesh.half_edges }
-        ensures value { result ≡ origin self.now.mesh h }
-        ensures valid { IsValidMesh self.now.mesh }
-    {
-        let edge = self.half_edges.stored(h);
-        self.half_edges.stored(edge.next).prev_origin
     }
 
     /// The vertex at which the edge before directed edge `h` starts: where `h` is an edge of an

@@ -43,7 +43,8 @@ impl<V> Links<V> {
     {
         let n = self.half_edge_count() as u32;
         let g = self.inner_face_count() as u32 + 1;
-        let after = self.next(self.next(e));
+        let next = self.half_edge(e).next;
+        let after = self.half_edge(next).next;
         close_edges(&mut self.half_edges, e, after, g);
         self.outer_edge = Some(n + 1);
         self.face_edges.push_reserved(e);

@@ -49,10 +49,10 @@ impl<V> Links<V> {
         ensures valid { IsValidMesh self.new.mesh }
     {
         let t = reversed(e);
-        let l = self.next(e);
-        let k = self.prev(t);
-        let z = self.prev(k);
-        let passed = self.origin(l);
+        let l = self.half_edge(e).next;
+        let k = self.half_edge(t).prev;
+        let z = self.half_edge(k).prev;
+        let passed = self.half_edge(l).origin;
         pass_edges(&mut self.half_edges, e, t, k, l, z);
         set_out_edge(&mut self.vertices, passed, Some(l));
     }

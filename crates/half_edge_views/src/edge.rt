@@ -62,7 +62,7 @@ impl<'a, V, DE, UE, F> DirectedEdgeHandle<'a, V, DE, UE, F> {
     {
         VertexHandle {
             dcel: self.dcel,
-            index: self.dcel.links().origin(self.index),
+            index: self.dcel.links().half_edge(self.index).origin,
         }
     }
 
@@ -107,7 +107,7 @@ impl<'a, V, DE, UE, F> DirectedEdgeHandle<'a, V, DE, UE, F> {
     {
         DirectedEdgeHandle {
             dcel: self.dcel,
-            index: self.dcel.links().next(self.index),
+            index: self.dcel.links().half_edge(self.index).next,
         }
     }
 
@@ -119,7 +119,7 @@ impl<'a, V, DE, UE, F> DirectedEdgeHandle<'a, V, DE, UE, F> {
     {
         DirectedEdgeHandle {
             dcel: self.dcel,
-            index: self.dcel.links().prev(self.index),
+            index: self.dcel.links().half_edge(self.index).prev,
         }
     }
 
@@ -162,7 +162,7 @@ impl<'a, V, DE, UE, F> DirectedEdgeHandle<'a, V, DE, UE, F> {
     {
         FaceHandle {
             dcel: self.dcel,
-            index: self.dcel.links().face(self.index),
+            index: self.dcel.links().half_edge(self.index).face,
         }
     }
 
@@ -170,7 +170,7 @@ impl<'a, V, DE, UE, F> DirectedEdgeHandle<'a, V, DE, UE, F> {
     pub fn is_outer_edge(&self) -> bool
         ensures { IsTrue result ↔ (face self.now.dcel.now.mesh self.now.index ≡ 0) }
     {
-        self.face().is_outer()
+        self.dcel.links().half_edge(self.index).face == 0
     }
 
     /// The third vertex of the face on the left of the edge, if that face is an inner one.

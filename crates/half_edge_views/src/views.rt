@@ -169,7 +169,7 @@ impl<V, DE, UE, F> MeshViews<V, DE, UE, F> for Dcel<V, DE, UE, F> {
         let first = links.out_edge(from.index())?;
         let target = to.index();
         let mut edge = first;
-        let mut end = links.origin(reversed(first));
+        let mut end = links.half_edge(reversed(first)).origin;
         for _ in 0..count {
             if end == target {
                 return Some(DirectedEdgeHandle {
@@ -178,7 +178,7 @@ impl<V, DE, UE, F> MeshViews<V, DE, UE, F> for Dcel<V, DE, UE, F> {
                 });
             }
             end = links.prev_origin(edge);
-            edge = reversed(links.prev(edge));
+            edge = reversed(links.half_edge(edge).prev);
             if edge == first {
                 return None;
             }

@@ -7,8 +7,8 @@ next_spoke-third-requires g c =
     let v = c.next_spoke-second.ensures.whole.valid in
     rw c.next_spoke-second.ensures.value (a_in _ _ v.sound (full_wheel _ _ v c.requires))
 
-pub face-face-requires : goal.face-face-requires
-face-face-requires g c =
+pub half_edge-face-requires : goal.half_edge-face-requires
+half_edge-face-requires g c =
     let v = c.links.ensures.whole.valid in
     rw (
       c.links.ensures.mesh,
@@ -20,7 +20,7 @@ pub open_face-requires : goal.open_face-requires
 open_face-requires g c =
     let v = c.links.ensures.whole.valid in
     rw (
-      c.face-face.ensures.value,
+      c.half_edge-face.ensures.value,
       c.links.ensures.mesh,
       c.next_spoke-third.ensures.value,
       c.next_spoke-second.ensures.value,
@@ -28,7 +28,7 @@ open_face-requires g c =
 
 pub returns : goal.returns
 returns g c = rw (
-  c.face-face.ensures.value,
+  c.half_edge-face.ensures.value,
   c.links.ensures.mesh,
   c.next_spoke-third.ensures.value,
   c.next_spoke-second.ensures.value,

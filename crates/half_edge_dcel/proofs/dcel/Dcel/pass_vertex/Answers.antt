@@ -3,8 +3,8 @@ use Rattle.half_edge_links.proofs.Lists.Rev.{rev_within}
 use Rattle.half_edge_dcel.proofs.LineSteps.{passable}
 use Rattle.half_edge_dcel.proofs.dcel.Dcel.pass_vertex.Goals as goal
 
-pub next-left-requires : goal.next-left-requires
-next-left-requires g c =
+pub half_edge-left-requires : goal.half_edge-left-requires
+half_edge-left-requires g c =
     let middle = rw (← c.self.view_is) at c.requires in
     let whole = rw (← c.self.view_is) at c.recall_invariant.ensures.whole in
     rw c.reversed-edge.ensures (rev_within _ _ whole.valid.sound.even middle.within)
@@ -21,7 +21,7 @@ returns g c =
     let pass = rw c.reversed-edge.ensures at c.pass.ensures in
     rw (← c.self.view_is) (record {
       was = whole;
-      left_is = rw c.reversed-edge.ensures at c.next-left.ensures.value;
+      left_is = rw (c.half_edge-left.ensures.value, c.reversed-edge.ensures) refl;
       contents = rw (pass.rest.room, pass.rest.values) refl;
       links = pass.links;
       ends = pass.ends;

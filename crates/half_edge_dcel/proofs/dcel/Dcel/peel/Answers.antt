@@ -7,7 +7,7 @@ pub swap_remove-requires : goal.swap_remove-requires
 swap_remove-requires g c =
     let can = rw (← c.self.view_is) at c.requires in
     let inside = (c.peel-spoke.ensures.sound.edges c.args.edge can.within).face_in in
-    rw c.face.ensures.value (omega (arith, c.self.invariant.faces_fit, can.inner, inside))
+    rw c.half_edge.ensures.value (omega (arith, c.self.invariant.faces_fit, can.inner, inside))
 
 pub returns : goal.returns
 returns g c =
@@ -16,7 +16,7 @@ returns g c =
     let old : Mesh = c.self.inside.links.mesh in
     let new : Mesh = c.peel-spoke.new.self.mesh in
     let can = rw (← c.self.view_is) at c.requires in
-    let face = rw c.face.ensures.value at c.swap_remove.ensures in
+    let face = rw c.half_edge.ensures.value at c.swap_remove.ensures in
     let taken = takes_edge old new _ _ _ _ c.args.edge links.sound fit.directed_fit
     fit.undirected_fit can.within links.peels.ends _ c.swap_remove-2.ensures.items
     c.remove_pair.ensures.takes in

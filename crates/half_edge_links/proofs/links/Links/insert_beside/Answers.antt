@@ -21,32 +21,30 @@ fan_edges-requires-clause-few g c =
     let faces = rw (← c.self.view_is) at c.inner_face_count-g.ensures.value in
     omega arith
 
-pub overflow_sub-face : goal.overflow_sub-face
-overflow_sub-face g c = rw c.face-face.ensures.value c.requires.inner.1
+pub overflow_sub-first : goal.overflow_sub-first
+overflow_sub-first g c = rw c.half_edge-first.ensures.value c.requires.inner.1
 
 pub returns-clause-mesh : goal.returns-clause-mesh
 unfolding inserted insert_by
 returns-clause-mesh g c =
     let n = rw (← c.self.view_is) at c.half_edge_count-n.ensures.value in
     let faces = rw (← c.self.view_is) at c.inner_face_count-g.ensures.value in
-    let face = rw (← c.self.view_is) at c.face-face.ensures.value in
-    let next = rw (← c.self.view_is) at c.next-next.ensures.value in
-    let prev = rw (← c.self.view_is) at c.prev-prev.ensures.value in
+    let first = rw (← c.self.view_is) at c.half_edge-first.ensures.value in
     rw (← c.self.view_is, c.set_out_edge.ensures.out_edges) (cc)
 
 pub returns-clause-valid : goal.returns-clause-valid
-returns-clause-valid g c = c.face-face.ensures.valid
+returns-clause-valid g c = c.half_edge-first.ensures.valid
 
 pub invariant_of-self : goal.invariant_of-self
 invariant_of-self g c =
     let few = rw (← c.self.view_is) at c.requires.face_room in
     let faces = rw (← c.self.view_is) at c.inner_face_count-g.ensures.value in
-    valid_as _ _ (returns-clause-mesh g c) (valid_inserted _ _ _ c.face-face.ensures.valid
+    valid_as _ _ (returns-clause-mesh g c) (valid_inserted _ _ _ c.half_edge-first.ensures.valid
     c.requires.inner c.requires.alone (omega arith) (omega arith))
 
 pub returns-clause-inserts : goal.returns-clause-inserts
 returns-clause-inserts g c =
-    let s = c.face-face.ensures.valid.sound in
+    let s = c.half_edge-first.ensures.valid.sound in
     let inner = c.requires.inner in
     let alone = c.requires.alone in
     let is = returns-clause-mesh g c in

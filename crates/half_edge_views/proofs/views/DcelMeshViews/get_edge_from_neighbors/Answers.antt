@@ -1,4 +1,5 @@
 use Rattle.std.proofs.Common.{◌≡◌, ◌+◌, ◌∙◌, ℕ, sym, refl, arith}
+use Rattle.half_edge_dcel.specs.half_edge_links.Mesh.{prev}
 use Rattle.half_edge_dcel.specs.half_edge_links.Peel.{spoke}
 use Rattle.half_edge_views.proofs.Ranges.{out_edge-within}
 use Rattle.half_edge_views.proofs.Joined.{turned_spoke, turned_end, spoke-within, spoke-starts}
@@ -14,7 +15,11 @@ loop-init g c =
       within = out_edge-within c.args.self.now _ _ whole named;
       starts = (whole.valid.sound.vertices _ _ named).1;
       reached = refl;
-      ends = rw (c.links-links.ensures.mesh, c.reversed.ensures) at c.origin-end.ensures.value;
+      ends = rw (
+        c.half_edge-end.ensures.value,
+        c.links-links.ensures.mesh,
+        c.reversed.ensures,
+      ) refl;
       missed = λ j less. absurd (omega (arith, less));
     }
 
@@ -26,16 +31,17 @@ loop-preserved g c =
     (sym c.out_edge.ensures.value ∙ c.in_ok-first.was) in
     let first_in = out_edge-within c.args.self.now _ _ whole named in
     let k : ℕ = c.loop.counter + 1 in
-    let before = rw c.links-links.ensures.mesh at c.prev.ensures.value in
+    let before : c.half_edge.result.prev ≡ prev m c.loop.edge =
+    rw (c.half_edge.ensures.value, c.links-links.ensures.mesh) refl in
     let reached : c.reversed-edge.result ≡ spoke m c.in_ok-first.first k =
-    turned_spoke m c.in_ok-first.first c.loop.edge c.loop.counter _ c.prev.result
+    turned_spoke m c.in_ok-first.first c.loop.edge c.loop.counter _ c.half_edge.result.prev
     c.reversed-edge.ensures before c.loop.invariant.reached in
     record {
       within = rw reached (spoke-within c.args.self.now c.in_ok-first.first k whole first_in);
       starts = rw reached (spoke-starts c.args.self.now c.in_ok-first.first k whole first_in
           ∙ (whole.valid.sound.vertices _ _ named).1);
       reached = reached;
-      ends = turned_end m c.loop.edge _ c.prev.result _ c.reversed-edge.ensures
+      ends = turned_end m c.loop.edge _ c.half_edge.result.prev _ c.reversed-edge.ensures
           before (rw c.links-links.ensures.mesh at c.prev_origin-end.ensures.value);
       missed = missed_more m c.in_ok-first.first c.loop.edge c.loop.end c.index-target.result
           c.loop.counter c.loop.invariant.ends c.loop.invariant.reached c.if-end-target.false
@@ -63,9 +69,10 @@ returns-then-edge-first-clause-none g c =
     let named = rw (c.links-links.ensures.mesh, c.index.ensures) at
     (sym c.out_edge.ensures.value ∙ c.in_ok-first.was) in
     let k : ℕ = c.loop.counter + 1 in
-    let before = rw c.links-links.ensures.mesh at c.prev.ensures.value in
+    let before : c.half_edge.result.prev ≡ prev m c.loop.edge =
+    rw (c.half_edge.ensures.value, c.links-links.ensures.mesh) refl in
     let reached : c.reversed-edge.result ≡ spoke m c.in_ok-first.first k =
-    turned_spoke m c.in_ok-first.first c.loop.edge c.loop.counter _ c.prev.result
+    turned_spoke m c.in_ok-first.first c.loop.edge c.loop.counter _ c.half_edge.result.prev
     c.reversed-edge.ensures before c.loop.invariant.reached in
     let missed = missed_more m c.in_ok-first.first c.loop.edge c.loop.end c.index-target.result
     c.loop.counter c.loop.invariant.ends c.loop.invariant.reached c.if-end-target.false
