@@ -67,25 +67,44 @@ impl EdgeList {
         self.records[h as usize + 1]
     }
 
-    // Keeps the directed edge `h` as `edge`.
-    pub(crate) fn set(&mut self, h: u32, edge: StoredEdge)
+    // Keeps these as the links of directed edge `h`.
+    pub(crate) fn set(&mut self, h: u32, prev_origin: u32, next: u32, prev: u32, face: u32)
         requires { h < length self.old.items }
-        ensures items { self.new.items ≡ slice_set self.old.items h edge }
+        ensures items { self.new.items ≡ slice_set self.old.items h (record {
+          prev_origin = prev_origin;
+          next = next;
+          prev = prev;
+          face = face;
+        }) }
         ensures len { length self.new.items ≡ length self.old.items }
         ensures capacity { self.new.capacity ≡ self.old.capacity }
     {
-        self.records[h as usize + 1] = edge;
+        self.records[h as usize + 1] = StoredEdge {
+            prev_origin,
+            next,
+            prev,
+            face,
+        };
     }
 
-    // A new last edge by its two sides, which there is room for.
-    pub(crate) fn push_edge(&mut self, there: StoredEdge, back: StoredEdge)
-        requires { length self.old.items + 2 ≤ self.old.capacity }
-        ensures items { self.new.items ≡ self.old.items ++ there ∷ [] ++ back ∷ [] }
-        ensures len { length self.new.items ≡ length self.old.items + 2 }
+    // A new last directed edge with these links, which there is room for.
+    pub(crate) fn push(&mut self, prev_origin: u32, next: u32, prev: u32, face: u32)
+        requires { length self.old.items + 1 ≤ self.old.capacity }
+        ensures items { self.new.items ≡ self.old.items ++ (record {
+          prev_origin = prev_origin;
+          next = next;
+          prev = prev;
+          face = face;
+        }) ∷ [] }
+        ensures len { length self.new.items ≡ length self.old.items + 1 }
         ensures capacity { self.new.capacity ≡ self.old.capacity }
     {
-        self.records.push_reserved(there);
-        self.records.push_reserved(back);
+        self.records.push_reserved(StoredEdge {
+            prev_origin,
+            next,
+            prev,
+            face,
+        });
     }
 
     // Takes the directed edge `h` out. The last one takes its place.

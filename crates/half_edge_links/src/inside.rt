@@ -12,7 +12,7 @@ ghost use Rattle.half_edge_links.specs.Rest.{KeepsRest};
 
 use crate::edge_list::EdgeList;
 use crate::links::Links;
-use crate::records::{linked, reversed};
+use crate::records::reversed;
 use crate::room::MAX_ELEMENTS;
 use crate::vertex_list::set_out_edge;
 
@@ -41,12 +41,12 @@ fn turn_edges(half_edges: &mut EdgeList, e: u32, t: u32)
     let end = half_edges.stored(twin.next).prev_origin;
     let left = edge.prev_origin;
     let right = twin.prev_origin;
-    half_edges.set(e, linked(end, twin.prev, edge.next, edge.face));
-    half_edges.set(t, linked(start, edge.prev, twin.next, twin.face));
-    half_edges.set(edge.next, linked(right, e, twin.prev, edge.face));
-    half_edges.set(twin.next, linked(left, t, edge.prev, twin.face));
-    half_edges.set(edge.prev, linked(right, twin.next, t, twin.face));
-    half_edges.set(twin.prev, linked(left, edge.next, e, edge.face));
+    half_edges.set(e, end, twin.prev, edge.next, edge.face);
+    half_edges.set(t, start, edge.prev, twin.next, twin.face);
+    half_edges.set(edge.next, right, e, twin.prev, edge.face);
+    half_edges.set(twin.next, left, t, edge.prev, twin.face);
+    half_edges.set(edge.prev, right, twin.next, t, twin.face);
+    half_edges.set(twin.prev, left, edge.next, e, edge.face);
 }
 
 // Puts vertex `v` into the loop of `edge`, with three edges to it and back. The part of `edge`
@@ -68,21 +68,15 @@ fn fan_edges(half_edges: &mut EdgeList, v: u32, edge: u32, g: u32)
     let start = half_edges.stored(first.next).prev_origin;
     let end = half_edges.stored(first.prev).prev_origin;
     let corner = first.prev_origin;
-    half_edges.set(edge, linked(v, n + 2, n + 1, first.face));
-    half_edges.set(first.next, linked(v, n + 4, n + 3, g + 1));
-    half_edges.set(first.prev, linked(v, n, n + 5, g + 2));
-    half_edges.push_edge(
-        linked(corner, n + 5, first.prev, g + 2),
-        linked(end, edge, n + 2, first.face),
-    );
-    half_edges.push_edge(
-        linked(start, n + 1, edge, first.face),
-        linked(corner, first.next, n + 4, g + 1),
-    );
-    half_edges.push_edge(
-        linked(end, n + 3, first.next, g + 1),
-        linked(start, first.prev, n, g + 2),
-    );
+    half_edges.set(edge, v, n + 2, n + 1, first.face);
+    half_edges.set(first.next, v, n + 4, n + 3, g + 1);
+    half_edges.set(first.prev, v, n, n + 5, g + 2);
+    half_edges.push(corner, n + 5, first.prev, g + 2);
+    half_edges.push(end, edge, n + 2, first.face);
+    half_edges.push(start, n + 1, edge, first.face);
+    half_edges.push(corner, first.next, n + 4, g + 1);
+    half_edges.push(end, n + 3, first.next, g + 1);
+    half_edges.push(start, first.prev, n, g + 2);
 }
 
 impl<V> Links<V> {

@@ -11,7 +11,7 @@ ghost use Rattle.half_edge_links.specs.Grown.{AreConnectable, ExtendsLine, Split
 ghost use Rattle.half_edge_links.specs.Rest.{KeepsRest};
 
 use crate::links::Links;
-use crate::records::{linked, reversed, slide_edges};
+use crate::records::{reversed, slide_edges};
 use crate::vertex_list::set_out_edge;
 
 impl<V> Links<V> {
@@ -27,8 +27,8 @@ impl<V> Links<V> {
         ensures valid { IsValidMesh self.new.mesh }
     {
         self.recall_invariant();
-        self.half_edges
-            .push_edge(linked(b, 1, 1, 0), linked(a, 0, 0, 0));
+        self.half_edges.push(b, 1, 1, 0);
+        self.half_edges.push(a, 0, 0, 0);
         set_out_edge(&mut self.vertices, a, Some(0));
         set_out_edge(&mut self.vertices, b, Some(1));
         self.outer_edge = Some(0);

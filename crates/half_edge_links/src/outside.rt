@@ -9,7 +9,7 @@ ghost use Rattle.half_edge_links.specs.Grown.{AddsFaceBeside, SplitsHalfEdge};
 ghost use Rattle.half_edge_links.specs.Rest.{KeepsRest};
 
 use crate::links::Links;
-use crate::records::{close_edges, hang_edges, reversed};
+use crate::records::{close_edges, reversed, set_corner, set_next, set_prev};
 use crate::vertex_list::set_out_edge;
 
 impl<V> Links<V> {
@@ -26,7 +26,13 @@ impl<V> Links<V> {
         ensures valid { IsValidMesh self.new.mesh }
     {
         let n = self.half_edge_count() as u32;
-        hang_edges(&mut self.half_edges, x, v);
+        let edge = self.half_edge(x);
+        let end = self.half_edge(edge.next).origin;
+        set_next(&mut self.half_edges, x, n);
+        set_prev(&mut self.half_edges, edge.next, n + 1);
+        set_corner(&mut self.half_edges, edge.next, v);
+        self.half_edges.push(edge.origin, n + 1, x, edge.face);
+        self.half_edges.push(end, edge.next, n, edge.face);
         set_out_edge(&mut self.vertices, v, Some(n + 1));
     }
 

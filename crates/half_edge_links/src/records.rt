@@ -4,7 +4,7 @@ ghost use Rattle.half_edge_links.specs.Mesh.{face, edge_at, origin, next, prev, 
 ghost use Rattle.half_edge_links.specs.EdgeList.{shown, stored_next, stored_prev};
 ghost use Rattle.half_edge_links.specs.EdgeList.{stored_face, stored_corner, stored_joined};
 ghost use Rattle.half_edge_links.specs.Places.{AreJoined, AreSlidPlaces};
-ghost use Rattle.half_edge_links.specs.Grow.{hung_edges, closed_edges, slid_edges};
+ghost use Rattle.half_edge_links.specs.Grow.{closed_edges, slid_edges};
 
 use crate::edge_list::EdgeList;
 use crate::room::MAX_ELEMENTS;
@@ -29,23 +29,6 @@ pub(crate) struct StoredEdge {
     pub(crate) face: u32,
 }
 
-// The edge between these two round `face`, where the edge before it starts at `prev_origin`.
-pub(crate) fn linked(prev_origin: u32, next: u32, prev: u32, face: u32) -> StoredEdge
-    ensures { result ≡ record {
-      prev_origin = prev_origin;
-      next = next;
-      prev = prev;
-      face = face;
-    } }
-{
-    StoredEdge {
-        prev_origin,
-        next,
-        prev,
-        face,
-    }
-}
-
 /// The other direction of directed edge `h`.
 pub fn reversed(h: u32) -> u32
     ensures { result ≡ rev h }
@@ -62,7 +45,7 @@ pub(crate) fn set_next(half_edges: &mut EdgeList, h: u32, next: u32)
     ensures capacity { half_edges.new.capacity ≡ half_edges.old.capacity }
 {
     let edge = half_edges.stored(h);
-    half_edges.set(h, StoredEdge { next, ..edge });
+    half_edges.set(h, edge.prev_origin, next, edge.prev, edge.face);
 }
 
 // Lets the edge before `h` be `prev`.
@@ -74,7 +57,7 @@ pub(crate) fn set_prev(half_edges: &mut EdgeList, h: u32, prev: u32)
     ensures capacity { half_edges.new.capacity ≡ half_edges.old.capacity }
 {
     let edge = half_edges.stored(h);
-    half_edges.set(h, StoredEdge { prev, ..edge });
+    half_edges.set(h, edge.prev_origin, edge.next, prev, edge.face);
 }
 
 // Lets face `face` lie on the left of `h`.
@@ -86,7 +69,7 @@ pub(crate) fn set_face(half_edges: &mut EdgeList, h: u32, face: u32)
     ensures capacity { half_edges.new.capacity ≡ half_edges.old.capacity }
 {
     let edge = half_edges.stored(h);
-    half_edges.set(h, StoredEdge { face, ..edge });
+    half_edges.set(h, edge.prev_origin, edge.next, edge.prev, face);
 }
 
 // Lets the edge before `h` start at vertex `prev_origin`.
@@ -98,13 +81,7 @@ pub(crate) fn set_corner(half_edges: &mut EdgeList, h: u32, prev_origin: u32)
     ensures capacity { half_edges.new.capacity ≡ half_edges.old.capacity }
 {
     let edge = half_edges.stored(h);
-    half_edges.set(
-        h,
-        StoredEdge {
-            prev_origin,
-            ..edge
-        },
-    );
+    half_edges.set(h, prev_origin, edge.next, edge.prev, edge.face);
 }
 
 // Puts the edge `after` after `h`, which starts at vertex `start`.
@@ -118,30 +95,6 @@ pub(crate) fn join(half_edges: &mut EdgeList, h: u32, after: u32, start: u32)
     set_next(half_edges, h, after);
     set_prev(half_edges, after, h);
     set_corner(half_edges, after, start);
-}
-
-// Puts an edge to vertex `v` and back after edge `x`, whose next one is `y`.
-#[tactic(auto, using(crate::proofs::Stored::Shown::joined_reads))]
-pub(crate) fn hang_edges(half_edges: &mut EdgeList, x: u32, v: u32)
-    requires joined { AreJoined (shown half_edges.old.items) }
-    requires within { x < length half_edges.old.items }
-    requires room { length half_edges.old.items + 2 ≤ half_edges.old.capacity }
-    requires small { length half_edges.old.items + 2 ≤ MAX_ELEMENTS }
-    ensures items { let hs = shown half_edges.old.items in
-        shown half_edges.new.items ≡ hung_edges hs x (edge_at hs x).next v (length hs) }
-    ensures capacity { half_edges.new.capacity ≡ half_edges.old.capacity }
-{
-    let n = half_edges.len() as u32;
-    let edge = half_edges.stored(x);
-    let after = half_edges.stored(edge.next);
-    let end = half_edges.stored(after.next).prev_origin;
-    set_next(half_edges, x, n);
-    set_prev(half_edges, edge.next, n + 1);
-    set_corner(half_edges, edge.next, v);
-    half_edges.push_edge(
-        linked(after.prev_origin, n + 1, x, edge.face),
-        linked(end, edge.next, n, edge.face),
-    );
 }
 
 // Makes face `g` of edge `e`, the next one and a new edge, between the edges before and after the
@@ -173,10 +126,8 @@ pub(crate) fn close_edges(half_edges: &mut EdgeList, e: u32, after: u32, g: u32)
     set_face(half_edges, edge.next, g);
     set_corner(half_edges, after, start);
     set_corner(half_edges, e, end);
-    half_edges.push_edge(
-        linked(third.prev_origin, e, edge.next, g),
-        linked(edge.prev_origin, after, edge.prev, 0),
-    );
+    half_edges.push(third.prev_origin, e, edge.next, g);
+    half_edges.push(edge.prev_origin, after, edge.prev, 0);
 }
 
 // Lets edge `e`, with other side `t`, end at the far end of the edge `k` after it, whose other side

@@ -1,7 +1,7 @@
 -- A list of vertices after writes, as the list of the edges that they name and the list of their
 -- data.
--- Lemmas: named_as, named_some, named_moved, set_named, named_at, set_value, copied_out_edges, copied_values, pushed_vertex, swap_remove-map,
--- takes_vertex, length_out_edges, length_values.
+-- Lemmas: named_as, named_some, named_moved, set_named, named_at, set_value, copied_out_edges,
+-- copied_values, pushed_vertex, swap_remove-map, takes_vertex, length_out_edges, length_values.
 use Rattle.std.proofs.Common.{◌≡◌, ◌≢◌, ◌+◌, ◌-◌, ◌<◌, [], ◌∷◌, ◌++◌, ◌∙◌, Option, None, Some}
 use Rattle.std.proofs.Common.{option_map, unwrap_or}
 use Rattle.std.proofs.Common.{ℕ, List, length, get_or, set, map, refl, sym, ap, arith}
@@ -46,9 +46,10 @@ module _ {V : Type 0} where
   )
 
   -- an edge that one vertex names is what its number stands for
-  pub named_at : (vs : List (Vertex V)) (v : ℕ) (at : Vertex V) → v < length vs → at ≡ get_or vs v at
-      → get_or (out_edges_of vs) v None ≡ named_by at.out_edge
-  named_at vs v at within is = get_or-map (λ (u : Vertex V). named_by u.out_edge) vs v at None within
+  pub named_at : (vs : List (Vertex V)) (v : ℕ) (at : Vertex V) → v < length vs
+      → at ≡ get_or vs v at → get_or (out_edges_of vs) v None ≡ named_by at.out_edge
+  named_at vs v at within is =
+      get_or-map (λ (u : Vertex V). named_by u.out_edge) vs v at None within
       ∙ ap (λ (u : Vertex V). named_by u.out_edge) (sym is)
 
   -- other data of one vertex change the data there, and no edge that is named

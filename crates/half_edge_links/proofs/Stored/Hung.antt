@@ -55,26 +55,18 @@ module _ (hs : List HalfEdge) (cs : List ℕ) (x v : ℕ) (x_in : x < length hs)
 -- the records after an edge was hung show it
 pub shows_hung : (rs : List StoredEdge) (x v n : ℕ) → AreJoined (shown rs) → x < length (shown rs)
     → n ≡ length (shown rs) →
-    (let edge = stored_at rs x in let after = stored_at rs edge.next in
+    (let hs = shown rs in let edge = edge_at hs x in
     shown (stored_corner (stored_prev (stored_next rs x n) edge.next (n + 1)) edge.next v
-    ++ record { prev_origin = after.prev_origin; next = n + 1; prev = x; face = edge.face } ∷ []
+    ++ record { prev_origin = edge.origin; next = n + 1; prev = x; face = edge.face } ∷ []
     ++ record {
-      prev_origin = (stored_at rs after.next).prev_origin;
+      prev_origin = (edge_at hs edge.next).origin;
       next = edge.next;
       prev = n;
       face = edge.face;
     } ∷ [])
-    ≡ hung_edges (shown rs) x (edge_at (shown rs) x).next v (length (shown rs)))
+    ≡ hung_edges hs x edge.next v (length hs))
 unfolding hung_edges
-shows_hung rs x v n j x_in count =
-    let y_in : (stored_at rs x).next < length (shown rs) = rw next_shown at (j.next_in x x_in) in
-    rw (
-      corner_at rs (stored_at rs x).next _ y_in (next_shown rs _),
-      corner_at rs x _ x_in (next_shown rs x),
-      ← (next_shown rs x),
-      ← (face_shown rs x),
-      count,
-    ) (shown_is _ _ _ (
+shows_hung rs x v n j x_in count = rw count (shown_is _ _ _ (
     keeps_push _ _ _ (keeps_push _ _ _ (keeps_corner _ _ _
     (keeps_prev _ _ _ (keeps_next _ _ _ (keeps_shown rs) x _) _ _) _ v) _ _ _ _ _) _ _ _ _ _) (
     say_hung (shown rs) (corners_of rs) x v x_in j (count_corners rs) (corner_shown rs)))

@@ -22,11 +22,12 @@ invariant_of-self g c =
     let few = rw (← c.self.view_is) at c.requires.room.faces_fit in
     let faces = rw (← c.self.view_is) at c.inner_face_count.ensures.value in
     valid_as _ _ (returns-clause-mesh g c)
-    (valid_closed _ _ c.half_edge-next.ensures.valid c.requires.closable (omega arith) (omega arith))
+    (valid_closed _ _ c.half_edge-next.ensures.valid c.requires.closable (omega arith)
+    (omega arith))
 
 pub returns-clause-closes : goal.returns-clause-closes
-returns-clause-closes g c =
-    closes_corner _ _ _ c.half_edge-next.ensures.valid.sound c.requires.closable (returns-clause-mesh g c)
+returns-clause-closes g c = closes_corner _ _ _ c.half_edge-next.ensures.valid.sound
+    c.requires.closable (returns-clause-mesh g c)
 
 pub returns-clause-valid : goal.returns-clause-valid
 returns-clause-valid g c = invariant_of-self g c

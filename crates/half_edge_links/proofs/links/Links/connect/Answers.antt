@@ -14,9 +14,8 @@ returns-clause-mesh g c =
       ← c.self.view_is,
       c.set_out_edge-2.ensures.out_edges,
       c.set_out_edge.ensures.out_edges,
-      c.push_edge.ensures.items,
-      c.linked-2.ensures,
-      c.linked.ensures,
+      c.push-2.ensures.items,
+      c.push.ensures.items,
       shows_first c.self.inside.half_edges.items c.args.a c.args.b can.no_edges,
     )
     (refl {a = connected (mesh_in c.self.inside) c.args.a c.args.b})

@@ -1,18 +1,25 @@
-use Rattle.std.proofs.Common.{refl, arith}
+use Rattle.std.proofs.Common.{arith}
 use Rattle.half_edge_links.specs.Grow.{hung}
 use Rattle.half_edge_links.proofs.Sound.Valid.{valid_as, valid_hung}
 use Rattle.half_edge_links.proofs.Growing.Grown.{hangs_edge}
+use Rattle.half_edge_links.proofs.Stored.Hung.{shows_hung}
+use Rattle.half_edge_links.proofs.Views.{joined_in}
 use Rattle.half_edge_links.proofs.links.Links.hang.Goals as goal
+
+pub half_edge-end-requires : goal.half_edge-end-requires
+half_edge-end-requires g c = rw c.half_edge-edge.ensures.value
+    (c.half_edge-edge.ensures.sound.edges c.args.x c.requires.outer.0).next_in
 
 pub returns-clause-mesh : goal.returns-clause-mesh
 unfolding hung
 returns-clause-mesh g c =
-    rw (
-      c.set_out_edge.ensures.out_edges,
-      c.hang_edges.ensures.items,
-      c.half_edge_count-n.ensures.value,
-      ← c.self.view_is,
-    ) refl
+    let n = rw (← c.self.view_is) at c.half_edge_count-n.ensures.value in
+    let edge = rw (← c.self.view_is) at c.half_edge-edge.ensures.value in
+    let end = rw (← c.self.view_is) at c.half_edge-end.ensures.value in
+    let outer = rw (← c.self.view_is) at c.requires.outer in
+    let shows = shows_hung c.self.inside.half_edges.items c.args.x c.args.v
+    c.half_edge_count-n.result (joined_in c.self.inside c.self.invariant) outer.0 n in
+    rw (← c.self.view_is, c.set_out_edge.ensures.out_edges) (cc)
 
 pub invariant_of-self : goal.invariant_of-self
 invariant_of-self g c =
