@@ -3,8 +3,8 @@ ghost use Rattle.std.specs.Prelude.{◌≡◌, ◌≢◌, ◌+◌, ◌-◌, ◌<
 ghost use Rattle.half_edge_links.specs.Mesh.{origin, prev, rev, IsInnerEdge, IsAlone};
 ghost use Rattle.half_edge_links.specs.Mesh.{edge_at, AreSoundLinks, IsValidMesh};
 ghost use Rattle.half_edge_links.specs.EdgeList.{shown};
-ghost use Rattle.half_edge_links.specs.Places.{AreJoined, IsLoopOfThree, AreSixPlaces};
-ghost use Rattle.half_edge_links.specs.Flip.{IsBetweenFaces, flipped, turn_by};
+ghost use Rattle.half_edge_links.specs.Places.{AreJoined, IsLoopOfThree};
+ghost use Rattle.half_edge_links.specs.Flip.{IsBetweenFaces, flipped};
 ghost use Rattle.half_edge_links.specs.Insert.{inserted, fan_by};
 ghost use Rattle.half_edge_links.specs.Inside.{FlipsEdge, InsertsBeside, SplitsInnerEdge};
 ghost use Rattle.half_edge_links.specs.Room.{HasEdgeRoom, HasFaceRoom};
@@ -15,39 +15,6 @@ use crate::links::Links;
 use crate::records::reversed;
 use crate::room::MAX_ELEMENTS;
 use crate::vertex_list::set_out_edge;
-
-// Turns edge `e`, with other side `t`, in the list: the six edges round it get new links.
-#[tactic(auto, using(crate::proofs::Stored::Shown::shown_reads))]
-fn turn_edges(half_edges: &mut EdgeList, e: u32, t: u32)
-    requires joined { AreJoined (shown half_edges.old.items) }
-    requires edge { IsLoopOfThree (shown half_edges.old.items) e }
-    requires twin { IsLoopOfThree (shown half_edges.old.items) t }
-    requires apart { let hs = shown half_edges.old.items in let edge = edge_at hs e in
-        let twin = edge_at hs t in
-        AreSixPlaces (length hs) e t edge.next twin.next edge.prev twin.prev }
-    requires start { let hs = shown half_edges.old.items in
-        (edge_at hs (edge_at hs t).next).origin ≡ (edge_at hs e).origin }
-    requires end { let hs = shown half_edges.old.items in
-        (edge_at hs (edge_at hs e).next).origin ≡ (edge_at hs t).origin }
-    ensures items { let hs = shown half_edges.old.items in let edge = edge_at hs e in
-        let twin = edge_at hs t in
-        shown half_edges.new.items ≡ turn_by hs e t edge twin (edge_at hs edge.next)
-        (edge_at hs edge.prev) (edge_at hs twin.next) (edge_at hs twin.prev) }
-    ensures capacity { half_edges.new.capacity ≡ half_edges.old.capacity }
-{
-    let edge = half_edges.stored(e);
-    let twin = half_edges.stored(t);
-    let start = half_edges.stored(edge.next).prev_origin;
-    let end = half_edges.stored(twin.next).prev_origin;
-    let left = edge.prev_origin;
-    let right = twin.prev_origin;
-    half_edges.set(e, end, twin.prev, edge.next, edge.face);
-    half_edges.set(t, start, edge.prev, twin.next, twin.face);
-    half_edges.set(edge.next, right, e, twin.prev, edge.face);
-    half_edges.set(twin.next, left, t, edge.prev, twin.face);
-    half_edges.set(edge.prev, right, twin.next, t, twin.face);
-    half_edges.set(twin.prev, left, edge.next, e, edge.face);
-}
 
 // Puts vertex `v` into the loop of `edge`, with three edges to it and back. The part of `edge`
 // keeps its face, and the two others become faces `g + 1` and `g + 2`.
@@ -95,7 +62,20 @@ impl<V> Links<V> {
         let t = reversed(e);
         let edge = self.half_edge(e);
         let twin = self.half_edge(t);
-        turn_edges(&mut self.half_edges, e, t);
+        let left = self.prev_origin(e);
+        let right = self.prev_origin(t);
+        self.half_edges
+            .set(e, twin.origin, twin.prev, edge.next, edge.face);
+        self.half_edges
+            .set(t, edge.origin, edge.prev, twin.next, twin.face);
+        self.half_edges
+            .set(edge.next, right, e, twin.prev, edge.face);
+        self.half_edges
+            .set(twin.next, left, t, edge.prev, twin.face);
+        self.half_edges
+            .set(edge.prev, right, twin.next, t, twin.face);
+        self.half_edges
+            .set(twin.prev, left, edge.next, e, edge.face);
         set_out_edge(&mut self.vertices, edge.origin, Some(twin.next));
         set_out_edge(&mut self.vertices, twin.origin, Some(edge.next));
         self.face_edges[edge.face as usize - 1] = e;

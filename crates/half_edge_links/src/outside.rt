@@ -9,7 +9,7 @@ ghost use Rattle.half_edge_links.specs.Grown.{AddsFaceBeside, SplitsHalfEdge};
 ghost use Rattle.half_edge_links.specs.Rest.{KeepsRest};
 
 use crate::links::Links;
-use crate::records::{close_edges, reversed, set_corner, set_next, set_prev};
+use crate::records::{reversed, set_corner, set_face, set_next, set_prev};
 use crate::vertex_list::set_out_edge;
 
 impl<V> Links<V> {
@@ -49,9 +49,20 @@ impl<V> Links<V> {
     {
         let n = self.half_edge_count() as u32;
         let g = self.inner_face_count() as u32 + 1;
-        let next = self.half_edge(e).next;
-        let after = self.half_edge(next).next;
-        close_edges(&mut self.half_edges, e, after, g);
+        let edge = self.half_edge(e);
+        let second = self.half_edge(edge.next);
+        let end = self.half_edge(second.next).origin;
+        let before = self.prev_origin(e);
+        set_next(&mut self.half_edges, edge.prev, n + 1);
+        set_next(&mut self.half_edges, edge.next, n);
+        set_prev(&mut self.half_edges, second.next, n + 1);
+        set_prev(&mut self.half_edges, e, n);
+        set_face(&mut self.half_edges, e, g);
+        set_face(&mut self.half_edges, edge.next, g);
+        set_corner(&mut self.half_edges, second.next, edge.origin);
+        set_corner(&mut self.half_edges, e, end);
+        self.half_edges.push(second.origin, e, edge.next, g);
+        self.half_edges.push(before, second.next, edge.prev, 0);
         self.outer_edge = Some(n + 1);
         self.face_edges.push_reserved(e);
     }

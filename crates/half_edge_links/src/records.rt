@@ -1,13 +1,12 @@
 //! One directed edge, how it is kept, and writes to single links of a list of them.
-ghost use Rattle.std.specs.Prelude.{◌≡◌, ◌≢◌, ◌+◌, ◌-◌, ◌<◌, ◌≤◌, length};
-ghost use Rattle.half_edge_links.specs.Mesh.{face, edge_at, origin, next, prev, rev};
+ghost use Rattle.std.specs.Prelude.{◌≡◌, ◌<◌, length};
+ghost use Rattle.half_edge_links.specs.Mesh.{rev};
 ghost use Rattle.half_edge_links.specs.EdgeList.{shown, stored_next, stored_prev};
 ghost use Rattle.half_edge_links.specs.EdgeList.{stored_face, stored_corner, stored_joined};
 ghost use Rattle.half_edge_links.specs.Places.{AreJoined, AreSlidPlaces};
-ghost use Rattle.half_edge_links.specs.Grow.{closed_edges, slid_edges};
+ghost use Rattle.half_edge_links.specs.Grow.{slid_edges};
 
 use crate::edge_list::EdgeList;
-use crate::room::MAX_ELEMENTS;
 
 /// A directed edge: where it starts, the edges after and before it in its loop, and the face on its
 /// left.
@@ -95,39 +94,6 @@ pub(crate) fn join(half_edges: &mut EdgeList, h: u32, after: u32, start: u32)
     set_next(half_edges, h, after);
     set_prev(half_edges, after, h);
     set_corner(half_edges, after, start);
-}
-
-// Makes face `g` of edge `e`, the next one and a new edge, between the edges before and after the
-// two.
-#[tactic(auto, using(crate::proofs::Stored::Shown::joined_reads))]
-pub(crate) fn close_edges(half_edges: &mut EdgeList, e: u32, after: u32, g: u32)
-    requires joined { AreJoined (shown half_edges.old.items) }
-    requires within { e < length half_edges.old.items }
-    requires after { let hs = shown half_edges.old.items in
-        after ≡ (edge_at hs (edge_at hs e).next).next }
-    requires apart { after ≢ e }
-    requires room { length half_edges.old.items + 2 ≤ half_edges.old.capacity }
-    requires small { length half_edges.old.items + 2 ≤ MAX_ELEMENTS }
-    ensures items { let hs = shown half_edges.old.items in
-        shown half_edges.new.items ≡ closed_edges hs e (edge_at hs e).next (edge_at hs e).prev after
-        (length hs) g }
-    ensures capacity { half_edges.new.capacity ≡ half_edges.old.capacity }
-{
-    let n = half_edges.len() as u32;
-    let edge = half_edges.stored(e);
-    let start = half_edges.stored(edge.next).prev_origin;
-    let third = half_edges.stored(after);
-    let end = half_edges.stored(third.next).prev_origin;
-    set_next(half_edges, edge.prev, n + 1);
-    set_next(half_edges, edge.next, n);
-    set_prev(half_edges, after, n + 1);
-    set_prev(half_edges, e, n);
-    set_face(half_edges, e, g);
-    set_face(half_edges, edge.next, g);
-    set_corner(half_edges, after, start);
-    set_corner(half_edges, e, end);
-    half_edges.push(third.prev_origin, e, edge.next, g);
-    half_edges.push(edge.prev_origin, after, edge.prev, 0);
 }
 
 // Lets edge `e`, with other side `t`, end at the far end of the edge `k` after it, whose other side

@@ -20,8 +20,6 @@ use Rattle.half_edge_links.proofs.Growing.CloseReads.{closes_edges}
 use Rattle.half_edge_links.proofs.Stored.Keeps.{keeps_shown, keeps_next, keeps_prev, keeps_face}
 use Rattle.half_edge_links.proofs.Stored.Keeps.{keeps_corner, keeps_push, shown_is, corner_shown}
 use Rattle.half_edge_links.proofs.Stored.Keeps.{corners_of, count_corners, SayOrigins, apart_joined}
-use Rattle.half_edge_links.proofs.Stored.Keeps.{corner_at}
-use Rattle.half_edge_links.proofs.Stored.Shown.{next_shown, prev_shown, face_shown}
 
 module _ (hs : List HalfEdge) (cs : List ℕ) (x v : ℕ) (x_in : x < length hs) (j : AreJoined hs)
     (count : length cs ≡ length hs) (say : SayOrigins hs cs) where
@@ -121,32 +119,24 @@ module _ (hs : List HalfEdge) (cs : List ℕ) (e g : ℕ) (e_in : e < length hs)
       ]
 
 -- the records after a corner was closed show the new face
-pub shows_closed : (rs : List StoredEdge) (e after n g : ℕ) → AreJoined (shown rs)
+pub shows_closed : (rs : List StoredEdge) (e n g : ℕ) → AreJoined (shown rs)
     → e < length (shown rs) → n ≡ length (shown rs) →
-    after ≡ (edge_at (shown rs) (edge_at (shown rs) e).next).next → after ≢ e →
-    (let hs = shown rs in let edge = stored_at rs e in let third = stored_at rs after in
+    (let hs = shown rs in let edge = edge_at hs e in (edge_at hs edge.next).next ≢ e) →
+    (let hs = shown rs in let edge = edge_at hs e in let second = edge_at hs edge.next in
     shown (stored_corner
     (stored_corner (stored_face (stored_face (stored_prev (stored_prev (stored_next
-    (stored_next rs edge.prev (n + 1)) edge.next n) after (n + 1)) e n) e g) edge.next g)
-    after (stored_at rs edge.next).prev_origin) e (stored_at rs third.next).prev_origin
-    ++ record { prev_origin = third.prev_origin; next = e; prev = edge.next; face = g } ∷ []
-    ++ record { prev_origin = edge.prev_origin; next = after; prev = edge.prev; face = 0 } ∷ [])
-    ≡ closed_edges hs e (edge_at hs e).next (edge_at hs e).prev after (length hs) g)
+    (stored_next rs edge.prev (n + 1)) edge.next n) second.next (n + 1)) e n) e g) edge.next g)
+    second.next edge.origin) e (edge_at hs second.next).origin
+    ++ record { prev_origin = second.origin; next = e; prev = edge.next; face = g } ∷ []
+    ++ record {
+      prev_origin = (edge_at hs edge.prev).origin;
+      next = second.next;
+      prev = edge.prev;
+      face = 0;
+    } ∷ [])
+    ≡ closed_edges hs e edge.next edge.prev second.next (length hs) g)
 unfolding closed_edges
-shows_closed rs e after n g j e_in count is apart =
-    let off : (edge_at (shown rs) (edge_at (shown rs) e).next).next ≢ e = rw (← is) apart in
-    let k_in = j.next_in e e_in in
-    let after_in : after < length (shown rs) = rw is (j.next_in _ k_in) in
-    rw (
-      corner_at rs _ e (j.prev_in e e_in) (j.next_prev e e_in),
-      corner_at rs _ after k_in (sym is),
-      corner_at rs after _ after_in (next_shown rs after),
-      corner_at rs e _ e_in (next_shown rs e),
-      ← (next_shown rs e),
-      ← (prev_shown rs e),
-      count,
-      is,
-    ) (shown_is _ _ _ (
+shows_closed rs e n g j e_in count off = rw count (shown_is _ _ _ (
     keeps_push _ _ _ (keeps_push _ _ _ (keeps_corner _ _ _ (keeps_corner _ _ _ (
     keeps_face _ _ _ (keeps_face _ _ _ (keeps_prev _ _ _ (keeps_prev _ _ _
     (keeps_next _ _ _ (keeps_next _ _ _ (keeps_shown rs) _ _) _ _) _ _) _ _) _ _) _ _) _ _) _ _)

@@ -8,14 +8,13 @@ use Rattle.half_edge_links.specs.declared.records.StoredEdge.{StoredEdge}
 use Rattle.half_edge_links.specs.Mesh.{edge_at, no_edge}
 use Rattle.half_edge_links.specs.Flip.{turn_by}
 use Rattle.half_edge_links.specs.Places.{AreJoined, IsLoopOfThree, AreSixPlaces}
-use Rattle.half_edge_links.specs.EdgeList.{stored_at, shown}
+use Rattle.half_edge_links.specs.EdgeList.{shown}
 use Rattle.half_edge_links.proofs.Lists.Writes.{length-set_six, get_or-set_six_a, get_or-set_six_b}
 use Rattle.half_edge_links.proofs.Lists.Writes.{get_or-set_six_c, get_or-set_six_d}
 use Rattle.half_edge_links.proofs.Lists.Writes.{get_or-set_six_e, get_or-set_six_f}
 use Rattle.half_edge_links.proofs.Lists.Writes.{get_or-set_six_other}
-use Rattle.half_edge_links.proofs.Stored.Shown.{next_shown, prev_shown, face_shown}
 use Rattle.half_edge_links.proofs.Stored.Keeps.{keeps_shown, keeps_set, shown_is, corner_shown}
-use Rattle.half_edge_links.proofs.Stored.Keeps.{corners_of, count_corners, corner_at, SayOrigins}
+use Rattle.half_edge_links.proofs.Stored.Keeps.{corners_of, count_corners, SayOrigins}
 use Rattle.half_edge_links.proofs.Stored.Keeps.{HaveOwnNexts, apart_joined}
 
 -- six directed edges follow each other round two triangles
@@ -107,14 +106,15 @@ turned_records : (rs : List StoredEdge) (e t en tn ep tp ef tf : ℕ) → AreJoi
     → AreSixPlaces (length (shown rs)) e t en tn ep tp → GoRound (shown rs) e t en tn ep tp →
     (edge_at (shown rs) tn).origin ≡ (edge_at (shown rs) e).origin
     → (edge_at (shown rs) en).origin ≡ (edge_at (shown rs) t).origin →
+    (let hs = shown rs in let left = (edge_at hs ep).origin in let right = (edge_at hs tp).origin in
     shown (set (set (set (set (set (set rs
-    e (record { prev_origin = (stored_at rs tn).prev_origin; next = tp; prev = en; face = ef }))
-    t (record { prev_origin = (stored_at rs en).prev_origin; next = ep; prev = tn; face = tf }))
-    en (record { prev_origin = (stored_at rs t).prev_origin; next = e; prev = tp; face = ef }))
-    tn (record { prev_origin = (stored_at rs e).prev_origin; next = t; prev = ep; face = tf }))
-    ep (record { prev_origin = (stored_at rs t).prev_origin; next = tn; prev = t; face = tf }))
-    tp (record { prev_origin = (stored_at rs e).prev_origin; next = en; prev = e; face = ef }))
-    ≡ turned (shown rs) (corners_of rs) e t en tn ep tp ef tf
+    e (record { prev_origin = (edge_at hs t).origin; next = tp; prev = en; face = ef }))
+    t (record { prev_origin = (edge_at hs e).origin; next = ep; prev = tn; face = tf }))
+    en (record { prev_origin = right; next = e; prev = tp; face = ef }))
+    tn (record { prev_origin = left; next = t; prev = ep; face = tf }))
+    ep (record { prev_origin = right; next = tn; prev = t; face = tf }))
+    tp (record { prev_origin = left; next = en; prev = e; face = ef }))
+    ≡ turned hs (corners_of rs) e t en tn ep tp ef tf)
 turned_records rs e t en tn ep tp ef tf j six round start end =
     shown_is _ _ _ (
     keeps_set _ _ _ (keeps_set _ _ _ (keeps_set _ _ _ (keeps_set _ _ _ (keeps_set _ _ _
@@ -122,10 +122,10 @@ turned_records rs e t en tn ep tp ef tf j six round start end =
     _ _ _ _) tp _ _ _ _ _) (
     say_turned (shown rs) (corners_of rs) e t en tn ep tp ef tf _ _ _ _ six round (count_corners rs)
     (apart_joined (shown rs) j) (corner_shown rs) (record {
-      end_is = corner_at rs t tn six.b_in round.after_t ∙ sym end;
-      start_is = corner_at rs e en six.a_in round.after_e ∙ sym start;
-      left_is = corner_at rs ep e six.e_in round.after_ep;
-      right_is = corner_at rs tp t six.f_in round.after_tp;
+      end_is = sym end;
+      start_is = sym start;
+      left_is = refl;
+      right_is = refl;
     }))
 
 module _ (rs : List StoredEdge) (e t : ℕ) (j : AreJoined (shown rs))
@@ -135,29 +135,17 @@ module _ (rs : List StoredEdge) (e t : ℕ) (j : AreJoined (shown rs))
       AreSixPlaces (length hs) e t edge.next twin.next edge.prev twin.prev) →
       (let hs = shown rs in (edge_at hs (edge_at hs t).next).origin ≡ (edge_at hs e).origin)
       → (let hs = shown rs in (edge_at hs (edge_at hs e).next).origin ≡ (edge_at hs t).origin) →
-      (let hs = shown rs in let edge = stored_at rs e in let twin = stored_at rs t in
-      shown (set (set (set (set (set (set rs e (record {
-        prev_origin = (stored_at rs twin.next).prev_origin;
-        next = twin.prev;
-        prev = edge.next;
-        face = edge.face;
-      }))
-      t (record {
-        prev_origin = (stored_at rs edge.next).prev_origin;
-        next = edge.prev;
-        prev = twin.next;
-        face = twin.face;
-      }))
-      edge.next
-      (record { prev_origin = twin.prev_origin; next = e; prev = twin.prev; face = edge.face }))
-      twin.next
-      (record { prev_origin = edge.prev_origin; next = t; prev = edge.prev; face = twin.face }))
-      edge.prev
-      (record { prev_origin = twin.prev_origin; next = twin.next; prev = t; face = twin.face }))
-      twin.prev
-      (record { prev_origin = edge.prev_origin; next = edge.next; prev = e; face = edge.face }))
-      ≡ (let edge = edge_at hs e in let twin = edge_at hs t in turn_by hs e t edge twin (edge_at hs
-      edge.next) (edge_at hs edge.prev) (edge_at hs twin.next) (edge_at hs twin.prev)))
+      (let hs = shown rs in let edge = edge_at hs e in let twin = edge_at hs t in
+      let left = (edge_at hs edge.prev).origin in let right = (edge_at hs twin.prev).origin in
+      shown (set (set (set (set (set (set rs
+      e (record { prev_origin = twin.origin; next = twin.prev; prev = edge.next; face = edge.face }))
+      t (record { prev_origin = edge.origin; next = edge.prev; prev = twin.next; face = twin.face }))
+      edge.next (record { prev_origin = right; next = e; prev = twin.prev; face = edge.face }))
+      twin.next (record { prev_origin = left; next = t; prev = edge.prev; face = twin.face }))
+      edge.prev (record { prev_origin = right; next = twin.next; prev = t; face = twin.face }))
+      twin.prev (record { prev_origin = left; next = edge.next; prev = e; face = edge.face }))
+      ≡ turn_by hs e t edge twin (edge_at hs edge.next) (edge_at hs edge.prev)
+      (edge_at hs twin.next) (edge_at hs twin.prev))
   shows_turned six start end =
       let round : GoRound (shown rs) e t (edge_at (shown rs) e).next (edge_at (shown rs) t).next
       (edge_at (shown rs) e).prev (edge_at (shown rs) t).prev = record {
@@ -168,5 +156,5 @@ module _ (rs : List StoredEdge) (e t : ℕ) (j : AreJoined (shown rs))
         after_tn = b.three;
         after_tp = j.next_prev t b.within;
       } in
-      simp (← next_shown, ← prev_shown, ← face_shown) (turned_records rs e t _ _ _ _
-      (edge_at (shown rs) e).face (edge_at (shown rs) t).face j six round start end)
+      turned_records rs e t _ _ _ _ (edge_at (shown rs) e).face (edge_at (shown rs) t).face j six round
+      start end

@@ -1,20 +1,35 @@
-use Rattle.std.proofs.Common.{arith}
+use Rattle.std.proofs.Common.{◌+◌, arith}
 use Rattle.half_edge_links.specs.Grow.{closed}
 use Rattle.half_edge_links.proofs.Sound.Valid.{valid_as, valid_closed}
+use Rattle.half_edge_links.proofs.Growing.Close.{corner}
 use Rattle.half_edge_links.proofs.Growing.Grown.{closes_corner}
+use Rattle.half_edge_links.proofs.Stored.Hung.{shows_closed}
+use Rattle.half_edge_links.proofs.Views.{joined_in}
 use Rattle.half_edge_links.proofs.links.Links.close.Goals as goal
 
-pub half_edge-after-requires : goal.half_edge-after-requires
-half_edge-after-requires g c =
-    rw c.half_edge-next.ensures.value
-    (c.half_edge-next.ensures.valid.sound.edges c.args.e c.requires.closable.within).next_in
+pub half_edge-second-requires : goal.half_edge-second-requires
+half_edge-second-requires g c = rw c.half_edge-edge.ensures.value
+    (c.half_edge-edge.ensures.sound.edges c.args.e c.requires.closable.within).next_in
+
+pub half_edge-end-requires : goal.half_edge-end-requires
+half_edge-end-requires g c =
+    let s = c.half_edge-edge.ensures.sound in
+    rw (c.half_edge-second.ensures.value, c.half_edge-edge.ensures.value)
+    (s.edges _ (s.edges c.args.e c.requires.closable.within).next_in).next_in
 
 pub returns-clause-mesh : goal.returns-clause-mesh
 unfolding closed
 returns-clause-mesh g c =
-    let after = rw (← c.self.view_is) at c.half_edge-after.ensures.value in
     let n = rw (← c.self.view_is) at c.half_edge_count-n.ensures.value in
     let faces = rw (← c.self.view_is) at c.inner_face_count.ensures.value in
+    let edge = rw (← c.self.view_is) at c.half_edge-edge.ensures.value in
+    let second = rw (← c.self.view_is) at c.half_edge-second.ensures.value in
+    let end = rw (← c.self.view_is) at c.half_edge-end.ensures.value in
+    let before = rw (← c.self.view_is) at c.prev_origin-before.ensures.value in
+    let can = rw (← c.self.view_is) at c.requires.closable in
+    let shows = shows_closed c.self.inside.half_edges.items c.args.e c.half_edge_count-n.result
+    (c.inner_face_count.result + 1) (joined_in c.self.inside c.self.invariant) can.within n
+    (corner _ _ c.self.invariant.sound can).after-first in
     rw (← c.self.view_is, c.push_reserved.ensures.items) (cc)
 
 pub invariant_of-self : goal.invariant_of-self
@@ -22,11 +37,11 @@ invariant_of-self g c =
     let few = rw (← c.self.view_is) at c.requires.room.faces_fit in
     let faces = rw (← c.self.view_is) at c.inner_face_count.ensures.value in
     valid_as _ _ (returns-clause-mesh g c)
-    (valid_closed _ _ c.half_edge-next.ensures.valid c.requires.closable (omega arith)
+    (valid_closed _ _ c.half_edge-edge.ensures.valid c.requires.closable (omega arith)
     (omega arith))
 
 pub returns-clause-closes : goal.returns-clause-closes
-returns-clause-closes g c = closes_corner _ _ _ c.half_edge-next.ensures.valid.sound
+returns-clause-closes g c = closes_corner _ _ _ c.half_edge-edge.ensures.valid.sound
     c.requires.closable (returns-clause-mesh g c)
 
 pub returns-clause-valid : goal.returns-clause-valid

@@ -5,6 +5,8 @@ use Rattle.half_edge_links.proofs.Lists.Rev.{rev-rev}
 use Rattle.half_edge_links.specs.Flip.{flip_by, flipped}
 use Rattle.half_edge_links.proofs.Sound.Triangles.{triangle_at, six_round}
 use Rattle.half_edge_links.proofs.Stored.Joined.{joined_sound, loop_of_three}
+use Rattle.half_edge_links.proofs.Stored.Shown.{length_shown}
+use Rattle.half_edge_links.proofs.Stored.Turned.{shows_turned}
 use Rattle.half_edge_links.proofs.Faces.FlipLemmas.{flips_is}
 use Rattle.half_edge_links.proofs.Removing.Conditions.{turns_between}
 use Rattle.half_edge_links.proofs.Sound.Valid.{valid_as, valid_flipped}
@@ -20,21 +22,38 @@ half_edge-twin-requires g c =
     let v = c.half_edge-edge.ensures.valid in
     rw c.reversed-t.ensures (six_round _ _ v.sound (turns_between _ _ v c.requires.between)).b_in
 
-pub turn_edges-requires : goal.turn_edges-requires
-turn_edges-requires g c =
-    let m : Mesh = mesh_in c.self.inside in
-    let s = c.self.invariant.sound in
+pub prev_origin-right-requires : goal.prev_origin-right-requires
+prev_origin-right-requires g c =
+    let v = c.half_edge-edge.ensures.valid in
+    rw c.reversed-t.ensures (six_round _ _ v.sound (turns_between _ _ v c.requires.between)).b_in
+
+pub set-requires-2 : goal.set-requires-2
+set-requires-2 g c =
     let can = turns_between _ _ c.self.invariant (rw (← c.self.view_is) at c.requires.between) in
-    let six = six_round m c.args.e s can in
-    rw c.reversed-t.ensures (record {
-      joined = joined_sound m s;
-      edge = loop_of_three m c.args.e (triangle_at m c.args.e s can.within can.inner);
-      twin = loop_of_three m (rev c.args.e)
-          (triangle_at m (rev c.args.e) s six.b_in can.twin_inner);
-      apart = six;
-      start = (s.edges (rev c.args.e) six.b_in).starts ∙ ap (origin m) (rev-rev c.args.e);
-      end = (s.edges c.args.e can.within).starts;
-    })
+    let six = six_round _ _ c.self.invariant.sound can in
+    rw (c.set.ensures.len, c.reversed-t.ensures) (rw length_shown at six.b_in)
+
+pub set-requires-4 : goal.set-requires-4
+set-requires-4 g c =
+    let can = turns_between _ _ c.self.invariant (rw (← c.self.view_is) at c.requires.between) in
+    let six = six_round _ _ c.self.invariant.sound can in
+    let twin = rw (c.reversed-t.ensures, ← c.self.view_is) at c.half_edge-twin.ensures.value in
+    rw (c.set-3.ensures.len, c.set-2.ensures.len, c.set.ensures.len, twin)
+    (rw length_shown at six.d_in)
+
+pub set-requires-6 : goal.set-requires-6
+set-requires-6 g c =
+    let can = turns_between _ _ c.self.invariant (rw (← c.self.view_is) at c.requires.between) in
+    let six = six_round _ _ c.self.invariant.sound can in
+    let twin = rw (c.reversed-t.ensures, ← c.self.view_is) at c.half_edge-twin.ensures.value in
+    rw (
+      c.set-5.ensures.len,
+      c.set-4.ensures.len,
+      c.set-3.ensures.len,
+      c.set-2.ensures.len,
+      c.set.ensures.len,
+      twin,
+    ) (rw length_shown at six.f_in)
 
 pub set_out_edge-requires : goal.set_out_edge-requires
 set_out_edge-requires g c =
@@ -87,6 +106,17 @@ unfolding flipped flip_by
 returns-clause-mesh g c =
     let edge = rw (← c.self.view_is) at c.half_edge-edge.ensures.value in
     let twin = rw (← c.self.view_is) at c.half_edge-twin.ensures.value in
+    let left = rw (← c.self.view_is) at c.prev_origin-left.ensures.value in
+    let right = rw (← c.self.view_is) at c.prev_origin-right.ensures.value in
+    let m : Mesh = mesh_in c.self.inside in
+    let s = c.self.invariant.sound in
+    let can = turns_between _ _ c.self.invariant (rw (← c.self.view_is) at c.requires.between) in
+    let six = six_round m c.args.e s can in
+    let shows = shows_turned c.self.inside.half_edges.items c.args.e (rev c.args.e) (joined_sound m s)
+    (loop_of_three m c.args.e (triangle_at m c.args.e s can.within can.inner))
+    (loop_of_three m (rev c.args.e) (triangle_at m (rev c.args.e) s six.b_in can.twin_inner)) six
+    ((s.edges (rev c.args.e) six.b_in).starts ∙ ap (origin m) (rev-rev c.args.e))
+    (s.edges c.args.e can.within).starts in
     rw (← c.self.view_is, c.set_out_edge-2.ensures.out_edges, c.set_out_edge.ensures.out_edges) (cc)
 
 pub invariant_of-self : goal.invariant_of-self
