@@ -138,8 +138,10 @@ module _ (rs : List StoredEdge) (e t : ℕ) (j : AreJoined (shown rs))
       (let hs = shown rs in let edge = edge_at hs e in let twin = edge_at hs t in
       let left = (edge_at hs edge.prev).origin in let right = (edge_at hs twin.prev).origin in
       shown (set (set (set (set (set (set rs
-      e (record { prev_origin = twin.origin; next = twin.prev; prev = edge.next; face = edge.face }))
-      t (record { prev_origin = edge.origin; next = edge.prev; prev = twin.next; face = twin.face }))
+      e
+      (record { prev_origin = twin.origin; next = twin.prev; prev = edge.next; face = edge.face }))
+      t
+      (record { prev_origin = edge.origin; next = edge.prev; prev = twin.next; face = twin.face }))
       edge.next (record { prev_origin = right; next = e; prev = twin.prev; face = edge.face }))
       twin.next (record { prev_origin = left; next = t; prev = edge.prev; face = twin.face }))
       edge.prev (record { prev_origin = right; next = twin.next; prev = t; face = twin.face }))
@@ -156,5 +158,5 @@ module _ (rs : List StoredEdge) (e t : ℕ) (j : AreJoined (shown rs))
         after_tn = b.three;
         after_tp = j.next_prev t b.within;
       } in
-      turned_records rs e t _ _ _ _ (edge_at (shown rs) e).face (edge_at (shown rs) t).face j six round
-      start end
+      turned_records rs e t _ _ _ _ (edge_at (shown rs) e).face (edge_at (shown rs) t).face j six
+      round start end

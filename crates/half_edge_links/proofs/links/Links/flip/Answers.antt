@@ -112,8 +112,8 @@ returns-clause-mesh g c =
     let s = c.self.invariant.sound in
     let can = turns_between _ _ c.self.invariant (rw (← c.self.view_is) at c.requires.between) in
     let six = six_round m c.args.e s can in
-    let shows = shows_turned c.self.inside.half_edges.items c.args.e (rev c.args.e) (joined_sound m s)
-    (loop_of_three m c.args.e (triangle_at m c.args.e s can.within can.inner))
+    let shows = shows_turned c.self.inside.half_edges.items c.args.e (rev c.args.e)
+    (joined_sound m s) (loop_of_three m c.args.e (triangle_at m c.args.e s can.within can.inner))
     (loop_of_three m (rev c.args.e) (triangle_at m (rev c.args.e) s six.b_in can.twin_inner)) six
     ((s.edges (rev c.args.e) six.b_in).starts ∙ ap (origin m) (rev-rev c.args.e))
     (s.edges c.args.e can.within).starts in
