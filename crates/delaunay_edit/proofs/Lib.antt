@@ -10,6 +10,8 @@ pub use Rattle.delaunay_paths.proofs.mesh_embedding as mesh_embedding
 pub use Rattle.delaunay_paths.proofs.delaunay_legalization_lemmas as delaunay_legalization_lemmas
 pub use Rattle.delaunay_paths.proofs.delaunay_location_lemmas as delaunay_location_lemmas
 pub use Rattle.delaunay_paths.proofs as delaunay_paths_lemmas
+pub use Rattle.delaunay_insertion.proofs as delaunay_insertion_lemmas
+pub use Rattle.delaunay_removal.proofs as delaunay_removal_lemmas
 -- What each triangulation keeps, and what callers learn of it.
 pub mod WellFormed
 pub mod Delaunay

@@ -11,6 +11,8 @@ pub use Rattle.delaunay_paths.specs.delaunay_legalization as delaunay_legalizati
 pub use Rattle.delaunay_paths.specs.delaunay_location as delaunay_location
 pub use Rattle.delaunay_paths.specs.delaunay_lines as delaunay_lines
 pub use Rattle.delaunay_paths.specs as delaunay_paths
+pub use Rattle.delaunay_insertion.specs as delaunay_insertion
+pub use Rattle.delaunay_removal.specs as delaunay_removal
 pub mod Location
 pub mod Elements
 pub mod Data
@@ -19,7 +21,6 @@ pub mod Removal
 pub mod Headline
 pub mod Edits
 pub mod Constrained
-pub mod Entry
 pub mod EdgeData
 pub mod Writing
 pub mod Storage

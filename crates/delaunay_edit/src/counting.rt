@@ -12,10 +12,10 @@ use delaunay_paths::delaunay_core::point::HasPosition;
 use delaunay_paths::delaunay_legalization::{ConstraintMarker, is_constraint_edge};
 use delaunay_paths::delaunay_lines::{Intersection, line_between_vertices};
 use delaunay_paths::half_edge_mesh::{Dcel, FixedVertexHandle, MeshViews};
-use delaunay_paths::{is_constraint_between, is_same_vertex};
+use delaunay_paths::is_constraint_between;
 
-// How many constraints end at a vertex.
-pub(crate) fn count_constraints_at<M: ConstraintMarker<UE>, V: HasPosition, DE, UE, F>(
+/// How many constraints end at a vertex.
+pub fn count_constraints_at<M: ConstraintMarker<UE>, V: HasPosition, DE, UE, F>(
     dcel: &Dcel<V, DE, UE, F>,
     vertex: FixedVertexHandle,
 ) -> usize
@@ -33,16 +33,9 @@ pub(crate) fn count_constraints_at<M: ConstraintMarker<UE>, V: HasPosition, DE, 
     count
 }
 
-// How many pieces of the path between two different vertices are no constraints, unless a
-// constraint crosses it. It is one walk, which stops at the first that does, and takes no memory.
-pub(crate) fn count_path<
-    M: ConstraintMarker<UE>,
-    V: HasPosition,
-    DE,
-    UE,
-    F,
-    P: PlaneTests<V::Scalar>,
->(
+/// How many pieces of the path between two different vertices are no constraints, unless a
+/// constraint crosses it. It is one walk, which stops at the first that does, and takes no memory.
+pub fn count_path<M: ConstraintMarker<UE>, V: HasPosition, DE, UE, F, P: PlaneTests<V::Scalar>>(
     dcel: &Dcel<V, DE, UE, F>,
     from: FixedVertexHandle,
     to: FixedVertexHandle,
@@ -69,7 +62,7 @@ pub(crate) fn count_path<
             }
             Intersection::VertexIntersection(vertex) => {
                 let next = vertex.fix();
-                if !is_same_vertex(next, at) {
+                if next != at {
                     if !is_constraint_between::<M, _, _, _, _>(dcel, at, next) {
                         count += 1;
                     }

@@ -87,7 +87,7 @@ fn two_constraint_ends<M: ConstraintMarker<UE>, V: HasPosition, DE, UE, F>(
 
 /// The far ends of the halves of a straight constraint whose middle is a vertex, if it is that of
 /// one.
-pub(crate) fn straight_halves<
+pub fn straight_halves<
     M: ConstraintMarker<UE>,
     V: HasPosition,
     DE,

@@ -4,7 +4,7 @@ ghost use Rattle.delaunay_paths.specs.half_edge_mesh.Room.{HasRoomFor};
 ghost use Rattle.delaunay_insertion.specs.Constraints.{SplitsConstraints};
 ghost use Rattle.delaunay_insertion.specs.Growth.{CanTake, GainsVertex};
 ghost use Rattle.delaunay_edit.specs.Counting.{IsSplitCount};
-ghost use Rattle.delaunay_edit.specs.Entry.{IsVacant};
+ghost use Rattle.delaunay_edit.specs.Location.{IsVacant};
 ghost use Rattle.delaunay_paths.specs.delaunay_legalization.State.{state_of};
 
 use delaunay_insertion::{FreeByDefault, insert_outside, insert_within_edge, insert_without_edges};
@@ -13,9 +13,9 @@ use delaunay_paths::delaunay_core::point::HasPosition;
 use delaunay_paths::delaunay_location::PositionInTriangulation;
 use delaunay_paths::half_edge_mesh::{Dcel, FixedVertexHandle};
 
-// The new last vertex at a position that no vertex has, and how many constraints more there are:
-// one that the position is strictly within becomes two.
-pub(crate) fn insert_at<
+/// The new last vertex at a position that no vertex has, and how many constraints more there are:
+/// one that the position is strictly within becomes two.
+pub fn insert_at<
     M: FreeByDefault<UE>,
     V: HasPosition,
     DE: Default,

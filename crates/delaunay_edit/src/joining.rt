@@ -17,7 +17,7 @@ use std::alloc::AllocError;
 
 /// Makes room to join the far ends of straight halves, if there are such, in a mesh of at most so
 /// many edges. It gives `AllocError` where memory was refused.
-pub(crate) fn reserve_to_join(
+pub fn reserve_to_join(
     crossing: &mut CrossingLists,
     halves: &Option<VertexPair>,
     edges: usize,
@@ -33,7 +33,7 @@ pub(crate) fn reserve_to_join(
 /// Joins the far ends of straight halves, whose middle `vertex` went, if there are such, and flips
 /// edges until each that is no constraint passes the circle test. `border`, `is_free` and the lists
 /// are as `legalize_pairs` has them, and for halves `reserve_to_join` has made room.
-pub(crate) fn settle<M: ConstraintMarker<UE>, V: HasPosition, DE, UE, F, P: PlaneTests<V::Scalar>>(
+pub fn settle<M: ConstraintMarker<UE>, V: HasPosition, DE, UE, F, P: PlaneTests<V::Scalar>>(
     dcel: &mut Dcel<V, DE, UE, F>,
     vertex: FixedVertexHandle,
     halves: Option<VertexPair>,

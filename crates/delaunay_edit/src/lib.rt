@@ -1,4 +1,5 @@
-//! The mesh that a triangulation holds, with its edits.
+//! The parts of the edits of a triangulation: a new vertex wherever it is, the path of a constraint
+//! counted, the halves of a straight constraint, and what is left to do where a vertex went.
 #![tactic(auto)]
 
 pub use delaunay_insertion;
@@ -6,18 +7,16 @@ pub use delaunay_paths;
 pub use delaunay_paths::{
     delaunay_core, delaunay_legalization, delaunay_lines, delaunay_location, half_edge_mesh,
 };
+pub use delaunay_removal;
 
-mod constraint_edits;
 mod counting;
 mod edge_data;
-mod edited_mesh;
 mod halves;
-mod insertion;
 mod insertion_cases;
 mod joining;
-mod removal;
-mod storage;
 
+pub use counting::{count_constraints_at, count_path};
 pub use edge_data::EdgeData;
-pub use edited_mesh::EditedMesh;
-pub use insertion::Entry;
+pub use halves::straight_halves;
+pub use insertion_cases::insert_at;
+pub use joining::{reserve_to_join, settle};

@@ -21,7 +21,7 @@ ghost use Rattle.delaunay_interface.specs.Views.{CanAddConstraint};
 use crate::triangulation_core::{
     ConstrainedDelaunayTriangulation, DelaunayTriangulation, TriangulationCore,
 };
-use delaunay_edit::EditedMesh;
+use delaunay_edit::count_path;
 use delaunay_edit::delaunay_core::HintGenerator;
 use delaunay_edit::delaunay_core::math::PlaneTests;
 use delaunay_edit::delaunay_core::point::{HasPosition, Point2};
@@ -29,7 +29,9 @@ use delaunay_edit::delaunay_legalization::{
     CdtEdge, EdgeConstraints, free_edge_data, is_constraint_edge,
 };
 use delaunay_edit::delaunay_lines::{ConflictingEdgesIterator, HasMesh, intersects_constraint};
-use delaunay_edit::delaunay_paths::{can_add_path, is_constraint_between};
+use delaunay_edit::delaunay_paths::{
+    can_add_path, edge_if_joined, edges_along, is_constraint_between, release_constraint,
+};
 use delaunay_edit::half_edge_mesh::{
     FixedDirectedEdgeHandle, FixedUndirectedEdgeHandle, FixedVertexHandle,
 };
@@ -78,7 +80,7 @@ impl<V: HasPosition, DE, UE, F, L: HintGenerator<V::Scalar>> ConstrainedDelaunay
         ensures adds { AddsConstraint V.place from to result self.old self.new }
         ensures headline { IsDelaunay V.place constraint_edges self.new }
     {
-        match self.edited.try_join(from, to, tests) {
+        match self.try_join(from, to, tests) {
             Ok(Some(made)) => Ok(made),
             Ok(None) => unreachable!(),
             Err(refused) => Err(refused),
@@ -111,7 +113,25 @@ impl<V: HasPosition, DE, UE, F, L: HintGenerator<V::Scalar>> ConstrainedDelaunay
         ensures err { OnErr result (self.new ≡ self.old) }
         ensures headline { IsDelaunay V.place constraint_edges self.new }
     {
-        self.edited.try_add_path(from, to, tests)
+        self.recall_well_formed();
+        let mut edges = Vec::new(self.alloc);
+        if from == to {
+            return Ok(edges);
+        }
+        if let Some(edge) = edge_if_joined(&self.dcel, from, to) {
+            edges.push(edge)?;
+            self.constrain(edge);
+            return Ok(edges);
+        }
+        let counted = count_path::<EdgeConstraints, _, _, _, _, _>(&self.dcel, from, to, tests);
+        let Some(missing) = counted else {
+            return Ok(edges);
+        };
+        edges.reserve(self.dcel.num_vertices())?;
+        self.add_path(from, to, missing, tests)?;
+        self.recall_well_formed();
+        edges_along(&self.dcel, from, to, tests, &mut edges);
+        Ok(edges)
     }
 
     /// Takes from an edge of the triangulation that it is a constraint, and tells whether it was
@@ -134,11 +154,20 @@ impl<V: HasPosition, DE, UE, F, L: HintGenerator<V::Scalar>> ConstrainedDelaunay
         ensures releases { ReleasesConstraint V.place edge result self.old self.new }
         ensures headline { IsDelaunay V.place constraint_edges self.new }
     {
-        self.edited.recall_invariant();
+        self.recall_well_formed();
         if !self.is_constraint_edge(edge) {
             return Ok(false);
         }
-        self.edited.release(edge, tests)?;
+        self.work.reserve(3 * self.dcel.num_vertices())?;
+        let mut flips = 0;
+        release_constraint::<EdgeConstraints, _, _, _, _, _>(
+            &mut self.dcel,
+            edge,
+            tests,
+            &mut self.work,
+            &mut flips,
+        );
+        self.num_constraints -= 1;
         Ok(true)
     }
 
@@ -157,7 +186,7 @@ impl<V: HasPosition, DE, UE, F, L: HintGenerator<V::Scalar>> ConstrainedDelaunay
     pub fn num_constraints(&self) -> usize
         ensures { result ≡ length (constraints_of self.now) }
     {
-        self.edited.num_constraints
+        self.num_constraints
     }
 
     /// Whether a constraint joins two vertices, in either order, by a look round the first. A
@@ -165,7 +194,7 @@ impl<V: HasPosition, DE, UE, F, L: HintGenerator<V::Scalar>> ConstrainedDelaunay
     pub fn exists_constraint(&self, from: FixedVertexHandle, to: FixedVertexHandle) -> bool
         ensures { IsTrue result ↔ Joins (constraints_of self.now) from to }
     {
-        self.edited.recall_invariant();
+        self.recall_well_formed();
         let mesh = self.mesh();
         if (from.index() as usize) < mesh.num_vertices() {
             return is_constraint_between::<EdgeConstraints, _, _, _, _>(mesh, from, to);
@@ -188,30 +217,35 @@ impl<V: HasPosition, DE, UE, F, L: HintGenerator<V::Scalar>> ConstrainedDelaunay
         ensures err { IfErr result (λ d. d ≡ plain) }
     {
         let TriangulationCore {
-            edited,
+            dcel,
+            work,
+            lists,
+            crossing,
+            num_constraints,
             hint_generator,
             alloc,
+            marks,
         } = plain;
-        match edited
-            .dcel
-            .map_undirected_edges(|data| free_edge_data(data))
-        {
+        match dcel.map_undirected_edges(|data| free_edge_data(data)) {
             Ok(dcel) => Ok(TriangulationCore {
-                edited: EditedMesh {
-                    dcel,
-                    work: edited.work,
-                    lists: edited.lists,
-                    crossing: edited.crossing,
-                    num_constraints: 0,
-                    marks: PhantomData,
-                },
+                dcel,
+                work,
+                lists,
+                crossing,
+                num_constraints: 0,
                 hint_generator,
                 alloc,
+                marks: PhantomData,
             }),
             Err(dcel) => Err(TriangulationCore {
-                edited: EditedMesh { dcel, ..edited },
+                dcel,
+                work,
+                lists,
+                crossing,
+                num_constraints,
                 hint_generator,
                 alloc,
+                marks,
             }),
         }
     }

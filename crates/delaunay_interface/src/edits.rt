@@ -12,10 +12,15 @@ use crate::triangulation_core::TriangulationCore;
 use delaunay_edit::delaunay_core::HintGenerator;
 use delaunay_edit::delaunay_core::math::{InsertionError, PlaneTests, validate_vertex};
 use delaunay_edit::delaunay_core::point::HasPosition;
-use delaunay_edit::delaunay_insertion::FreeByDefault;
+use delaunay_edit::delaunay_insertion::{FreeByDefault, reserve_for_vertices};
+use delaunay_edit::delaunay_legalization::{EdgeSet, legalize_vertex};
+use delaunay_edit::delaunay_location::{PositionInTriangulation, locate_with_hint};
+use delaunay_edit::delaunay_paths::CrossingLists;
+use delaunay_edit::delaunay_removal::RemovalLists;
 use delaunay_edit::half_edge_mesh::{Dcel, FixedVertexHandle};
-use delaunay_edit::{EdgeData, EditedMesh, Entry};
+use delaunay_edit::{EdgeData, insert_at};
 use std::alloc::Global;
+use std::marker::PhantomData;
 
 impl<
     V: HasPosition + Drop,
@@ -32,25 +37,14 @@ impl<
         ensures headline { IsDelaunay V.place M.constraints result }
     {
         TriangulationCore {
-            edited: EditedMesh::of_mesh(dcel, 0, alloc),
+            dcel,
+            work: EdgeSet::new(alloc),
+            lists: RemovalLists::new(alloc),
+            crossing: CrossingLists::new(alloc),
+            num_constraints: 0,
             hint_generator: L::new(alloc),
             alloc,
-        }
-    }
-
-    // Where the generator says that a search for a vertex begins, or vertex 0 where the vertex is
-    // out of range.
-    pub(crate) fn hint_for<P: PlaneTests<V::Scalar>>(
-        &self,
-        value: &V,
-        tests: &P,
-    ) -> FixedVertexHandle
-        requires sites { AreSitesWith V.place (P.sites tests.now) self.now.vertices value.now }
-    {
-        self.edited.recall_invariant();
-        match validate_vertex(value) {
-            Ok(_) => self.hint_generator.get_hint(value.position(), tests),
-            Err(_) => FixedVertexHandle::from_index(0),
+            marks: PhantomData,
         }
     }
 
@@ -80,16 +74,16 @@ impl<
         ensures headline { IsDelaunay V.place M.constraints self.new }
         ensures counted { CountsFlips (length self.new.vertices) flips.old flips.new }
     {
-        let hint = self.hint_for(&value, tests);
-        self.insert_told(value, hint, tests, flips)
+        self.insert_told(value, None, tests, flips)
     }
 
-    // Inserts a vertex by a search from `hint`, and tells the generator of it where it was
-    // appended. A count of 0 has room where there are no more vertices than a mesh can have.
+    // Inserts a vertex by a search from `hint`, or from where the generator says, and tells the
+    // generator of it where it was appended. A count of 0 has room where there are no more vertices
+    // than a mesh can have.
     pub(crate) fn insert_told<P: PlaneTests<V::Scalar>>(
         &mut self,
         value: V,
-        hint: FixedVertexHandle,
+        hint: Option<FixedVertexHandle>,
         tests: &P,
         flips: &mut u64,
     ) -> Result<FixedVertexHandle, InsertionError>
@@ -100,16 +94,27 @@ impl<
         ensures headline { IsDelaunay V.place M.constraints self.new }
         ensures counted { CountsFlips (length self.new.vertices) flips.old flips.new }
     {
-        let entry = self.edited.entry(&value, hint, tests)?;
-        match entry {
-            Entry::Occupied(vertex) => {
-                let edited = &mut self.edited;
-                let _ = edited.dcel.update_vertex(vertex, value);
+        self.recall_well_formed();
+        validate_vertex(&value)?;
+        let position = value.position();
+        let start = match hint {
+            Some(vertex) => vertex,
+            None => self.hint_generator.get_hint(position, tests),
+        };
+        let location = locate_with_hint(&self.dcel, position, start, tests);
+        match location {
+            PositionInTriangulation::OnVertex(vertex) => {
+                let _ = self.dcel.update_vertex(vertex, value);
                 Ok(vertex)
             }
-            Entry::Vacant(location) => {
-                let position = value.position();
-                let vertex = self.edited.append(location, value, tests, flips)?;
+            _ => {
+                let is_free = self.num_constraints == 0;
+                reserve_for_vertices(&mut self.dcel, &mut self.work, 1, is_free)?;
+                let dcel = &mut self.dcel;
+                let (vertex, more) = insert_at::<M, _, _, _, _, _>(dcel, location, value, tests);
+                let work = &mut self.work;
+                legalize_vertex::<M, _, _, _, _, _>(dcel, vertex, is_free, tests, work, flips);
+                self.num_constraints += more;
                 self.hint_generator
                     .notify_vertex_inserted(vertex, position, tests);
                 Ok(vertex)

@@ -6,6 +6,7 @@ pub use delaunay_edit::{delaunay_core, delaunay_legalization, delaunay_paths, ha
 pub use half_edge_voronoi;
 
 mod constraint_edges;
+mod constraint_edits;
 mod constraint_error;
 mod constraints;
 mod edits;
@@ -13,6 +14,7 @@ mod inner_faces;
 mod lookups;
 mod nearest_vertex;
 mod parts;
+mod removal;
 mod shared_calls;
 mod triangulation;
 mod triangulation_core;

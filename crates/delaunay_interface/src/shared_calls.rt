@@ -6,15 +6,16 @@ ghost use Rattle.delaunay_edit.specs.Writing.{with_face_data};
 use crate::lookups::position_if;
 use crate::triangulation::{Triangulation, sealed};
 use crate::triangulation_core::TriangulationCore;
-use delaunay_edit::EdgeData;
 use delaunay_edit::delaunay_core::HintGenerator;
 use delaunay_edit::delaunay_core::math::{InsertionError, PlaneTests};
 use delaunay_edit::delaunay_core::point::HasPosition;
-use delaunay_edit::delaunay_insertion::FreeByDefault;
+use delaunay_edit::delaunay_insertion::{FreeByDefault, reserve_for_vertices};
+use delaunay_edit::delaunay_removal::remove_vertex;
 use delaunay_edit::half_edge_mesh::{
     Dcel, FixedDirectedEdgeHandle, FixedFaceHandle, FixedUndirectedEdgeHandle, FixedVertexHandle,
     MAX_ELEMENTS, ReserveError,
 };
+use delaunay_edit::{EdgeData, reserve_to_join, settle};
 use std::alloc::{AllocError, Global};
 
 impl<V: HasPosition, DE, UE, F, L: HintGenerator<V::Scalar>, M: EdgeData<UE>> sealed::Sealed
@@ -59,7 +60,7 @@ impl<
     ghost writes_face = { λ _ _ _. refl };
 
     fn s(&self) -> &Dcel<V, DE, UE, F> {
-        &self.edited.dcel
+        &self.dcel
     }
 
     fn hint_generator(&self) -> &L {
@@ -67,7 +68,7 @@ impl<
     }
 
     fn recall_invariant(&self) {
-        self.edited.recall_invariant();
+        self.recall_well_formed();
     }
 
     fn new(alloc: Global) -> Self {
@@ -88,12 +89,11 @@ impl<
     }
 
     fn reserve(&mut self, additional: usize) -> Result<(), InsertionError> {
-        let former = self.edited.mesh().num_vertices();
-        let most = MAX_ELEMENTS / 6;
-        if additional > most || former > most - additional {
+        if additional > MAX_ELEMENTS {
             return Err(InsertionError::OutOfIndexes);
         }
-        self.edited.reserve_more(additional)
+        let is_free = self.num_constraints == 0;
+        reserve_for_vertices(&mut self.dcel, &mut self.work, additional, is_free)
     }
 
     fn insert<P: PlaneTests<V::Scalar>>(
@@ -101,9 +101,8 @@ impl<
         value: V,
         tests: &P,
     ) -> Result<FixedVertexHandle, InsertionError> {
-        let hint = self.hint_for(&value, tests);
         let mut flips = 0;
-        self.insert_told(value, hint, tests, &mut flips)
+        self.insert_told(value, None, tests, &mut flips)
     }
 
     fn insert_with_hint<P: PlaneTests<V::Scalar>>(
@@ -113,7 +112,7 @@ impl<
         tests: &P,
     ) -> Result<FixedVertexHandle, InsertionError> {
         let mut flips = 0;
-        self.insert_told(value, hint, tests, &mut flips)
+        self.insert_told(value, Some(hint), tests, &mut flips)
     }
 
     fn remove<P: PlaneTests<V::Scalar>>(
@@ -121,33 +120,61 @@ impl<
         vertex: FixedVertexHandle,
         tests: &P,
     ) -> Result<V, AllocError> {
-        self.edited.recall_invariant();
-        let removed = self.edited.take_out(vertex, tests)?;
-        let swapped_in = position_if(self.edited.mesh(), vertex);
+        self.recall_well_formed();
+        let edges = 3 * self.dcel.num_vertices();
+        self.work.reserve(edges)?;
+        self.lists.reserve_for(&self.dcel, vertex)?;
+        let border = self.sides_to_test(vertex)?;
+        let halves = self.halves_at(vertex, tests);
+        reserve_to_join(&mut self.crossing, &halves, edges)?;
+        let lost = self.count_lost(vertex, &halves);
+        let is_free = self.num_constraints == 0;
+        let removed = remove_vertex::<M, _, _, _, _, _>(
+            &mut self.dcel,
+            vertex,
+            is_free,
+            tests,
+            &mut self.lists,
+        );
+        let mut flips = 0;
+        settle::<M, _, _, _, _, _>(
+            &mut self.dcel,
+            vertex,
+            halves,
+            is_free,
+            border.as_slice(),
+            tests,
+            &mut self.lists,
+            &mut self.crossing,
+            &mut self.work,
+            &mut flips,
+        );
+        self.num_constraints -= lost;
+        let swapped_in = position_if(&self.dcel, vertex);
         self.hint_generator
             .notify_vertex_removed(swapped_in, vertex, removed.position(), tests);
         Ok(removed)
     }
 
     fn clear(&mut self) {
-        self.edited.clear();
+        self.dcel.clear();
+        self.num_constraints = 0;
         self.hint_generator = L::new(self.alloc);
     }
 
     fn replace_vertex(&mut self, vertex: FixedVertexHandle, value: V) -> V {
-        let edited = &mut self.edited;
-        edited.dcel.update_vertex(vertex, value)
+        self.dcel.update_vertex(vertex, value)
     }
 
     fn directed_edge_data_mut(&mut self, edge: FixedDirectedEdgeHandle) -> &mut DE {
-        self.edited.dcel.directed_edge_data_mut(edge)
+        self.dcel.directed_edge_data_mut(edge)
     }
 
     fn undirected_edge_data_mut(&mut self, edge: FixedUndirectedEdgeHandle) -> &mut M::User {
-        M::user_data_mut(&mut self.edited.dcel, edge)
+        M::user_data_mut(&mut self.dcel, edge)
     }
 
     fn face_data_mut(&mut self, face: FixedFaceHandle) -> &mut F {
-        self.edited.dcel.face_data_mut(face)
+        self.dcel.face_data_mut(face)
     }
 }

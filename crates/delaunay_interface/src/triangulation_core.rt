@@ -2,18 +2,22 @@
 ghost use Rattle.std.specs.Prelude.{◌≡◌, IfOk};
 ghost use Rattle.delaunay_edit.specs.delaunay_core.Place.{place_of};
 ghost use Rattle.delaunay_edit.specs.delaunay_legalization.Constraints.{constraints_by};
-ghost use Rattle.delaunay_edit.specs.Headline.{AreSites, IsDelaunay};
+ghost use Rattle.delaunay_edit.specs.delaunay_legalization.State.{state_of};
+ghost use Rattle.delaunay_edit.specs.Counting.{IsCounted};
+ghost use Rattle.delaunay_edit.specs.Headline.{AreSites, IsDelaunay, IsWellFormed};
 ghost use Rattle.delaunay_edit.specs.Storage.{IsCopy, KeepsImage};
 
+use delaunay_edit::EdgeData;
 use delaunay_edit::delaunay_core::math::PlaneTests;
 use delaunay_edit::delaunay_core::point::{HasPosition, Point2};
 use delaunay_edit::delaunay_core::{HintGenerator, LastUsedVertexHintGenerator};
-use delaunay_edit::delaunay_legalization::{CdtEdge, EdgeConstraints, NoConstraints};
+use delaunay_edit::delaunay_legalization::{CdtEdge, EdgeConstraints, EdgeSet, NoConstraints};
 use delaunay_edit::delaunay_lines::HasMesh;
+use delaunay_edit::delaunay_paths::CrossingLists;
+use delaunay_edit::delaunay_removal::RemovalLists;
 use delaunay_edit::half_edge_mesh::{Dcel, FixedVertexHandle};
-use delaunay_edit::{EdgeData, EditedMesh};
 use std::alloc::{AllocError, Global};
-use std::marker::Model;
+use std::marker::{Model, PhantomData};
 
 /// A triangulation of vertices with different positions: its faces tile the hull of the positions,
 /// or its edges join the positions of one line to their neighbours. The constraints are the edges
@@ -29,24 +33,53 @@ pub struct TriangulationCore<
     L: HintGenerator<V::Scalar>,
     M: EdgeData<UE>,
 > {
-    pub(crate) edited: EditedMesh<V, DE, UE, F, M>,
+    // The vertices, edges and faces.
+    pub(crate) dcel: Dcel<V, DE, UE, F>,
+    // The edges that a legalization has still to test: none between edits, but the room for them
+    // stays.
+    pub(crate) work: EdgeSet,
+    // What a removal lists besides.
+    pub(crate) lists: RemovalLists,
+    // The edges that cross a piece of a path while it becomes one.
+    pub(crate) crossing: CrossingLists,
+    pub(crate) num_constraints: usize,
     pub(crate) hint_generator: L,
     pub(crate) alloc: Global,
+    pub(crate) marks: PhantomData<M>,
 }
 
 impl<V: HasPosition, DE, UE, F, L: HintGenerator<V::Scalar>, M: EdgeData<UE>> Model
     for TriangulationCore<V, DE, UE, F, L, M> {
-    ghost use Rattle.std.specs.Prelude.{map};
+    ghost use Rattle.std.specs.Prelude.{◌*◌, map};
     ghost use Rattle.delaunay_edit.specs.plane.Hint.{IsAtMostOf};
-    ghost use Rattle.delaunay_edit.specs.delaunay_legalization.State.{State};
+    ghost use Rattle.delaunay_edit.specs.delaunay_legalization.State.{State, state_of};
+    ghost use Rattle.delaunay_edit.specs.Counting.{IsCounted};
 
     ghost Value = { State V DE UE F };
 
-    ghost view = { λ c. c.edited };
+    ghost view = { λ c. state_of c.dcel };
 
-    // What the generator holds are positions of vertices.
+    // The mesh is legal, the number is that of its constraints, and what the generator holds are
+    // positions of vertices.
     ghost invariant = { λ c.
-        IsAtMostOf (L.holds c.hint_generator) (map V.place c.edited.vertices) };
+        IsCounted V.place M.constraints (state_of c.dcel) c.num_constraints ×
+        IsAtMostOf (L.holds c.hint_generator) (map V.place c.dcel.vertices) };
+}
+
+impl<V: HasPosition, DE, UE, F, L: HintGenerator<V::Scalar>, M: EdgeData<UE>> TriangulationCore<
+    V,
+    DE,
+    UE,
+    F,
+    L,
+    M,
+> {
+    // Gives a proof what holds of each triangulation between edits. It does nothing when it runs.
+    pub(crate) fn recall_well_formed(&self)
+        ensures { IsWellFormed V.place M.constraints self.now }
+    {
+        self.dcel.recall_invariant();
+    }
 }
 
 impl<
@@ -76,9 +109,14 @@ impl<
         ensures headline { IfOk result (IsDelaunay V.place M.constraints) }
     {
         Ok(TriangulationCore {
-            edited: self.edited.try_clone()?,
+            dcel: self.dcel.clone()?,
+            work: EdgeSet::new(self.alloc),
+            lists: RemovalLists::new(self.alloc),
+            crossing: CrossingLists::new(self.alloc),
+            num_constraints: self.num_constraints,
             hint_generator: self.hint_generator.duplicate(),
             alloc: self.alloc,
+            marks: PhantomData,
         })
     }
 }
@@ -95,13 +133,13 @@ impl<V: HasPosition, DE, UE, F, L: HintGenerator<V::Scalar>, M: EdgeData<UE>> Ha
         requires sites { AreSites V.place (P.sites tests.now) self.now.vertices }
         requires covered { P.covered tests.now (place_of V.Scalar.whole position) }
     {
-        self.edited.recall_invariant();
+        self.recall_well_formed();
         self.hint_generator.get_hint(position, tests)
     }
 
     fn mesh(&self) -> &Dcel<V, DE, UE, F> {
-        self.edited.recall_invariant();
-        &self.edited.dcel
+        self.recall_well_formed();
+        &self.dcel
     }
 }
 

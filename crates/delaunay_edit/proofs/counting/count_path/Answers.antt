@@ -1,4 +1,4 @@
-use Rattle.std.proofs.Common.{ap}
+use Rattle.std.proofs.Common.{◌≡◌, ap, rules}
 use Rattle.delaunay_paths.proofs.delaunay_legalization_lemmas.Questions.{both_ways}
 use Rattle.delaunay_paths.specs.delaunay_lines.Items.{item_in}
 use Rattle.delaunay_edit.proofs.CountingWalk.{counting_along, counting_crosses, counting_goes_on}
@@ -36,7 +36,7 @@ pub loop-item-preserved-then-not-is_constraint_between :
 loop-item-preserved-then-not-is_constraint_between g c =
     counting_goes_on _ _ _ _ _ _ _ c.loop-item.invariant c.in-Some.ensures.steps _
     (vertex_item _ _ c.in-VertexIntersection.is _ c.fix-next.ensures.value)
-    (λ same. both_ways _ (c.is_same_vertex.ensures.1 same) c.if-not-is_same_vertex.true)
+    (search (rules, c.ne.ensures, c.if-ne.true))
     c.in-Some.ensures.goes.keeps
     (λ j. both_ways _ (c.is_constraint_between.ensures.1 j) c.if-not-is_constraint_between.true)
 
@@ -45,16 +45,17 @@ pub loop-item-preserved-else-not-is_constraint_between :
 loop-item-preserved-else-not-is_constraint_between g c =
     counting_goes_past _ _ _ _ _ _ _ c.loop-item.invariant c.in-Some.ensures.steps _
     (vertex_item _ _ c.in-VertexIntersection.is _ c.fix-next.ensures.value)
-    (λ same. both_ways _ (c.is_same_vertex.ensures.1 same) c.if-not-is_same_vertex.true)
+    (search (rules, c.ne.ensures, c.if-ne.true))
     c.in-Some.ensures.goes.keeps
     (c.is_constraint_between.ensures.0 c.if-not-is_constraint_between.false)
 
-pub loop-item-preserved-else-not-is_same_vertex : goal.loop-item-preserved-else-not-is_same_vertex
-loop-item-preserved-else-not-is_same_vertex g c =
+pub loop-item-preserved-else-ne : goal.loop-item-preserved-else-ne
+loop-item-preserved-else-ne g c =
+    let same : c.fix-next.result ≡ c.loop-item.at = search (rules, c.ne.ensures, c.if-ne.false) in
     counting_stays _ _ _ _ _ _ _ c.loop-item.invariant c.in-Some.ensures.steps
-    c.in-Some.ensures.goes.keeps (rw (c.is_same_vertex.ensures.0 c.if-not-is_same_vertex.false) at
-    (vertex_item c.in-Some.item c.in-VertexIntersection.vertex c.in-VertexIntersection.is
-    c.fix-next.result c.fix-next.ensures.value))
+    c.in-Some.ensures.goes.keeps (rw same at (vertex_item c.in-Some.item
+    c.in-VertexIntersection.vertex c.in-VertexIntersection.is c.fix-next.result
+    c.fix-next.ensures.value))
 
 pub loop-item-preserved : goal.loop-item-preserved
 loop-item-preserved g c =

@@ -10,9 +10,8 @@ pub returns : goal.returns
 returns g c = (
   (λ t. absurd (both_ways _ t refl)),
   (λ j. absurd (
-      let within = (c.recall_invariant.ensures.plain.pairs c.args.from c.args.to
-      (rw (← c.self.view_is) at j)).0 in
-      let below = rw (c.self.view_is, ← c.mesh-mesh.ensures.state) at within in
+      let within = (c.recall_well_formed.ensures.plain.pairs c.args.from c.args.to j).0 in
+      let below = rw (← c.mesh-mesh.ensures.state) at within in
       omega (
         arith,
         below,

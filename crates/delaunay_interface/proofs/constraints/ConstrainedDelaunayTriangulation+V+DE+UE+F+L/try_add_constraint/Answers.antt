@@ -1,18 +1,79 @@
-use Rattle.delaunay_interface.proofs.Kept.{held_after_path}
+use Rattle.std.proofs.Common.{◌<◌, [], ◌∷◌, ◌++◌, ◌∙◌, ℕ, List, length, ap, inl, inr, refl, sym}
+use Rattle.std.proofs.lemmas.Bool.{eq-eqb, eqb-true}
+use Rattle.delaunay_edit.specs.half_edge_mesh.Mesh.{origin, rev}
+use Rattle.delaunay_edit.specs.delaunay_legalization.CdtEdge.{is_constraint}
+use Rattle.delaunay_edit.specs.delaunay_legalization.State.{state_of}
+use Rattle.delaunay_edit.proofs.delaunay_legalization_lemmas.Questions.{both_ways}
+use Rattle.delaunay_edit.proofs.delaunay_paths_lemmas.OnePiece.{joined_is_free}
+use Rattle.delaunay_edit.specs.Constrained.{constraint_edges}
+use Rattle.delaunay_edit.proofs.EditingConstraints.{none_listed, path_is_there}
+use Rattle.delaunay_edit.proofs.OnePieceAdded.{edge_listed, list_renamed}
 use Rattle.delaunay_interface.proofs.constraints.ConstrainedDelaunayTriangulation+V+DE+UE+F+L.try_add_constraint.Goals as goal
 
-pub try_add_path-requires : goal.try_add_path-requires
-try_add_path-requires g c = record {
-  from_in = rw (← c.self.view_is) at c.requires.from_in;
-  to_in = rw (← c.self.view_is) at c.requires.to_in;
-  sites = rw (← c.self.view_is) at c.requires.sites;
+pub returns-then-eq-clause-path : goal.returns-then-eq-clause-path
+returns-then-eq-clause-path g c =
+    none_listed _ _ _ _ _ c.new-edges.ensures.items
+    (inl (eqb-true _ _ (sym c.eq.ensures ∙ c.if-eq.true)))
+
+pub returns-in_err-push-clause-none : goal.returns-in_err-push-clause-none
+returns-in_err-push-clause-none g c =
+    let kept = c.self.invariant.0.legal.kept in
+    let found = c.in-Some.ensures.some in
+    let free = joined_is_free g.V.HasPosition.place (state_of c.self.inside.dcel) kept
+    c.in-Some.edge (rw kept.fits.directed_fit at found.0) is_constraint constraint_edges
+    (λ ds. refl) c.args.from c.args.to found.1 found.2 in
+    λ barred. absurd (elim barred as (λ _. ⊥) [
+      | inl same ↦ both_ways _ (c.eq.ensures ∙ eq-eqb _ _ same) c.if-eq.false
+      | inr none ↦ none (rw (← c.self.view_is) free)
+    ])
+
+pub returns-in-Some-clause-path : goal.returns-in-Some-clause-path
+returns-in-Some-clause-path g c =
+    let old = c.args.self.now in
+    let edge = c.in-Some.edge in
+    let kept = c.recall_well_formed.ensures.kept in
+    let within : edge < length old.directed = rw (← c.self.view_is) c.in-Some.ensures.some.0 in
+    let listed = edge_listed c.constrain.ensures.adds kept (rw kept.fits.directed_fit at within)
+    c.constrain.ensures.mesh _ (c.in_ok-push.ensures.items
+    ∙ ap (λ (hs : List ℕ). hs ++ edge ∷ []) c.new-edges.ensures.items) in
+    list_renamed g.V.HasPosition.place old c.constrain.new.self _ (origin old.mesh edge)
+    (origin old.mesh (rev edge)) c.args.from c.args.to
+    (rw (← c.self.view_is) c.in-Some.ensures.some.1)
+    (rw (← c.self.view_is) c.in-Some.ensures.some.2) listed
+
+pub returns-in_default-counted-clause-path : goal.returns-in_default-counted-clause-path
+returns-in_default-counted-clause-path g c =
+    none_listed _ _ _ _ _ c.new-edges.ensures.items
+    (inr (rw (← c.self.view_is) c.in_default-counted.ensures.barred))
+
+pub add_path-requires-clause-free : goal.add_path-requires-clause-free
+add_path-requires-clause-free g c = rw (← c.self.view_is) c.in-Some-counted.ensures.free
+
+pub returns-in_err-reserve-clause-none : goal.returns-in_err-reserve-clause-none
+returns-in_err-reserve-clause-none g c = λ barred. absurd (elim barred as (λ _. ⊥) [
+  | inl same ↦ both_ways _ (c.eq.ensures ∙ eq-eqb _ _ same) c.if-eq.false
+  | inr none ↦ none (rw (← c.self.view_is) c.in-Some-counted.ensures.free)
+])
+
+pub returns-in_err-add_path-clause-none : goal.returns-in_err-add_path-clause-none
+returns-in_err-add_path-clause-none g c = λ barred. absurd (elim barred as (λ _. ⊥) [
+  | inl same ↦ both_ways _ (c.eq.ensures ∙ eq-eqb _ _ same) c.if-eq.false
+  | inr none ↦ none (rw (← c.self.view_is) c.in-Some-counted.ensures.free)
+])
+
+pub edges_along-requires-clause-joined : goal.edges_along-requires-clause-joined
+edges_along-requires-clause-joined g c =
+    rw (← c.self-2.view_is) at (path_is_there g.V.HasPosition.place c.args.self.now
+    c.add_path.new.self c.args.from c.args.to c.in_ok-add_path.ensures.plain
+    c.in_ok-add_path.ensures.headline)
+
+pub returns-clause-path : goal.returns-clause-path
+returns-clause-path g c = record {
+  refused = λ barred. absurd (elim barred as (λ _. ⊥) [
+    | inl same ↦ both_ways _ (c.eq.ensures ∙ eq-eqb _ _ same) c.if-eq.false
+    | inr none ↦ none (rw (← c.self.view_is) c.in-Some-counted.ensures.free)
+  ]);
+  plain = λ apart free. c.in_ok-add_path.ensures.plain;
+  along = λ apart free. rw (← c.self-2.view_is) c.edges_along.ensures;
+  «data» = c.in_ok-add_path.ensures.«data»;
 }
-
-pub invariant_of-self : goal.invariant_of-self
-invariant_of-self g c =
-    held_after_path g.V.HasPosition.place c.self.inside.edited c.try_add_path.new.self _
-    c.self.invariant _ _ (λ edges. edges.items) c.try_add_path.result
-    c.try_add_path.ensures.path c.try_add_path.ensures.err
-
-pub returns-clause-none : goal.returns-clause-none
-returns-clause-none g c = rw (← c.self.view_is) c.try_add_path.ensures.none

@@ -12,24 +12,20 @@ same_vertices : {V D U F : Type 0} (c : Contents V D U F) (f : ℕ) (w : F)
 same_vertices c zero w = refl
 same_vertices c (suc f) w = refl
 
-pub invariant_of-self-inside-lent : goal.invariant_of-self-inside-lent
-invariant_of-self-inside-lent g c =
-    λ w. counted_with_face _ _ _ c.args.face w _ c.self-inside.invariant
-
 pub invariant_of-self-lent : goal.invariant_of-self-lent
-invariant_of-self-lent g c =
-    λ w. held_of_same g.V.HasPosition.place _ _ _ (same_vertices _ c.args.face w)
-    (rw (← c.self-inside.view_is) at c.self.invariant)
+invariant_of-self-lent g c = λ w. (
+  counted_with_face _ _ _ c.args.face w _ c.self.invariant.0,
+  held_of_same g.V.HasPosition.place _ _ _ (same_vertices _ c.args.face w) c.self.invariant.1,
+)
 
 pub returns : goal.returns
 returns g c = (
   (
     refl,
-    λ w. face_written _ c.args.face w ∙ ap (λ s. with_face_data s c.args.face w)
-        (ap (λ i. i.edited) c.self-inside.view_is ∙ c.self.view_is),
+    λ w. face_written _ c.args.face w ∙ ap (λ s. with_face_data s c.args.face w) c.self.view_is,
   ),
   record {
     writes_back = tt;
-    value = rw (← c.self.view_is, ← c.self-inside.view_is) c.face_data_mut.ensures.value;
+    value = rw (← c.self.view_is) c.face_data_mut.ensures.value;
   },
 )

@@ -1,63 +1,123 @@
-use Rattle.std.proofs.Common.{ap}
-use Rattle.std.proofs.lemmas.Result.{err_from_is_err_and}
+use Rattle.std.proofs.Common.{◌*◌, ◌≤◌, length, arith}
+use Rattle.std.proofs.lemmas.Bool.{eqb-true}
+use Rattle.std.proofs.lemmas.Option.{IfSome_then}
+use Rattle.delaunay_edit.specs.delaunay_legalization.State.{state_of}
+use Rattle.delaunay_edit.proofs.delaunay_paths_lemmas.MovedEdges.{fewer_fit}
+use Rattle.delaunay_edit.proofs.delaunay_removal_lemmas.Passing.{fails_only_at, passes_but}
+use Rattle.delaunay_edit.proofs.EmptyRound.{none_counted}
+use Rattle.delaunay_edit.proofs.FreeRemoval.{free_circles, sides_settle}
+use Rattle.delaunay_edit.proofs.Removing.{fewer_left, sites_left}
+use Rattle.delaunay_edit.proofs.Settling.{IsTakenOut, can_settle, taken_out}
+use Rattle.delaunay_edit.proofs.WellFormed.{is_delaunay}
 use Rattle.delaunay_interface.proofs.Held.{held_after_removal, held_are_sites, removed_is_site}
 use Rattle.delaunay_interface.proofs.Held.{swapped_is_site}
-use Rattle.delaunay_interface.proofs.Kept.{held_of_same}
+use Rattle.delaunay_interface.proofs.shared_calls.TriangulationCoreTriangulation.remove.Given.{Over}
+use Rattle.delaunay_interface.proofs.shared_calls.TriangulationCoreTriangulation.remove.Goals.{After-settle}
 use Rattle.delaunay_interface.proofs.shared_calls.TriangulationCoreTriangulation.remove.Goals as goal
 
-pub take_out-requires-clause-sites : goal.take_out-requires-clause-sites
-take_out-requires-clause-sites g c =
-    let sites = rw (← c.self.view_is) at c.requires.sites in
-    sites c.recall_invariant.ensures.in_range
+-- what the removal, and the flips after it, make of the mesh
+taken : (g : Over) (c : After-settle g) → IsTakenOut g.V.HasPosition.place
+    g.M.ConstraintMarker.constraints (state_of c.self.inside.dcel) (state_of c.settle.new.dcel)
+    c.args.vertex c.self.inside.num_constraints c.count_lost-lost.result
+taken g c =
+    let met = g.met.M.ConstraintMarker in
+    taken_out _ _ _ _ _ met.constraints_are_marked met.can_mark_where_marked met.marked_has_mark _
+    c.self.invariant.0.legal _ _ _ _ c.remove_vertex-removed.ensures.takes
+    c.halves_at-halves.ensures
+    c.settle.ensures c.count_lost-lost.ensures c.self.invariant.0
 
-pub invariant_of-self : goal.invariant_of-self
-invariant_of-self g c =
-    held_of_same g.V.HasPosition.place _ _ _ (ap (λ s. s.vertices) c.in_err-removed.ensures.err)
-    c.self.invariant
+pub settle-requires-clause-can : goal.settle-requires-clause-can
+settle-requires-clause-can g c =
+    let met = g.met.M.ConstraintMarker in
+    let legal = c.self.invariant.0.legal in
+    let ds = c.remove_vertex-removed.new.dcel in
+    let takes = c.remove_vertex-removed.ensures.takes in
+    rw c.as_slice.ensures.value (can_settle _ _ _ g.M.ConstraintMarker.marked _
+    met.constraints_are_marked met.can_mark_where_marked met.marked_has_mark _ legal _ ds _ _ takes
+    c.halves_at-halves.result c.halves_at-halves.ensures _ (passes_but _ _ _ (state_of ds) _
+    c.remove_vertex-removed.result legal takes.kept takes.plain _ _ takes.faces
+    (sides_settle _ _ _ met.constraints_are_marked _ legal _ _ c.in_ok-border.ensures)))
 
-pub returns-in_err-removed-clause-removes : goal.returns-in_err-removed-clause-removes
-returns-in_err-removed-clause-removes g c =
-    let p = err_from_is_err_and c.from_residual.result c.from_residual.ensures.1 in
-    let same = c.in_err-removed.ensures.err in
-    rw (p.1, ← c.self.view_is) (record {
-      value = tt;
-      plain = tt;
-      outer = ap (λ s. s.outer) same;
-      «data» = tt;
-      err = same;
-    })
+pub settle-requires-clause-only : goal.settle-requires-clause-only
+settle-requires-clause-only g c free =
+    let marked = g.met.M.ConstraintMarker.constraints_are_marked in
+    let legal = c.self.invariant.0.legal in
+    let ds = c.remove_vertex-removed.new.dcel in
+    let takes = c.remove_vertex-removed.ensures.takes in
+    rw c.as_slice.ensures.value (fails_only_at _ _ _ (state_of ds) _ c.remove_vertex-removed.result
+    legal takes.kept takes.plain _ _ takes.faces
+    (sides_settle _ _ _ marked _ legal _ _ c.in_ok-border.ensures)
+    (free_circles _ _ _ marked _ legal c.args.vertex c.in_ok-border.border.items
+    (none_counted _ _ _ _ c.self.invariant.0 (eqb-true _ _ free))))
+
+pub settle-requires-clause-sites : goal.settle-requires-clause-sites
+settle-requires-clause-sites g c =
+    sites_left _ g.M.ConstraintMarker.constraints (state_of c.self.inside.dcel)
+    (state_of c.remove_vertex-removed.new.dcel) _ c.remove_vertex-removed.result
+    c.remove_vertex-removed.ensures.takes.plain (g.P.PlaneTests.sites c.args.tests.now)
+    ((rw (← c.self.view_is) at c.requires.sites)
+    (rw (← c.self.view_is) at c.recall_well_formed.ensures.in_range))
+
+pub settle-requires-clause-room : goal.settle-requires-clause-room
+settle-requires-clause-room g c =
+    let fewer : length c.remove_vertex-removed.new.dcel.vertices
+    ≤ length c.self.inside.dcel.vertices =
+    fewer_left _ g.M.ConstraintMarker.constraints (state_of c.self.inside.dcel)
+    (state_of c.remove_vertex-removed.new.dcel) _ c.remove_vertex-removed.result
+    c.remove_vertex-removed.ensures.takes.plain in
+    let size = c.num_vertices-edges.ensures.value in
+    let room = c.in_ok-reserve.ensures.room in
+    let tested = c.in_ok-reserve_for.ensures.tested in
+    let same = c.remove_vertex-removed.ensures.capacity in
+    record {
+      edges = omega (arith, fewer, size, room);
+      among = omega (arith, fewer, tested, same);
+      crossing_edges = IfSome_then c.halves_at-halves.result c.in_ok-reserve_to_join.ensures
+          (λ _ room. fewer_fit (3 * c.num_vertices-edges.result) _ _ (omega (arith, fewer, size))
+          room);
+    }
+
+pub overflow_sub-self : goal.overflow_sub-self
+overflow_sub-self g c = (taken g (goal.at.overflow_sub-self g c).After-settle).some
 
 pub notify_vertex_removed-requires : goal.notify_vertex_removed-requires
 notify_vertex_removed-requires g c =
     let sites = rw (← c.self.view_is) at c.requires.sites in
-    let all = sites c.recall_invariant.ensures.in_range in
-    let removed = c.in_ok-removed.ensures in
+    let all = sites (rw (← c.self.view_is) at c.recall_well_formed.ensures.in_range) in
+    let now = taken g (goal.at.notify_vertex_removed-requires g c).After-settle in
     record {
-      held = held_are_sites _ _ _ c.self.invariant all;
+      held = held_are_sites _ _ _ c.self.invariant.1 all;
       site = rw c.position.ensures (removed_is_site g.V.HasPosition.place _ _ _
-          (g.P.PlaneTests.sites c.args.tests.now) removed.value all);
+          (g.P.PlaneTests.sites c.args.tests.now) c.remove_vertex-removed.ensures.takes.value all);
       swapped_site = swapped_is_site g.V.HasPosition.place g.M.ConstraintMarker.constraints
-          c.self.inside.edited c.take_out.new.self _ c.in_ok-removed.removed removed.plain _
-          (λ p e. rw (← c.mesh.ensures) (c.position_if-swapped_in.ensures p e))
-          (g.P.PlaneTests.sites c.args.tests.now) all;
+          (state_of c.self.inside.dcel) (state_of c.settle.new.dcel) _
+          c.remove_vertex-removed.result now.plain _
+          c.position_if-swapped_in.ensures (g.P.PlaneTests.sites c.args.tests.now) all;
     }
 
-pub invariant_of-self-2 : goal.invariant_of-self-2
-invariant_of-self-2 g c =
-    let removed = c.in_ok-removed.ensures in
-    held_after_removal g.V.HasPosition.place g.M.ConstraintMarker.constraints
-    c.self.inside.edited c.take_out.new.self _ c.in_ok-removed.removed removed.plain _
-    (λ p e. rw (← c.mesh.ensures) (c.position_if-swapped_in.ensures p e)) removed.value
-    (g.L.HintGenerator.holds c.self.inside.hint_generator) _ c.self.invariant
-    (rw (← c.position.ensures) c.notify_vertex_removed.ensures)
+pub invariant_of-self-5 : goal.invariant_of-self-5
+invariant_of-self-5 g c =
+    let now = taken g (goal.at.invariant_of-self-5 g c).After-settle in (
+      now.counted,
+      held_after_removal g.V.HasPosition.place g.M.ConstraintMarker.constraints
+          (state_of c.self.inside.dcel) (state_of c.settle.new.dcel) _
+          c.remove_vertex-removed.result now.plain _ c.position_if-swapped_in.ensures
+          c.remove_vertex-removed.ensures.takes.value
+          (g.L.HintGenerator.holds c.self.inside.hint_generator) _ c.self.invariant.1
+          (rw (← c.position.ensures) c.notify_vertex_removed.ensures),
+    )
 
-pub returns-clause-removes : goal.returns-clause-removes
-returns-clause-removes g c =
-    let removed = c.in_ok-removed.ensures in
+pub returns : goal.returns
+returns g c =
+    let now = taken g (goal.at.returns g c).After-settle in
     rw (← c.self.view_is) (record {
-      value = removed.value;
-      plain = removed.plain;
-      outer = removed.«data».outer;
-      «data» = removed.«data»;
-      err = tt;
+      removes = record {
+        value = c.remove_vertex-removed.ensures.takes.value;
+        plain = now.plain;
+        outer = now.«data».outer;
+        «data» = now.«data»;
+        err = tt;
+      };
+      headline = is_delaunay _ _ _ g.met.M.ConstraintMarker.constraints_are_marked _
+          now.counted.legal;
     })

@@ -1,17 +1,18 @@
 use Rattle.std.proofs.Common.{◌+◌, ◌/◌, length, refl, ap, arith}
 use Rattle.std.specs.Prelude.{Contains}
-use Rattle.delaunay_paths.specs.delaunay_legalization.CdtEdge.{is_constraint}
-use Rattle.delaunay_paths.specs.delaunay_legalization.State.{state_of}
-use Rattle.delaunay_paths.proofs.delaunay_legalization_lemmas.Questions.{both_ways}
+use Rattle.delaunay_edit.specs.delaunay_legalization.CdtEdge.{is_constraint}
+use Rattle.delaunay_edit.specs.delaunay_legalization.State.{state_of}
+use Rattle.delaunay_edit.proofs.delaunay_legalization_lemmas.Questions.{both_ways}
 use Rattle.delaunay_edit.specs.Constrained.{constraint_edges}
 use Rattle.delaunay_edit.specs.Counting.{IsCounted}
 use Rattle.delaunay_edit.proofs.EditingConstraints.{edges_marked, path_added}
 use Rattle.delaunay_edit.proofs.OnePieceAdded.{none_added, not_joined, one_missing}
 use Rattle.delaunay_edit.proofs.Recounted.{counted_added, few_counted}
 use Rattle.delaunay_edit.proofs.WellFormed.{is_delaunay}
-use Rattle.delaunay_edit.proofs.constraint_edits.ConstrainedMesh+V+DE+UE+F.constrain.Given.{Over}
-use Rattle.delaunay_edit.proofs.constraint_edits.ConstrainedMesh+V+DE+UE+F.constrain.Goals.{After-constrain_edge}
-use Rattle.delaunay_edit.proofs.constraint_edits.ConstrainedMesh+V+DE+UE+F.constrain.Goals as goal
+use Rattle.delaunay_interface.proofs.Kept.{held_of_same}
+use Rattle.delaunay_interface.proofs.constraint_edits.ConstrainedDelaunayTriangulation+V+DE+UE+F+L.constrain.Given.{Over}
+use Rattle.delaunay_interface.proofs.constraint_edits.ConstrainedDelaunayTriangulation+V+DE+UE+F+L.constrain.Goals.{After-constrain_edge}
+use Rattle.delaunay_interface.proofs.constraint_edits.ConstrainedDelaunayTriangulation+V+DE+UE+F+L.constrain.Goals as goal
 
 -- the edge was no constraint
 free : (g : Over) (c : After-constrain_edge g)
@@ -22,13 +23,13 @@ free g c there = both_ways _ (c.is_constraint_edge.ensures.1 (rw c.as_undirected
 -- and there is one more
 counted : (g : Over) (c : After-constrain_edge g) → IsCounted g.V.HasPosition.place
     constraint_edges (state_of c.constrain_edge.new.dcel) (c.self.inside.num_constraints + 1)
-counted g c = counted_added is_constraint (λ ds. refl) c.self.invariant
+counted g c = counted_added is_constraint (λ ds. refl) c.self.invariant.0
     c.constrain_edge.ensures.adds (one_missing g.V.HasPosition.place c.self.inside.dcel
-    c.self.invariant.legal.kept c.args.edge (rw (← c.self.view_is) at c.requires) (free g c))
+    c.self.invariant.0.legal.kept c.args.edge (rw (← c.self.view_is) at c.requires) (free g c))
 
 pub is_constraint_edge-requires : goal.is_constraint_edge-requires
 is_constraint_edge-requires g c =
-    let fits = c.self.invariant.legal.kept.fits in
+    let fits = c.self.invariant.0.legal.kept.fits in
     let edges = fits.undirected_fit in
     let directed = fits.directed_fit in
     let within = rw (← c.self.view_is) at c.requires in
@@ -38,7 +39,7 @@ is_constraint_edge-requires g c =
 pub returns-then-is_constraint_edge-clause-adds : goal.returns-then-is_constraint_edge-clause-adds
 returns-then-is_constraint_edge-clause-adds g c =
     rw (← c.self.view_is) (none_added g.V.HasPosition.place c.self.inside.dcel
-    c.self.invariant.legal.kept c.args.edge (rw (← c.self.view_is) at c.requires)
+    c.self.invariant.0.legal.kept c.args.edge (rw (← c.self.view_is) at c.requires)
     (rw c.as_undirected.ensures at (c.is_constraint_edge.ensures.0 c.if-is_constraint_edge.true)))
 
 pub overflow_add-self : goal.overflow_add-self
@@ -46,17 +47,21 @@ overflow_add-self g c =
     let room = few_counted is_constraint (λ ds. refl)
     (counted g (goal.at.overflow_add-self g c).After-constrain_edge) in
     let same = ap (λ vs. length vs) c.constrain_edge.ensures.adds.plain.vertices in
-    let few = rw (← c.self.view_is) at c.recall_invariant.ensures.small in
+    let few = rw (← c.self.view_is) at c.recall_well_formed.ensures.small in
     omega (arith, room, same, few)
 
 pub invariant_of-self : goal.invariant_of-self
-invariant_of-self g c = counted g (goal.at.invariant_of-self g c).After-constrain_edge
+invariant_of-self g c = (
+  counted g (goal.at.invariant_of-self g c).After-constrain_edge,
+  held_of_same g.V.HasPosition.place _ _ _
+      (ap (λ d. d.vertices) c.constrain_edge.ensures.adds.contents) c.self.invariant.1,
+)
 
 pub returns-clause-adds : goal.returns-clause-adds
 returns-clause-adds g c =
     let adds = c.constrain_edge.ensures.adds in
     rw (← c.self.view_is) (path_added _ _ _ _ _ adds.plain _ refl (not_joined
-    g.V.HasPosition.place c.self.inside.dcel c.self.invariant.legal.kept c.args.edge
+    g.V.HasPosition.place c.self.inside.dcel c.self.invariant.0.legal.kept c.args.edge
     (rw (← c.self.view_is) at c.requires) (free g (goal.at.returns-clause-adds g
     c).After-constrain_edge)) (edges_marked _ _ _ _ _ adds))
 

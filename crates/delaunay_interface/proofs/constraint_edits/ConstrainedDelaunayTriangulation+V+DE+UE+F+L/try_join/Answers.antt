@@ -1,0 +1,41 @@
+use Rattle.std.proofs.Common.{◌∙◌, refl, sym}
+use Rattle.std.proofs.lemmas.Bool.{eqb-true}
+use Rattle.std.proofs.lemmas.Result.{err_from_is_err_and}
+use Rattle.delaunay_edit.proofs.EditingConstraints.{nothing_added, path_added}
+use Rattle.delaunay_edit.proofs.OnePieceAdded.{edge_told, none_missing, none_to_itself, some_missing}
+use Rattle.delaunay_interface.proofs.constraint_edits.ConstrainedDelaunayTriangulation+V+DE+UE+F+L.try_join.Goals as goal
+
+pub returns-then-eq-clause-adds : goal.returns-then-eq-clause-adds
+returns-then-eq-clause-adds g c =
+    none_to_itself _ _ c.recall_well_formed.ensures.kept _ _ c.requires.from_in
+    (eqb-true _ _ (sym c.eq.ensures ∙ c.if-eq.true))
+
+pub returns-in-Some-clause-adds : goal.returns-in-Some-clause-adds
+returns-in-Some-clause-adds g c =
+    edge_told c.constrain.ensures.adds (rw (← c.self.view_is) c.in-Some.ensures.some.1)
+    (rw (← c.self.view_is) c.in-Some.ensures.some.2)
+
+pub returns-in_default-counted-clause-adds : goal.returns-in_default-counted-clause-adds
+returns-in_default-counted-clause-adds g c =
+    (rw (← c.self.view_is) c.in_default-counted.ensures.barred, refl)
+
+pub returns-then-missing-eq0-clause-adds : goal.returns-then-missing-eq0-clause-adds
+returns-then-missing-eq0-clause-adds g c =
+    let counted = c.in-Some-counted.ensures in
+    rw (← c.self.view_is) (nothing_added _ _ _ _ _ refl (rw (← c.self.view_is) at
+    c.requires.from_in) (rw (← c.self.view_is) at c.requires.to_in) counted.free
+    (none_missing _ _ _ _ _ counted.missing c.if-missing-eq0.true))
+
+pub add_path-requires-clause-free : goal.add_path-requires-clause-free
+add_path-requires-clause-free g c = rw (← c.self.view_is) c.in-Some-counted.ensures.free
+
+pub returns-in_err-add_path-clause-adds : goal.returns-in_err-add_path-clause-adds
+returns-in_err-add_path-clause-adds g c =
+    let p = err_from_is_err_and c.from_residual.result c.from_residual.ensures.1 in
+    rw p.1 (rw (← c.self.view_is) c.in-Some-counted.ensures.free, c.in_err-add_path.ensures.err)
+
+pub returns-clause-adds : goal.returns-clause-adds
+returns-clause-adds g c =
+    let added = c.in_ok-add_path.ensures in
+    path_added _ _ _ _ _ added.plain _ refl (rw (← c.self.view_is) (some_missing _ _ _ _ _
+    c.in-Some-counted.ensures.missing c.if-missing-eq0.false)) added.«data»

@@ -1,0 +1,114 @@
+//! Edges and paths that become constraints, and room for it.
+ghost use Rattle.std.specs.Prelude.{◌≡◌, ◌*◌, ◌<◌, ℕ, length, map, All, Ok, OnErr, OnOk};
+ghost use Rattle.delaunay_edit.specs.half_edge_mesh.Mesh.{origin, rev};
+ghost use Rattle.delaunay_edit.specs.plane.Plain.{Adds, CanAdd};
+ghost use Rattle.delaunay_edit.specs.Constrained.{constrained, constraint_edges, constraints_of};
+ghost use Rattle.delaunay_edit.specs.ConstraintEdits.{AddsConstraint, AddsIfFree};
+ghost use Rattle.delaunay_edit.specs.ConstraintEdits.{MarksEdges, MayJoin};
+ghost use Rattle.delaunay_edit.specs.Counting.{HasPairs, IsMissing};
+ghost use Rattle.delaunay_edit.specs.Headline.{IsDelaunay};
+
+use crate::triangulation_core::ConstrainedDelaunayTriangulation;
+use delaunay_edit::count_path;
+use delaunay_edit::delaunay_core::HintGenerator;
+use delaunay_edit::delaunay_core::math::PlaneTests;
+use delaunay_edit::delaunay_core::point::HasPosition;
+use delaunay_edit::delaunay_legalization::{EdgeConstraints, is_constraint_edge};
+use delaunay_edit::delaunay_paths::{add_constraints, constrain_edge, edge_if_joined};
+use delaunay_edit::half_edge_mesh::{FixedDirectedEdgeHandle, FixedVertexHandle};
+use std::alloc::AllocError;
+
+impl<V: HasPosition, DE, UE, F, L: HintGenerator<V::Scalar>> ConstrainedDelaunayTriangulation<
+    V,
+    DE,
+    UE,
+    F,
+    L,
+> {
+    // Makes an edge a constraint, unless it is one, and tells whether it was none. No edge is
+    // turned for it, so it takes no memory.
+    pub(crate) fn constrain(&mut self, edge: FixedDirectedEdgeHandle) -> bool
+        requires { edge < length self.old.directed }
+        ensures adds { let m = self.old.mesh in AddsConstraint V.place {E = ℕ} (origin m edge)
+            (origin m (rev edge)) (Ok result) self.old self.new }
+        ensures mesh { self.new.mesh ≡ self.old.mesh }
+        ensures headline { IsDelaunay V.place constraint_edges self.new }
+    {
+        self.recall_well_formed();
+        if is_constraint_edge::<EdgeConstraints, _, _, _, _>(&self.dcel, edge.as_undirected()) {
+            return false;
+        }
+        constrain_edge::<EdgeConstraints, _, _, _, _>(&mut self.dcel, edge);
+        self.num_constraints += 1;
+        true
+    }
+
+    // Adds the path between two vertices, of which so many pieces are no constraints, or a refusal
+    // that changes nothing.
+    pub(crate) fn add_path<P: PlaneTests<V::Scalar>>(
+        &mut self,
+        from: FixedVertexHandle,
+        to: FixedVertexHandle,
+        missing: usize,
+        tests: &P,
+    ) -> Result<(), AllocError>
+        requires within { (from < length self.old.vertices) × (to < length self.old.vertices) }
+        requires missing { HasPairs (IsMissing (map V.place self.old.vertices)
+            (constraints_of self.old) from to) missing }
+        requires free { CanAdd V.place (constrained self.old) from to }
+        requires sites { All (P.sites tests.now) (map V.place self.old.vertices) }
+        ensures plain { OnOk result (Adds V.place (constrained self.old) (constrained self.new) from
+            to) }
+        ensures data { OnOk result (MarksEdges self.old self.new) }
+        ensures headline { IsDelaunay V.place constraint_edges self.new }
+        ensures err { OnErr result (self.new ≡ self.old) }
+    {
+        self.recall_well_formed();
+        let edges = 3 * self.dcel.num_vertices();
+        self.work.reserve(edges)?;
+        self.crossing.reserve(edges)?;
+        let mut flips = 0;
+        add_constraints::<EdgeConstraints, _, _, _, _, _>(
+            &mut self.dcel,
+            from,
+            to,
+            tests,
+            &mut self.crossing,
+            &mut self.work,
+            &mut flips,
+        );
+        self.num_constraints += missing;
+        Ok(())
+    }
+
+    // Makes constraints of the pieces of the path between two vertices, and tells whether one was
+    // none, unless a constraint crosses the path: then it tells that by `None`, and takes no
+    // memory.
+    pub(crate) fn try_join<P: PlaneTests<V::Scalar>>(
+        &mut self,
+        from: FixedVertexHandle,
+        to: FixedVertexHandle,
+        tests: &P,
+    ) -> Result<Option<bool>, AllocError>
+        requires { MayJoin V.place (P.sites tests.now) self.old from to }
+        ensures adds { AddsIfFree V.place from to result self.old self.new }
+        ensures headline { IsDelaunay V.place constraint_edges self.new }
+    {
+        self.recall_well_formed();
+        if from == to {
+            return Ok(Some(false));
+        }
+        if let Some(edge) = edge_if_joined(&self.dcel, from, to) {
+            return Ok(Some(self.constrain(edge)));
+        }
+        let counted = count_path::<EdgeConstraints, _, _, _, _, _>(&self.dcel, from, to, tests);
+        let Some(missing) = counted else {
+            return Ok(None);
+        };
+        if missing == 0 {
+            return Ok(Some(false));
+        }
+        self.add_path(from, to, missing, tests)?;
+        Ok(Some(true))
+    }
+}
