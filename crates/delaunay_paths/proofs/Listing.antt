@@ -1,8 +1,7 @@
 -- The edges that cross a piece of a path are listed by the walk along it, each once.
 -- Notions: IsMet, AreListed, IsTwin, IsListingPiece; not_before_itself, none_listed, other_item,
 -- few_listed, not_listed, edge_more, room_for_more, piece_listed, twin_of, piece_walk_begins,
--- piece_walk_has_room, piece_walk_crosses, piece_walk_stays, piece_walk_along, piece_walk_ends,
--- piece_on.
+-- piece_walk_has_room, piece_walk_crosses, piece_walk_stays, piece_walk_along, piece_walk_ends.
 use Rattle.std.proofs.Common.{◌≡◌, ◌≢◌, ◌*◌, ◌/◌, ◌<◌, ◌≤◌, [], ◌∷◌, ◌++◌, ◌∙◌}
 use Rattle.std.proofs.Common.{◌⊎◌, ℕ, List, length, map, Some, sym, ap, subst}
 use Rattle.std.proofs.Common.{refl, arith, vec_capacity}
@@ -43,12 +42,11 @@ use Rattle.delaunay_lines.specs.declared.iterator.LineIntersectionIterator.{Line
 use Rattle.delaunay_lines.specs.Items.{item_in, mesh_of}
 use Rattle.delaunay_lines.specs.Walk.{GivesNext, IsReady}
 use Rattle.delaunay_paths.specs.Crossing.{AreAllCrossing, CrossesFromRight}
-use Rattle.delaunay_paths.specs.Lists.{HaveRoom, KeepEntries, KeepRoom, ListPiece}
+use Rattle.delaunay_paths.specs.Lists.{HaveRoom, KeepRoom, ListPiece}
 use Rattle.delaunay_paths.specs.declared.crossing.CrossingLists.{CrossingLists}
 use Rattle.delaunay_paths.proofs.Beginning.{crossed_one_way, met_before, part_meets, whole_meets}
 use Rattle.delaunay_paths.proofs.MetEdges.{crossed_twin, crosses_if_met, met_if_crosses}
 use Rattle.delaunay_paths.proofs.MovedEdges.{ListsAllCrossing, crossing_begins, room_on, room_stays}
-use Rattle.delaunay_paths.proofs.MovedEdges.{turn_on}
 use Rattle.delaunay_paths.proofs.NextVertex.{SeeksNext, list_on, seeking_finds, seeking_goes_on}
 use Rattle.delaunay_paths.proofs.NextVertex.{two_ends}
 use Rattle.delaunay_paths.proofs.Passing.{earlier_ones, later_ones}
@@ -500,9 +498,3 @@ module _ {V D U F P S : Type 0} {at : V → Point} {number : S → ℤ}
             crossing_begins l all_listed listing.none (room_stays listing.room refl fits);
       };
     }
-
--- they are that also where they are seen in another order
-pub piece_on : {V D U F : Type 0} {points : List Point} {c : Contents V D U F} {i j v : ℕ}
-    {old new : CrossingLists} → ListPiece points c i j v old → KeepEntries old new
-    → ListPiece points c i j v new
-piece_on piece same = record { next = piece.next; turn = turn_on piece.turn same }

@@ -1,9 +1,9 @@
 -- Edges that cross a segment move from one of their lists to the other.
 -- Notions: ListsAllCrossing; nothing_left, less_by_room, shorter, longer, room_on, room_stays,
--- fewer_fit, can_step, can_wait, entries_on, entries_begin, crossing_on, turn_on,
--- crossing_begins, held_with_room, moved_back, none_waits, none_taken, others_taken, others_wait.
+-- fewer_fit, can_step, can_wait, crossing_on, turn_on, crossing_begins, held_with_room,
+-- moved_back, none_waits, none_taken, others_taken, others_wait.
 use Rattle.std.proofs.Common.{◌≡◌, ◌+◌, ◌-◌, ◌<◌, ◌≤◌, ◌≢◌, [], ◌∷◌, ◌++◌, ◌∙◌}
-use Rattle.std.proofs.Common.{ℕ, List, length, take, refl, sym, ap, subst, arith}
+use Rattle.std.proofs.Common.{ℕ, List, length, take, sym, ap, subst, arith}
 use Rattle.std.proofs.Common.{append-nil}
 use Rattle.std.proofs.Common.{length-append, vec_len, vec_capacity}
 use mathlib.Core.Logic.{inl, inr}
@@ -128,25 +128,6 @@ module _ {l : CrossingLists} (held : AreHeld l) (left : List ℕ) (e : ℕ) wher
     where
       one_fewer : (a b c room : ℕ) → b ≡ c + 1 → a + b ≤ room → a + c + 1 ≤ room
       one_fewer a b c room f fits = omega arith
-
--- entries that stay twice stay
-pub entries_on : {old now new : CrossingLists} → KeepEntries old now → KeepEntries now new
-    → KeepEntries old new
-entries_on a b = record {
-  held = b.held;
-  room = room_on a.room b.room;
-  kept = λ h there. b.kept h (a.kept h there);
-  only = λ h there. a.only h (b.only h there);
-}
-
--- at the beginning they are as they were
-pub entries_begin : {old : CrossingLists} → AreHeld old → KeepEntries old old
-entries_begin held = record {
-  held = held;
-  room = record { waiting = refl; unseen = refl };
-  kept = λ h there. there;
-  only = λ h there. there;
-}
 
 -- where their edges are all that cross, the same edges are
 pub crossing_on : {points : List Point} {m : Mesh} {i j : ℕ} {old new : CrossingLists}

@@ -2,7 +2,7 @@
 ghost use Rattle.std.specs.Prelude.{◌≡◌, ◌<◌, [], length, map, All, MatchOption, OnOk};
 ghost use Rattle.delaunay_lines.specs.plane_tiling.Local.{IsMesh};
 ghost use Rattle.delaunay_lines.specs.mesh_embedding.Drawn.{faces_of, outer_of};
-ghost use Rattle.delaunay_paths.specs.Lists.{AreHeld, HaveRoom, KeepEntries, KeepRoom, ListPiece};
+ghost use Rattle.delaunay_paths.specs.Lists.{HaveRoom, KeepRoom, ListPiece};
 
 use delaunay_lines::delaunay_core::math::PlaneTests;
 use delaunay_lines::delaunay_core::point::HasPosition;
@@ -42,20 +42,9 @@ impl CrossingLists {
         self.unseen.reserve(edges)
     }
 
-    // All that wait are to be seen again, the first of them next.
-    pub(crate) fn see_again(&mut self)
-        requires { AreHeld self.old }
-        ensures none { self.new.waiting.items ≡ [] }
-        ensures entries { KeepEntries self.old self.new }
-    {
-        while let Some(edge) = self.waiting.pop() {
-            self.unseen.push_reserved(edge);
-        }
-    }
-
     // Lists the edges that cross the first piece of the path between two vertices, in place of what
-    // was listed, and gives the vertex where it ends, unless the two are one. The first edge on the
-    // way is to be seen first. It is one walk, which stops at that vertex.
+    // was listed, and gives the vertex where it ends, unless the two are one. All of them wait, in
+    // their order on the way. It is one walk, which stops at that vertex.
     pub(crate) fn list_piece<V: HasPosition, DE, UE, F, P: PlaneTests<V::Scalar>>(
         &mut self,
         dcel: &Dcel<V, DE, UE, F>,
@@ -87,7 +76,6 @@ impl CrossingLists {
                 Intersection::VertexIntersection(vertex) => {
                     let next = vertex.fix();
                     if next != from {
-                        self.see_again();
                         return Some(next);
                     }
                 }

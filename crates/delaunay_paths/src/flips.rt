@@ -51,7 +51,10 @@ fn next_turn<V: HasPosition, DE, UE, F, P: PlaneTests<V::Scalar>>(
     if let Some(edge) = seek(dcel, from, to, tests, lists) {
         return Some(edge);
     }
-    lists.see_again();
+    // All that wait are to be seen again, the first of them next.
+    while let Some(edge) = lists.waiting.pop() {
+        lists.unseen.push_reserved(edge);
+    }
     seek(dcel, from, to, tests, lists)
 }
 

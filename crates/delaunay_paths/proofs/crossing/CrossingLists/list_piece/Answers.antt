@@ -1,10 +1,9 @@
 use Rattle.std.proofs.Common.{◌≡◌, ◌∙◌, ap, eq-eqb, refl, rules}
 use Rattle.delaunay_lines.specs.Items.{item_in}
 use Rattle.delaunay_lines.proofs.delaunay_legalization_lemmas.Questions.{both_ways}
-use Rattle.delaunay_paths.proofs.Listing.{piece_on, piece_walk_along, piece_walk_begins}
-use Rattle.delaunay_paths.proofs.Listing.{piece_walk_crosses, piece_walk_ends, piece_walk_has_room}
-use Rattle.delaunay_paths.proofs.Listing.{piece_walk_stays, twin_of}
-use Rattle.delaunay_paths.proofs.MovedEdges.{room_on}
+use Rattle.delaunay_paths.proofs.Listing.{piece_walk_along, piece_walk_begins, piece_walk_crosses}
+use Rattle.delaunay_paths.proofs.Listing.{piece_walk_ends, piece_walk_has_room, piece_walk_stays}
+use Rattle.delaunay_paths.proofs.Listing.{twin_of}
 use Rattle.delaunay_paths.proofs.NextVertex.{seeking_begins, seeking_never_ends, vertex_item}
 use Rattle.delaunay_paths.proofs.crossing.CrossingLists.list_piece.Goals as goal
 
@@ -41,17 +40,12 @@ loop-item-preserved g c =
     piece_walk_along c.loop-item.invariant c.in-Some.ensures.steps c.in-Some.ensures.goes.keeps _ _
     (ap item_in c.in-EdgeOverlap.is)
 
-pub see_again-requires : goal.see_again-requires
-see_again-requires g c = (piece_walk_ends c.loop-item.invariant c.in-Some.ensures.steps
-    (vertex_item c.in-VertexIntersection.is c.fix-next.ensures.value)
-    (search (rules, c.ne.ensures, c.if-ne.true)) c.requires.room).turn.crossing.held
-
 pub returns-then-ne : goal.returns-then-ne
 returns-then-ne g c = record {
-  piece = piece_on (piece_walk_ends c.loop-item.invariant c.in-Some.ensures.steps
+  piece = piece_walk_ends c.loop-item.invariant c.in-Some.ensures.steps
       (vertex_item c.in-VertexIntersection.is c.fix-next.ensures.value)
-      (search (rules, c.ne.ensures, c.if-ne.true)) c.requires.room) c.see_again.ensures.entries;
-  room = room_on c.loop-item.invariant.room c.see_again.ensures.entries.room;
+      (search (rules, c.ne.ensures, c.if-ne.true)) c.requires.room;
+  room = c.loop-item.invariant.room;
 }
 
 pub unreachable-requires : goal.unreachable-requires
