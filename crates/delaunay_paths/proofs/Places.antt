@@ -1,14 +1,17 @@
 -- What answers to a few tests say of points.
--- Lemmas: gap_is_way_back, nearer_by, no_same_place.
+-- Lemmas: gap_is_way_back, after_by, no_same_place.
 use Rattle.std.proofs.Common.{◌≡◌, ◌≢◌, ◌↔◌, ℕ, ◌<◌, List, [], ◌∷◌, length, ap, ◌∙◌, subst, arith}
+use Rattle.std.proofs.Common.{sym, inl, inr}
 use Rattle.std.specs.Prelude.{ℤ, pos, ◌+ℤ◌, ◌-ℤ◌, ◌*ℤ◌, ◌<ℤ◌}
 use Rattle.std.proofs.lemmas.Int.{ints}
 use Rattle.delaunay_lines.specs.plane.Fraction.{Point, whole, IsSame}
 use Rattle.delaunay_lines.specs.plane.Circle.{gap}
 use Rattle.delaunay_lines.specs.plane.Laws.{squared_way}
 use Rattle.delaunay_lines.specs.plane.Pairs.{place}
+use Rattle.delaunay_lines.specs.plane.Side.{side, on, right}
 use Rattle.delaunay_lines.proofs.plane.Solver.{◌⊖◌, ◌⊗◌, ring_in}
 use Rattle.delaunay_lines.specs.plane_segments.Constraints.{ArePlacedApart}
+use Rattle.delaunay_lines.specs.plane_segments.Path.{ComesAfterOnRight}
 use Rattle.delaunay_lines.proofs.plane_segments.Crossing.EitherWay.{one_point}
 use Rattle.delaunay_lines.specs.delaunay_legalization.Known.{point_at}
 
@@ -28,11 +31,25 @@ gap_is_way_back p q = gap_is_way p q ∙ (λ i. turned_square p.x q.x i +ℤ tur
         ring_in (a ∷ b ∷ []) (λ a b. (b ⊖ a) ⊗ (b ⊖ a)) (λ a b. (a ⊖ b) ⊗ (a ⊖ b)) tt
 
 -- what tells that q is nearer to p than r is tells it by squared distances in either form
-pub nearer_by : (p q r : Point) (T : Type 0) → T
+nearer_by : (p q r : Point) (T : Type 0) → T
     ↔ (gap (whole p) (whole q) <ℤ gap (whole p) (whole r)) → T
     ↔ (squared_way p q <ℤ squared_way p r)
 nearer_by p q r T w =
     subst (λ (x : ℤ × ℤ). T ↔ (x.0 <ℤ x.1)) (λ i. (gap_is_way p q i, gap_is_way p r i)) w
+
+-- and where r is on the way from p to q, it tells whether r comes after q
+pub after_by : (p q r : Point) (T : Type 0) → side (whole p) (whole q) (whole r) ≡ on
+    → T ↔ (gap (whole p) (whole q) <ℤ gap (whole p) (whole r)) → T ↔ ComesAfterOnRight p q r
+after_by p q r T level told = (
+  (λ t. inr (level, (nearer_by p q r T told).0 t)),
+  (λ after. elim after [
+    | inl right_of ↦ absurd (not_on_right (sym level ∙ right_of))
+    | inr farther ↦ (nearer_by p q r T told).1 farther.1
+  ]),
+)
+  where
+    not_on_right : ¬ (on ≡ right)
+    not_on_right e = cc
 
 -- different vertices are at different places
 pub no_same_place : (points : List Point) → ArePlacedApart points → (a b : ℕ) → a < length points

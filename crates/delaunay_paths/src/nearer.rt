@@ -1,16 +1,14 @@
 //! Whether an edge that crosses a segment can be turned towards it, and whether the edge that is
 //! made then crosses too.
-ghost use Rattle.std.specs.Prelude.{◌≡◌, ◌↔◌, ◌<ℤ◌, map, All, IsTrue};
-ghost use Rattle.delaunay_lines.specs.plane.Laws.{squared_way};
+ghost use Rattle.std.specs.Prelude.{◌≡◌, ◌↔◌, map, All, IsTrue};
 ghost use Rattle.delaunay_lines.specs.plane_segments.Path.{ComesAfterOnRight};
 ghost use Rattle.delaunay_lines.specs.delaunay_core.Place.{place_of};
-ghost use Rattle.delaunay_paths.specs.Crossing.{CornersTurn, IsWayBetween, PassesFromRight};
-ghost use Rattle.delaunay_paths.specs.Crossing.{PassesSooner};
+ghost use Rattle.delaunay_paths.specs.Crossing.{CornersTurn, IsWayBetween};
 ghost use Rattle.delaunay_paths.specs.Turning.{AreInMesh, corners_round};
 
 use delaunay_lines::delaunay_core::math::PlaneTests;
 use delaunay_lines::delaunay_core::point::{HasPosition, Point2, SpadeNum};
-use delaunay_lines::delaunay_legalization::{position_of, turns_left};
+use delaunay_lines::delaunay_legalization::position_of;
 use delaunay_lines::half_edge_mesh::{Dcel, FixedDirectedEdgeHandle, FixedVertexHandle, MeshViews};
 use std::marker::Model;
 
@@ -49,30 +47,6 @@ impl<'a, S: SpadeNum, P: PlaneTests<S>> Model for Turning<'a, S, P> {
 }
 
 impl<'a, S: SpadeNum, P: PlaneTests<S>> Turning<'a, S, P> {
-    // Whether the way between two of the corners crosses the segment from its right to its left.
-    fn crosses_between(&self, start: Point2<S>, end: Point2<S>) -> bool
-        requires start_covered { P.covered self.now.tests (place_of S.whole start) }
-        requires end_covered { P.covered self.now.tests (place_of S.whole end) }
-        ensures { IsTrue result ↔ PassesFromRight self.now.from self.now.to (place_of S.whole start)
-            (place_of S.whole end) }
-    {
-        self.tests
-            .side(self.from, self.to, start)
-            .is_on_right_side()
-            && self.tests.side(self.from, self.to, end).is_on_left_side()
-            && self.tests.side(start, end, self.from).is_on_left_side()
-            && self.tests.side(start, end, self.to).is_on_right_side()
-    }
-
-    // Whether a point is nearer to the start of the segment than the start of the edge is.
-    fn is_nearer(&self, point: Point2<S>) -> bool
-        requires { P.covered self.now.tests (place_of S.whole point) }
-        ensures { IsTrue result ↔ (squared_way self.now.from (place_of S.whole point) <ℤ
-            squared_way self.now.from self.now.start) }
-    {
-        self.from.distance_2(point) < self.from.distance_2(self.start)
-    }
-
     // Whether the start of the edge is right of the way from the start of the segment to a point,
     // or on it and farther than the point.
     fn starts_after(&self, point: Point2<S>) -> bool
@@ -81,20 +55,10 @@ impl<'a, S: SpadeNum, P: PlaneTests<S>> Turning<'a, S, P> {
             ComesAfterOnRight self.now.from (place_of S.whole point) self.now.start }
     {
         let side = self.tests.side(self.from, point, self.start);
-        side.is_on_right_side() || (side.is_on_line() && self.is_nearer(point))
-    }
-
-    // Whether the start of the edge comes after the first of two corners, where the way from that
-    // to the second crosses.
-    fn crosses_sooner(&self, one: Point2<S>, other: Point2<S>) -> bool
-        requires one_covered { P.covered self.now.tests (place_of S.whole one) }
-        requires other_covered { P.covered self.now.tests (place_of S.whole other) }
-        ensures { IsTrue result ↔ PassesSooner self.now.from self.now.to self.now.start
-            (place_of S.whole one) (place_of S.whole other) }
-    {
-        !self.tests.side(self.from, self.to, one).is_on_right_side()
-            || !self.tests.side(self.from, self.to, other).is_on_left_side()
-            || self.starts_after(one)
+        if !side.is_on_line() {
+            return side.is_on_right_side();
+        }
+        self.from.distance_2(point) < self.from.distance_2(self.start)
     }
 
     // Whether the edge can be turned towards the segment.
@@ -102,10 +66,22 @@ impl<'a, S: SpadeNum, P: PlaneTests<S>> Turning<'a, S, P> {
         ensures { let t = self.now in
             IsTrue result ↔ CornersTurn t.from t.to t.start t.behind t.end t.ahead }
     {
-        turns_left(self.start, self.behind, self.ahead, self.tests)
-            && turns_left(self.behind, self.end, self.ahead, self.tests)
-            && self.crosses_sooner(self.behind, self.ahead)
-            && self.crosses_sooner(self.ahead, self.behind)
+        let tests = self.tests;
+        let at_start = tests.side(self.start, self.behind, self.ahead);
+        let at_end = tests.side(self.behind, self.end, self.ahead);
+        if !at_start.is_on_left_side() || !at_end.is_on_left_side() {
+            return false;
+        }
+        // Where the edge that is made crosses, its right end has to come before the start.
+        let behind = tests.side(self.from, self.to, self.behind);
+        let ahead = tests.side(self.from, self.to, self.ahead);
+        if behind.is_on_right_side() && ahead.is_on_left_side() {
+            return self.starts_after(self.behind);
+        }
+        if ahead.is_on_right_side() && behind.is_on_left_side() {
+            return self.starts_after(self.ahead);
+        }
+        true
     }
 
     // The direction in which the edge that a turn of the edge makes crosses the segment, from its
@@ -113,11 +89,22 @@ impl<'a, S: SpadeNum, P: PlaneTests<S>> Turning<'a, S, P> {
     pub(crate) fn way_made(&self, edge: FixedDirectedEdgeHandle) -> Option<FixedDirectedEdgeHandle>
         ensures { let t = self.now in IsWayBetween t.from t.to t.behind t.ahead edge result }
     {
-        if self.crosses_between(self.ahead, self.behind) {
-            return Some(edge);
+        let tests = self.tests;
+        let behind = tests.side(self.from, self.to, self.behind);
+        let ahead = tests.side(self.from, self.to, self.ahead);
+        if ahead.is_on_right_side() && behind.is_on_left_side() {
+            let start = tests.side(self.ahead, self.behind, self.from);
+            let end = tests.side(self.ahead, self.behind, self.to);
+            if start.is_on_left_side() && end.is_on_right_side() {
+                return Some(edge);
+            }
         }
-        if self.crosses_between(self.behind, self.ahead) {
-            return Some(edge.rev());
+        if behind.is_on_right_side() && ahead.is_on_left_side() {
+            let start = tests.side(self.behind, self.ahead, self.from);
+            let end = tests.side(self.behind, self.ahead, self.to);
+            if start.is_on_left_side() && end.is_on_right_side() {
+                return Some(edge.rev());
+            }
         }
         None
     }
