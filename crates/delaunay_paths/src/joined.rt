@@ -13,13 +13,6 @@ use delaunay_lines::delaunay_core::point::HasPosition;
 use delaunay_lines::delaunay_legalization::{ConstraintMarker, is_constraint_edge};
 use delaunay_lines::half_edge_mesh::{Dcel, FixedDirectedEdgeHandle, FixedVertexHandle, MeshViews};
 
-/// Whether two vertices are one.
-pub fn is_same_vertex(one: FixedVertexHandle, other: FixedVertexHandle) -> bool
-    ensures { IsTrue result ↔ (one ≡ other) }
-{
-    one == other
-}
-
 /// The edge from one vertex to another, if there is one, by a look round the first.
 pub fn edge_if_joined<V, DE, UE, F>(
     dcel: &Dcel<V, DE, UE, F>,
