@@ -48,10 +48,10 @@ use Rattle.delaunay_lines.proofs.delaunay_legalization_lemmas.MarkedPairs.{pairs
 use Rattle.delaunay_lines.proofs.delaunay_legalization_lemmas.MarkedPairs.{marking_joins}
 use Rattle.delaunay_paths.specs.Adding.{NoneCrosses, HasFreeWay, MarksEdge, MarksSome, AddsPath}
 use Rattle.delaunay_paths.specs.Kept.{KeepsUncrossed, KeepsUncrossedFaces}
-use Rattle.delaunay_paths.specs.Leaving.{IsWorkList, LeavesFailing, LeavesToTest, MakesEdge}
-use Rattle.delaunay_paths.specs.Lists.{HaveRoom, KeepRoom}
+use Rattle.delaunay_paths.specs.Leaving.{IsWorkList, LeavesFailing, LeavesToTest}
+use Rattle.delaunay_paths.specs.Lists.{HasAsEdge, HaveRoom, KeepRoom}
 use Rattle.delaunay_paths.specs.declared.crossing.CrossingLists.{CrossingLists}
-use Rattle.delaunay_paths.proofs.Making.{kept_on, faces_kept_on}
+use Rattle.delaunay_paths.proofs.Making.{IsMaking, MakesEdge, faces_kept_on, kept_on, making_ends}
 use Rattle.delaunay_paths.proofs.Marks.{marks_none, marks_one, marks_more}
 use Rattle.delaunay_paths.proofs.MovedEdges.{room_on, room_stays}
 use Rattle.delaunay_paths.proofs.Walking.{in_map, of_map, placed_apart}
@@ -300,19 +300,19 @@ piece_leaves points marks marked_as constraints old mid new i j was left makes s
 pub piece_made : {V D U F : Type 0} (marks : U → Bool) (constraints : List U → List ℕ)
     (are_marked : (ds : List U) → constraints ds ≡ marked_edges marks ds) (at : V → Point)
     (marked_as : U → U) (old mid new : Contents V D U F) (i j : ℕ) (was left : List ℕ)
-    → MakesEdge (map at old.vertices) old mid i j was left → IsMeshWithData mid → (edge : ℕ)
+    → MakesEdge (map at old.vertices) old mid i j was left → (edge : ℕ)
     → origin mid.mesh edge ≡ i → origin mid.mesh (rev edge) ≡ j
     → MarksEdge marks marked_as mid new (edge / 2)
     → NoneCrosses (map at old.vertices) (constraints_by constraints (state_of old)) i j
     → LeavesPiece (map at old.vertices) marks marked_as constraints old new i j was left
 piece_made {V = V} {D = D} {U = U} {F = F} marks constraints are_marked at marked_as old mid new i j
-    was left makes whole edge source target by clear =
+    was left makes edge source target by clear =
     piece_leaves (map at old.vertices) marks marked_as constraints old mid new i j was left makes
     (ap (λ (c : Contents V D U F). c.mesh) by.whole)
     (piece_added marks constraints are_marked at old mid new i j edge (edge / 2) makes.contents
     (λ _. by.after) written makes.kept clear marked_as by.mark by.same source target refl)
     (piece_whole marks constraints are_marked at old mid new i j edge (edge / 2) makes.contents
-    (λ _. by.after) written whole)
+    (λ _. by.after) written makes.whole)
   where
     written : HasEdgeData (λ _. by.after) mid new (edge / 2)
     written = record { value = by.value; was = by.was; whole = by.whole }
@@ -453,13 +453,13 @@ module _ {U V D F : Type 0} {marks : U → Bool} {constraints : List U → List 
 
     -- where it is made an edge that gets the mark, it is added
     pub adding_piece : {mid new : Contents V D U F} {was left : List ℕ} (edge : ℕ)
-        → MakesEdge (map at now.vertices) now mid w v was left → IsMeshWithData mid
+        → MakesEdge (map at now.vertices) now mid w v was left
         → origin mid.mesh edge ≡ w → origin mid.mesh (rev edge) ≡ v
         → MarksEdge marks marked_as mid new (edge / 2)
         → LeavesPiece (map at now.vertices) marks marked_as constraints now new w v was left
-    adding_piece edge makes whole source target by =
-        piece_made marks constraints marked at marked_as now _ _ w v _ _ makes whole edge source
-        target by clear_now
+    adding_piece edge makes source target by =
+        piece_made marks constraints marked at marked_as now _ _ w v _ _ makes edge source target by
+        clear_now
 
     -- and with it the path reaches the next vertex
     pub adding_to_goes_on : {new : Contents V D U F} {was left : List ℕ}
@@ -547,18 +547,19 @@ module _ {U V D F : Type 0} {marks : U → Bool} {constraints : List U → List 
         room = omega (arith, count, fits, stays);
       }
 
-  -- the next piece is added with what it leaves to test
-  pub adding_goes_on_by : {mid new : Contents V D U F} {v : ℕ} {more : List ℕ} {room_now : ℕ}
-      {after : CrossingLists} → AreNextOn (map at now.vertices) w j w v → (edge : ℕ)
-      → MakesEdge (map at now.vertices) now mid w v left more → IsMeshWithData mid
-      → origin mid.mesh edge ≡ w → origin mid.mesh (rev edge) ≡ v
+  -- the next piece is added with what it leaves to test, once turns have made it an edge
+  pub adding_goes_on_by : {mid new : Contents V D U F} {v edge : ℕ} {more : List ℕ} {room_now : ℕ}
+      {given turned after : CrossingLists} → AreNextOn (map at now.vertices) w j w v
+      → KeepRoom lists given → IsMaking at now mid w v left more room room_now given turned
+      → HasAsEdge (map at mid.vertices) mid w v → KeepRoom turned after
+      → (edge < length mid.directed) × (origin mid.mesh edge ≡ w) × (origin mid.mesh (rev edge) ≡ v)
       → MarksEdge marks marked_as mid new (edge / 2) → ((x : U) → marks (marked_as x) ≡ true)
-      → room_now ≡ room → KeepRoom lists after
       → IsAddingPieces marks constraints marked at marked_as old new i j v was more room_was
       room_now before after
-  adding_goes_on_by {new = new} {more = more} next edge makes whole source target by has stays
-      kept_room =
-      let piece = adding_piece p.so_far next edge makes whole source target by in record {
+  adding_goes_on_by {new = new} {edge = edge} {more = more} next listed making made sought found by
+      has =
+      let piece = adding_piece p.so_far next edge (making_ends making made) found.1 found.2 by in
+      record {
         so_far = adding_to_goes_on p.so_far next has piece;
         leaves = record {
           edges = piece.edges;
@@ -568,8 +569,8 @@ module _ {U V D F : Type 0} {marks : U → Bool} {constraints : List U → List 
               (faces_of now.mesh) pairs (pairs_at now.mesh left)) (sym same_vertices)
               (p.leaves.leaves pairs passing)));
         };
-        same_room = stays ∙ p.same_room;
-        lists_room = room_on p.lists_room kept_room;
+        same_room = making.same_room ∙ p.same_room;
+        lists_room = room_on p.lists_room (room_on listed (room_on making.lists_room sought));
       }
 
 -- a list that was cleared is a work list with no edge in it

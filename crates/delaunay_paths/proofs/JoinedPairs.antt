@@ -1,14 +1,17 @@
--- The constraint between two vertices, by the edge between them.
--- Lemmas: edge_joins, edge_tells, no_edge_joins, none_tells.
+-- The edge and the constraint between two vertices.
+-- Lemmas: index_found, first_joined, some_joins, edge_joins, edge_tells, no_edge_joins, none_tells.
 use Rattle.std.proofs.Common.{◌≡◌, ◌≢◌, ◌↔◌, ◌*◌, ◌/◌, ◌<◌, ◌∙◌}
 use Rattle.std.proofs.Common.{ℕ, List, length, refl, sym, ap, subst, inl, inr, arith}
+use Rattle.std.specs.Borrow.{Bor}
 use Rattle.std.specs.Prelude.{Bool, false, Contains, IsTrue}
 use Rattle.std.proofs.lemmas.Option.{slice_get_within}
 use Rattle.delaunay_lines.specs.half_edge_mesh.Mesh.{origin, rev}
 use Rattle.delaunay_lines.proofs.half_edge_links.Lists.Rev.{rev-rev, rev_within}
-use Rattle.delaunay_lines.specs.half_edge_mesh.Contents.{Contents}
+use Rattle.delaunay_lines.specs.half_edge_mesh.Contents.{Contents, IsMeshWithData}
 use Rattle.delaunay_lines.specs.plane.Fraction.{Point}
 use Rattle.delaunay_lines.specs.plane.Pairs.{Joins, IsSamePair}
+use Rattle.delaunay_lines.specs.mesh_embedding.Drawn.{edges_of}
+use Rattle.delaunay_lines.proofs.mesh_embedding.EdgePairs as E
 use Rattle.delaunay_lines.proofs.mesh_embedding.MeshLegal.{joins_edge, same_joined}
 use Rattle.delaunay_lines.specs.delaunay_legalization.Constraints.{marked_edges, constraint_pairs}
 use Rattle.delaunay_lines.specs.delaunay_legalization.Shape.{IsTriangulated}
@@ -20,6 +23,37 @@ use Rattle.delaunay_lines.proofs.delaunay_legalization_lemmas.Questions.{both_wa
 use Rattle.delaunay_paths.proofs.AddingPieces.{half_ends}
 use Rattle.delaunay_paths.proofs.Releasing.{one_edge, double}
 
+-- what the view of an edge says of its ends is so of its name
+pub index_found : {V D U F : Type 0} {b d : Bor (Contents V D U F)} {i j k h : ℕ}
+    → (b ≡ d) × (origin d.now.mesh k ≡ i) × (origin d.now.mesh (rev k) ≡ j) → h ≡ k
+    → h < length b.now.directed
+    → (h < length d.now.directed) × (origin d.now.mesh h ≡ i) × (origin d.now.mesh (rev h) ≡ j)
+index_found {V = V} {D = D} {U = U} {F = F} {d = d} {h = h} found same within = (
+  subst (λ (x : Bor (Contents V D U F)). h < length x.now.directed) found.0 within,
+  ap (origin d.now.mesh) same ∙ found.1,
+  ap (λ (l : ℕ). origin d.now.mesh (rev l)) same ∙ found.2,
+)
+
+-- ---- two vertices that are joined
+module _ {V D U F : Type 0} {c : Contents V D U F} {a b : ℕ} (whole : IsMeshWithData c)
+    (joined : Joins (edges_of c.mesh) a b) where
+  abbrev edge : (h : ℕ) × (h < length c.mesh.half_edges) × (origin c.mesh h ≡ a)
+      × (origin c.mesh (rev h) ≡ b)
+  edge = E.joins_edge c.mesh whole.valid.sound a b joined
+
+  -- the first is one of the mesh
+  pub first_joined : a < length c.vertices
+  first_joined = subst (λ (n : ℕ). a < n) (sym whole.fits.vertices_fit)
+      (subst (λ (k : ℕ). k < length c.mesh.out_edges) edge.2
+      (whole.valid.sound.edges edge.0 edge.1).origin_in)
+
+  -- and an edge goes from it to the second
+  pub some_joins : ¬ ((h : ℕ) → h < length c.directed → origin c.mesh h ≡ a
+      → origin c.mesh (rev h) ≢ b)
+  some_joins none = none edge.0
+      (subst (λ (n : ℕ). edge.0 < n) (sym whole.fits.directed_fit) edge.1) edge.2 edge.3
+
+-- ---- constraints
 module _ {V D U F : Type 0} (at : V → Point) (marks : U → Bool) (constraints : List U → List ℕ)
     (marked : (ds : List U) → constraints ds ≡ marked_edges marks ds) (c : Contents V D U F)
     (kept : IsTriangulated at (state_of c)) where

@@ -1,5 +1,5 @@
 -- The loop that turns edges until none crosses.
--- Notions: IsMaking; free_on, kept_on, faces_kept_on, e_in, local, can_turn, turn_keeps,
+-- Notions: MakesEdge, IsMaking; free_on, kept_on, faces_kept_on, e_in, local, can_turn, turn_keeps,
 -- turn_keeps_faces, turn_lowers, turn_has_shape, edges_on, turns_away, others_left, turns_across,
 -- others_and_made, edge_if_none_crosses, making_begins, making_work, making_ends, making_goes_on,
 -- making_falls.
@@ -32,7 +32,7 @@ use Rattle.delaunay_paths.specs.Crossing.{AreAllCrossing, AreOthersCrossing, Cro
 use Rattle.delaunay_paths.specs.Crossing.{GoesFromRight, TurnsNearer, ahead, behind}
 use Rattle.delaunay_paths.specs.Kept.{KeepsUncrossed, KeepsUncrossedFaces}
 use Rattle.delaunay_paths.specs.declared.crossing.CrossingLists.{CrossingLists}
-use Rattle.delaunay_paths.specs.Leaving.{AllPassAway, IsWorkList, MakesEdge, TurnsTowards}
+use Rattle.delaunay_paths.specs.Leaving.{AllPassAway, IsWorkList, LeavesFailing, TurnsTowards}
 use Rattle.delaunay_paths.specs.Lists.{AreToTurn, HasAsEdge, IsOnePiece, KeepRoom, TurnsOne}
 use Rattle.delaunay_paths.proofs.CrossingList.{made_clear, made_clear_back, others_are_all}
 use Rattle.delaunay_paths.proofs.CrossingList.{others_still, way_crosses, way_ends, way_is}
@@ -279,6 +279,19 @@ edge_if_none_crosses at c mesh i j free shape none =
     (λ h h_in x. none h (subst (λ (n : ℕ). h < n) (sym mesh.fits.directed_fit) h_in) x)
 
 -- ---- the loop
+-- the segment from i to j is made an edge, and each edge that may fail is left to test, whatever
+-- the constraints are
+pub record MakesEdge {V D U F : Type 0} (points : List Point) (old new : Contents V D U F) (i j : ℕ)
+    (was left : List ℕ) : Type 0 where
+  pub contents : new ≡ record old { mesh = new.mesh }
+  pub whole : IsMeshWithData new
+  pub shape : IsMesh points (faces_of new.mesh) (outer_of new.mesh)
+  pub edge : IsEdge (drawn points new.mesh) i j
+  pub kept : KeepsUncrossed points old.mesh new.mesh i j
+  pub faces_kept : KeepsUncrossedFaces points old.mesh new.mesh i j
+  pub edges : AreEdges new.mesh left
+  pub leaves : LeavesFailing points old.mesh new.mesh was left
+
 -- after some turns: those that cross are still listed
 pub record IsMaking {V D U F : Type 0} (at : V → Point) (old now : Contents V D U F) (i j : ℕ)
     (was left : List ℕ) (room_was room : ℕ) (before l : CrossingLists) : Type 0 where
@@ -335,6 +348,7 @@ module _ {V D U F : Type 0} {at : V → Point} {old now : Contents V D U F} {i j
       → MakesEdge (map at old.vertices) old now i j was left
   making_ends ended = record {
     contents = making.contents;
+    whole = ended.whole;
     shape = piece.shape;
     edge = ended.edge;
     kept = making.kept;

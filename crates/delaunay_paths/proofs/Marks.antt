@@ -19,11 +19,11 @@ set_same [] k d e = refl
 set_same (x ∷ xs) zero d e = ap (λ y. y ∷ xs) (sym (one_value x d e))
 set_same (x ∷ xs) (suc k) d e = ap (λ ys. x ∷ ys) (set_same xs k d e)
 
-module _ {V D U F : Type 0} (marks : U → Bool) (marked : U → U) (old new : Contents V D U F) (k : ℕ)
-    (d : U) (was : slice_get old.undirected k ≡ Some d) where
+module _ {V D U F : Type 0} {marks : U → Bool} {marked : U → U} {old : Contents V D U F} {k n : ℕ}
+    {d : U} (was : slice_get old.undirected k ≡ Some d) (named : k ≡ n) where
   -- an edge that has the mark
-  pub has_mark : marks d ≡ true → MarksEdge marks marked old old k
-  has_mark mark = record {
+  pub has_mark : marks d ≡ true → MarksEdge marks marked old old n
+  has_mark mark = subst (MarksEdge marks marked old old) named (record {
     value = d;
     was = was;
     after = d;
@@ -31,12 +31,13 @@ module _ {V D U F : Type 0} (marks : U → Bool) (marked : U → U) (old new : C
     same = inl refl;
     whole = ap (λ (us : List U). record old { undirected = us })
         (sym (set_same old.undirected k d was));
-  }
+  })
 
   -- and one that gets it
-  pub gets_mark : marks d ≡ false → ((x : U) → marks (marked x) ≡ true)
-      → HasEdgeData marked old new k → MarksEdge marks marked old new k
-  gets_mark free has written = record {
+  pub gets_mark : {new : Contents V D U F} → marks d ≡ false
+      → ((x : U) → marks (marked x) ≡ true) → HasEdgeData marked old new k
+      → MarksEdge marks marked old new n
+  gets_mark {new = new} free has written = subst (MarksEdge marks marked old new) named (record {
     value = written.value;
     was = written.was;
     after = marked written.value;
@@ -47,7 +48,7 @@ module _ {V D U F : Type 0} (marks : U → Bool) (marked : U → U) (old new : C
       refl,
     );
     whole = written.whole;
-  }
+  })
 
 module _ {U : Type 0} (marks : U → Bool) (marked : U → U) where
   -- data that stay the same

@@ -8,7 +8,7 @@ use Rattle.std.proofs.Common.{refl, sym, ap, subst, subst₂, inl, inr}
 use Rattle.std.specs.Prelude.{IfSome}
 use Rattle.delaunay_lines.specs.half_edge_mesh.Mesh.{origin, rev}
 use Rattle.delaunay_lines.proofs.half_edge_links.Lists.Rev.{rev_within}
-use Rattle.delaunay_lines.specs.half_edge_mesh.Contents.{Contents, IsMeshWithData}
+use Rattle.delaunay_lines.specs.half_edge_mesh.Contents.{Contents}
 use Rattle.delaunay_lines.specs.plane.Fraction.{Point, whole}
 use Rattle.delaunay_lines.specs.plane.Pairs.{IsSamePair, place}
 use Rattle.delaunay_lines.specs.plane.Tiling.{IsEdge}
@@ -30,19 +30,19 @@ use Rattle.delaunay_lines.specs.delaunay_legalization.State.{State, state_of}
 use Rattle.delaunay_lines.proofs.delaunay_legalization_lemmas.ConstraintEdges.{constraints_are_edges}
 use Rattle.delaunay_lines.proofs.delaunay_legalization_lemmas.Questions.{both_ways}
 use Rattle.delaunay_paths.specs.Adding.{AddsPath, HasFreeWay, MarksEdge, NoneCrosses}
-use Rattle.delaunay_paths.specs.Leaving.{MakesEdge}
 use Rattle.delaunay_paths.specs.Releasing.{AddsConstraints}
 use Rattle.delaunay_paths.proofs.AddingPieces.{LeavesPiece, adding_to_begins, adding_to_ends}
 use Rattle.delaunay_paths.proofs.AddingPieces.{adding_to_goes_on, piece_made}
 use Rattle.delaunay_paths.proofs.LeftToTest.{none_crosses}
+use Rattle.delaunay_paths.proofs.Making.{MakesEdge}
 use Rattle.delaunay_paths.proofs.Releasing.{added_left}
 use Rattle.delaunay_paths.proofs.Walking.{in_map, placed_apart}
 
 -- an edge that was found, with what holds of it
-pub found : (P : ℕ → Type 0) (r : Option ℕ) (b : Bool) → b ≡ is_some r → b ≡ true → IfSome r P
-    → (h : ℕ) × P h
+pub found : {X : Type 0} (P : X → Type 0) (r : Option X) (b : Bool) → b ≡ is_some r → b ≡ true
+    → IfSome r P → (x : X) × P x
 found P None b is true_now x = absurd (both_ways b true_now is)
-found P (Some h) b is true_now x = (h, x)
+found P (Some x) b is true_now holds = (x, holds)
 
 -- ---- by the ends of an edge
 module _ {V D U F : Type 0} (at : V → Point) (s : State V D U F) (kept : IsTriangulated at s)
@@ -141,9 +141,6 @@ module _ {V D U F : Type 0} (at : V → Point) (marks : U → Bool) (marked_as :
   kept : IsTriangulated at (state_of old)
   kept = legal.kept
 
-  whole_mesh : IsMeshWithData old
-  whole_mesh = record { valid = kept.valid; fits = kept.fits }
-
   -- the edge starts at a vertex
   u_in : u < length old.vertices
   u_in = first_in at (state_of old) kept h within
@@ -159,6 +156,7 @@ module _ {V D U F : Type 0} (at : V → Point) (marks : U → Bool) (marked_as :
   made : MakesEdge all old old u v [] []
   made = record {
     contents = refl;
+    whole = record { valid = kept.valid; fits = kept.fits };
     shape = kept.shape;
     edge = edge_joins old.mesh kept.valid.sound h within;
     kept = λ k clear. (refl, refl);
@@ -172,8 +170,8 @@ module _ {V D U F : Type 0} (at : V → Point) (marks : U → Bool) (marked_as :
   free = edge_is_free at (state_of old) kept h within marks constraints marked
 
   piece : LeavesPiece all marks marked_as constraints old new u v [] []
-  piece = piece_made marks constraints marked at marked_as old old new u v [] [] made whole_mesh h
-      refl refl by free
+  piece = piece_made marks constraints marked at marked_as old old new u v [] [] made h refl refl by
+      free
 
   way : HasFreeWay at constraints old u v
   way = record { from = u_in; to = v_in; free = free }

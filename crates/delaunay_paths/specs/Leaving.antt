@@ -5,12 +5,12 @@ use Rattle.delaunay_lines.specs.half_edge_mesh.Mesh.{Mesh}
 use Rattle.delaunay_lines.specs.plane.Crossing.{Cross}
 use Rattle.delaunay_lines.specs.plane.Fraction.{Point}
 use Rattle.delaunay_lines.specs.plane.Pairs.{place, Joins}
-use Rattle.delaunay_lines.specs.plane.Tiling.{Face, IsEdge}
+use Rattle.delaunay_lines.specs.plane.Tiling.{Face}
 use Rattle.delaunay_lines.specs.plane_edits.Change.{IsFaceOf}
 use Rattle.delaunay_lines.specs.plane_edits.Legal.{AllPassBut, Pass}
 use Rattle.delaunay_lines.specs.plane_tiling.Local.{IsMesh}
 use Rattle.delaunay_lines.specs.plane_segments.Measure.{crossing_sum}
-use Rattle.delaunay_lines.specs.mesh_embedding.Drawn.{drawn, faces_of, outer_of}
+use Rattle.delaunay_lines.specs.mesh_embedding.Drawn.{faces_of, outer_of}
 use Rattle.delaunay_lines.specs.mesh_embedding.Legal.{AreEdges, pairs_at}
 use Rattle.delaunay_paths.specs.Kept.{KeepsUncrossed, KeepsUncrossedFaces}
 
@@ -55,18 +55,6 @@ abbrev pub LeavesFailing : List Point → (old new : Mesh) → (was left : List 
 LeavesFailing points old new was left =
     (constraints : List (ℕ × ℕ)) → AllPassBut points (faces_of old) constraints (pairs_at old was)
     → AllPassBut points (faces_of new) constraints (pairs_at new left)
-
--- the segment from i to j is made an edge, and each edge that may fail is left to test, whatever
--- the constraints are
-pub record MakesEdge {V D U F : Type 0} (points : List Point) (old new : Contents V D U F) (i j : ℕ)
-    (was left : List ℕ) : Type 0 where
-  pub contents : new ≡ record old { mesh = new.mesh }
-  pub shape : IsMesh points (faces_of new.mesh) (outer_of new.mesh)
-  pub edge : IsEdge (drawn points new.mesh) i j
-  pub kept : KeepsUncrossed points old.mesh new.mesh i j
-  pub faces_kept : KeepsUncrossedFaces points old.mesh new.mesh i j
-  pub edges : AreEdges new.mesh left
-  pub leaves : LeavesFailing points old.mesh new.mesh was left
 
 -- the edges that are left to test are edges of the mesh, each once, and each edge that may fail is
 -- one of them

@@ -2,18 +2,17 @@
 ghost use Rattle.std.specs.Prelude.{◌≡◌, ◌↔◌, ◌<◌, true, length, map, All, IsTrue};
 ghost use Rattle.delaunay_lines.specs.delaunay_legalization.Shape.{IsTriangulated};
 ghost use Rattle.delaunay_lines.specs.delaunay_legalization.State.{state_of};
-ghost use Rattle.delaunay_paths.specs.Adding.{AddsPath, CanAddPath, HasFreeWay, MarksEdge};
+ghost use Rattle.delaunay_paths.specs.Adding.{AddsPath, CanAddPath, HasFreeWay};
 ghost use Rattle.delaunay_paths.specs.Leaving.{IsWorkList, LeavesToTest};
 ghost use Rattle.delaunay_paths.specs.Lists.{HaveRoom};
 
 use crate::crossing::CrossingLists;
-use crate::flips::turn_listed;
-use crate::joined::{edge_between, edge_if_joined};
+use crate::flips::{next_turn, turn};
 use delaunay_lines::ConflictingEdgesIterator;
 use delaunay_lines::delaunay_core::math::PlaneTests;
 use delaunay_lines::delaunay_core::point::HasPosition;
 use delaunay_lines::delaunay_legalization::{ConstraintMarker, EdgeSet, make_constraint};
-use delaunay_lines::half_edge_mesh::{Dcel, FixedUndirectedEdgeHandle, FixedVertexHandle};
+use delaunay_lines::half_edge_mesh::{Dcel, FixedVertexHandle, MeshViews};
 
 /// Whether no constraint crosses the segment between two vertices. Where an edge joins them, a look
 /// round the first tells.
@@ -30,28 +29,13 @@ pub fn can_add_path<M: ConstraintMarker<UE>, V: HasPosition, DE, UE, F, P: Plane
 
     ensures { IsTrue result ↔ CanAddPath V.place M.constraints dcel.now from to }
 {
-    if edge_if_joined(dcel, from, to).is_some() {
+    if dcel.get_edge_from_neighbors(from, to).is_some() {
         return true;
     }
     let mut conflicts = ConflictingEdgesIterator::<M, _, _, _, _, _>::between_vertices(
         dcel, from, to, tests,
     );
     conflicts.next().is_none()
-}
-
-// Makes an edge a constraint, unless it is one.
-pub(crate) fn mark<M: ConstraintMarker<UE>, V, DE, UE, F>(
-    dcel: &mut Dcel<V, DE, UE, F>,
-    edge: FixedUndirectedEdgeHandle,
-)
-    requires within { edge < length dcel.old.undirected }
-    requires can_mark { M.can_mark ≡ true }
-    ensures { MarksEdge M.marks M.marked dcel.old dcel.new edge }
-{
-    if M::is_constraint_edge(dcel.undirected_edge_data(edge)) {
-        return;
-    }
-    make_constraint::<M, _, _, _, _>(dcel, edge);
 }
 
 /// Makes constraints of the pieces of the path between two vertices, whose segment no constraint
@@ -82,9 +66,16 @@ pub fn add_path<M: ConstraintMarker<UE>, V: HasPosition, DE, UE, F, P: PlaneTest
 {
     let mut at = from;
     while let Some(next) = lists.list_piece(dcel, at, to, tests) {
-        turn_listed(dcel, at, next, tests, lists, work);
-        let edge = edge_between(dcel, at, next);
-        mark::<M, _, _, _, _>(dcel, edge.as_undirected());
+        while let Some(edge) = next_turn(dcel, at, next, tests, lists) {
+            turn(dcel, edge, at, next, tests, lists, work);
+        }
+        let Some(edge) = dcel.get_edge_from_neighbors(at, next) else {
+            unreachable!()
+        };
+        let edge = edge.fix().as_undirected();
+        if !M::is_constraint_edge(dcel.undirected_edge_data(edge)) {
+            make_constraint::<M, _, _, _, _>(dcel, edge);
+        }
         at = next;
     }
 }

@@ -8,12 +8,12 @@ ghost use Rattle.delaunay_paths.specs.Adding.{HasFreeWay};
 ghost use Rattle.delaunay_paths.specs.Lists.{HaveRoom};
 ghost use Rattle.delaunay_paths.specs.Releasing.{AddsConstraints, ReleasesEdge};
 
-use crate::adding::{add_path, mark};
+use crate::adding::add_path;
 use crate::crossing::CrossingLists;
 use delaunay_lines::delaunay_core::math::PlaneTests;
 use delaunay_lines::delaunay_core::point::HasPosition;
 use delaunay_lines::delaunay_legalization::{
-    ConstraintMarker, EdgeSet, Sides, free_edge, legalize,
+    ConstraintMarker, EdgeSet, Sides, free_edge, legalize, make_constraint,
 };
 use delaunay_lines::half_edge_mesh::{
     Dcel, FixedDirectedEdgeHandle, FixedUndirectedEdgeHandle, FixedVertexHandle,
@@ -69,7 +69,11 @@ pub fn constrain_edge<M: ConstraintMarker<UE>, V: HasPosition, DE, UE, F>(
         (origin m (rev edge)) }
     ensures mesh { dcel.new.mesh ≡ dcel.old.mesh }
 {
-    mark::<M, _, _, _, _>(dcel, edge.as_undirected());
+    let edge = edge.as_undirected();
+    if M::is_constraint_edge(dcel.undirected_edge_data(edge)) {
+        return;
+    }
+    make_constraint::<M, _, _, _, _>(dcel, edge);
 }
 
 /// Makes a constraint an edge that is none, and flips edges from there on until each that is no

@@ -1,6 +1,6 @@
-//! Flips until a segment between two vertices is an edge.
+//! Flips towards a segment between two vertices.
 ghost use Rattle.std.specs.Prelude.{◌≡◌, map, All, MatchOption};
-ghost use Rattle.delaunay_paths.specs.Leaving.{IsWorkList, MakesEdge};
+ghost use Rattle.delaunay_paths.specs.Leaving.{IsWorkList};
 ghost use Rattle.delaunay_paths.specs.Lists.{AreToTurn, HasAsEdge, IsToTurn, KeepRoom, Seeks};
 ghost use Rattle.delaunay_paths.specs.Lists.{TurnsOne};
 
@@ -35,7 +35,7 @@ fn seek<V: HasPosition, DE, UE, F, P: PlaneTests<V::Scalar>>(
 
 // Takes out an edge that crosses the segment between two vertices with none strictly between, and
 // can be turned towards it. If there is none, no edge crosses, and the segment is one.
-fn next_turn<V: HasPosition, DE, UE, F, P: PlaneTests<V::Scalar>>(
+pub(crate) fn next_turn<V: HasPosition, DE, UE, F, P: PlaneTests<V::Scalar>>(
     dcel: &Dcel<V, DE, UE, F>,
     from: FixedVertexHandle,
     to: FixedVertexHandle,
@@ -60,7 +60,7 @@ fn next_turn<V: HasPosition, DE, UE, F, P: PlaneTests<V::Scalar>>(
 
 // Turns an edge towards the segment. The edge that is made waits if it crosses. If not, the edges
 // round it are left to test, and the one that waits last may be turned now.
-fn turn<V: HasPosition, DE, UE, F, P: PlaneTests<V::Scalar>>(
+pub(crate) fn turn<V: HasPosition, DE, UE, F, P: PlaneTests<V::Scalar>>(
     dcel: &mut Dcel<V, DE, UE, F>,
     edge: FixedDirectedEdgeHandle,
     from: FixedVertexHandle,
@@ -92,31 +92,5 @@ fn turn<V: HasPosition, DE, UE, F, P: PlaneTests<V::Scalar>>(
                 lists.unseen.push_reserved(last);
             }
         }
-    }
-}
-
-// Makes an edge of the segment between two vertices with none strictly between, by turns of the
-// edges that cross it, which are listed. Each edge that does not cross the segment stays, under its
-// index, and so does each face with no side that does. Each edge that may fail the circle test is
-// put into `work`.
-pub(crate) fn turn_listed<V: HasPosition, DE, UE, F, P: PlaneTests<V::Scalar>>(
-    dcel: &mut Dcel<V, DE, UE, F>,
-    from: FixedVertexHandle,
-    to: FixedVertexHandle,
-    tests: &P,
-    lists: &mut CrossingLists,
-    work: &mut EdgeSet,
-)
-    requires turn { AreToTurn (map V.place dcel.old.vertices) dcel.old from to lists.old }
-    requires sites { All (P.sites tests.now) (map V.place dcel.old.vertices) }
-    requires work { IsWorkList dcel.old work.old.items work.old.room }
-
-    ensures makes { MakesEdge (map V.place dcel.old.vertices) dcel.old dcel.new from to
-        work.old.items work.new.items }
-    ensures room { KeepRoom lists.old lists.new }
-    ensures capacity { work.new.room ≡ work.old.room }
-{
-    while let Some(edge) = next_turn(dcel, from, to, tests, lists) {
-        turn(dcel, edge, from, to, tests, lists, work);
     }
 }

@@ -2,9 +2,7 @@
 ghost use Rattle.std.specs.Prelude.{◌≡◌, ◌≢◌, ◌↔◌, ◌<◌, ℕ};
 ghost use Rattle.std.specs.Prelude.{length, IsTrue, IfNone, IfSome};
 ghost use Rattle.delaunay_lines.specs.half_edge_mesh.Mesh.{origin, rev};
-ghost use Rattle.delaunay_lines.specs.half_edge_mesh.Contents.{IsMeshWithData};
 ghost use Rattle.delaunay_lines.specs.plane.Pairs.{Joins};
-ghost use Rattle.delaunay_lines.specs.mesh_embedding.Drawn.{edges_of};
 ghost use Rattle.delaunay_lines.specs.delaunay_legalization.Constraints.{constraints_by};
 ghost use Rattle.delaunay_lines.specs.delaunay_legalization.Shape.{IsTriangulated};
 ghost use Rattle.delaunay_lines.specs.delaunay_legalization.State.{state_of};
@@ -34,25 +32,6 @@ pub fn edge_if_joined<V, DE, UE, F>(
     }
 }
 
-// The edge from one vertex to another, which are joined.
-pub(crate) fn edge_between<V, DE, UE, F>(
-    dcel: &Dcel<V, DE, UE, F>,
-    from: FixedVertexHandle,
-    to: FixedVertexHandle,
-) -> FixedDirectedEdgeHandle
-    requires { Joins (edges_of dcel.now.mesh) from to }
-    ensures whole { IsMeshWithData dcel.now }
-    ensures within { result < length dcel.now.directed }
-    ensures source { origin dcel.now.mesh result ≡ from }
-    ensures target { origin dcel.now.mesh (rev result) ≡ to }
-{
-    dcel.recall_invariant();
-    match edge_if_joined(dcel, from, to) {
-        Some(edge) => edge,
-        None => unreachable!(),
-    }
-}
-
 /// Whether a constraint joins two vertices, in either order.
 pub fn is_constraint_between<M: ConstraintMarker<UE>, V: HasPosition, DE, UE, F>(
     dcel: &Dcel<V, DE, UE, F>,
@@ -64,8 +43,8 @@ pub fn is_constraint_between<M: ConstraintMarker<UE>, V: HasPosition, DE, UE, F>
 
     ensures { IsTrue result ↔ Joins (constraints_by M.constraints (state_of dcel.now)) from to }
 {
-    match edge_if_joined(dcel, from, to) {
-        Some(edge) => is_constraint_edge::<M, _, _, _, _>(dcel, edge.as_undirected()),
+    match dcel.get_edge_from_neighbors(from, to) {
+        Some(edge) => is_constraint_edge::<M, _, _, _, _>(dcel, edge.fix().as_undirected()),
         None => false,
     }
 }

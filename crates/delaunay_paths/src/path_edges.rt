@@ -4,10 +4,9 @@ ghost use Rattle.delaunay_lines.specs.delaunay_legalization.Shape.{IsTriangulate
 ghost use Rattle.delaunay_lines.specs.delaunay_legalization.State.{state_of};
 ghost use Rattle.delaunay_paths.specs.PathEdges.{HasPath, LeadAlong};
 
-use crate::joined::edge_between;
 use delaunay_lines::delaunay_core::math::PlaneTests;
 use delaunay_lines::delaunay_core::point::HasPosition;
-use delaunay_lines::half_edge_mesh::{Dcel, FixedDirectedEdgeHandle, FixedVertexHandle};
+use delaunay_lines::half_edge_mesh::{Dcel, FixedDirectedEdgeHandle, FixedVertexHandle, MeshViews};
 use delaunay_lines::{Intersection, line_between_vertices};
 
 /// The edges along the path between two vertices, in order, where each of its pieces is one, by one
@@ -40,7 +39,10 @@ pub fn edges_along<V: HasPosition, DE, UE, F, P: PlaneTests<V::Scalar>>(
             Intersection::VertexIntersection(vertex) => {
                 let next = vertex.fix();
                 if next != at {
-                    edges.push_reserved(edge_between(dcel, at, next));
+                    let Some(edge) = dcel.get_edge_from_neighbors(at, next) else {
+                        unreachable!()
+                    };
+                    edges.push_reserved(edge.fix());
                     at = next;
                 }
             }

@@ -1,7 +1,10 @@
+use Rattle.std.proofs.Common.{◌∙◌, ap, sym}
 use Rattle.delaunay_paths.proofs.AddingPieces.{adding_between, adding_goes_on_by, adding_room}
 use Rattle.delaunay_paths.proofs.AddingPieces.{adding_shape, adding_shortens, adding_sites}
 use Rattle.delaunay_paths.proofs.AddingPieces.{adding_starts, adding_to_ends, adding_work}
-use Rattle.delaunay_paths.proofs.MovedEdges.{room_on}
+use Rattle.delaunay_paths.proofs.JoinedPairs.{first_joined, index_found, some_joins}
+use Rattle.delaunay_paths.proofs.Making.{making_begins, making_falls, making_goes_on, making_work}
+use Rattle.delaunay_paths.proofs.Marks.{gets_mark, has_mark}
 use Rattle.delaunay_paths.proofs.adding.add_path.Goals as goal
 
 pub loop-next-init : goal.loop-next-init
@@ -17,25 +20,72 @@ list_piece-requires g c =
       room = adding_room c.loop-next.invariant c.requires.room.1;
     }
 
-pub turn_listed-requires : goal.turn_listed-requires
-turn_listed-requires g c =
-    let p = c.loop-next.invariant in record {
-      turn = c.in-Some.ensures.piece.turn;
-      sites = adding_sites p.so_far (g.P.PlaneTests.sites c.args.tests.now) c.requires.sites;
-      work = adding_work p c.requires.room.0;
-    }
+-- ---- turns until a piece is an edge
+pub loop-edge-init : goal.loop-edge-init
+loop-edge-init g c =
+    making_begins c.in-Some.ensures.piece.turn (adding_work c.loop-next.invariant c.requires.room.0)
 
-pub edge_between-edge-requires : goal.edge_between-edge-requires
-edge_between-edge-requires g c = c.turn_listed.ensures.makes.edge
+pub next_turn-requires : goal.next_turn-requires
+next_turn-requires g c = record {
+  turn = c.loop-edge.invariant.turn;
+  sites = rw (ap (λ d. d.vertices) c.loop-edge.invariant.contents)
+      (adding_sites c.loop-next.invariant.so_far (g.P.PlaneTests.sites c.args.tests.now)
+      c.requires.sites);
+}
+
+pub turn-requires : goal.turn-requires
+turn-requires g c = record {
+  turning = c.in-Some-next_turn.ensures.found;
+  sites = rw (ap (λ d. d.vertices) c.loop-edge.invariant.contents)
+      (adding_sites c.loop-next.invariant.so_far (g.P.PlaneTests.sites c.args.tests.now)
+      c.requires.sites);
+  work = making_work c.loop-edge.invariant (adding_work c.loop-next.invariant c.requires.room.0);
+}
+
+pub loop-edge-preserved : goal.loop-edge-preserved
+loop-edge-preserved g c = making_goes_on c.loop-edge.invariant c.turn.ensures.turns
+    c.turn.ensures.capacity c.next_turn.ensures.room
+
+pub loop-edge-smaller : goal.loop-edge-smaller
+loop-edge-smaller g c = making_falls c.loop-edge.invariant c.turn.ensures.turns
+
+-- ---- the piece becomes a constraint
+pub get_edge_from_neighbors-requires : goal.get_edge_from_neighbors-requires
+get_edge_from_neighbors-requires g c =
+    let made = c.in_default-next_turn.ensures.found in first_joined made.whole made.edge
+
+pub unreachable-requires : goal.unreachable-requires
+unreachable-requires g c =
+    let made = c.in_default-next_turn.ensures.found in
+    some_joins made.whole made.edge c.in_default-get_edge_from_neighbors.ensures.none
+
+pub loop-next-preserved-then-not-is_constraint_edge :
+    goal.loop-next-preserved-then-not-is_constraint_edge
+loop-next-preserved-then-not-is_constraint_edge g c =
+    let laws = g.met.M.ConstraintMarker in
+    adding_goes_on_by c.loop-next.invariant c.in-Some.ensures.piece.next c.list_piece.ensures.room
+    c.loop-edge.invariant c.in_default-next_turn.ensures.found c.next_turn.ensures.room
+    (index_found c.in-Some-get_edge_from_neighbors.ensures.some c.fix.ensures.value
+    c.fix.ensures.in_range)
+    (gets_mark c.undirected_edge_data.ensures c.as_undirected-edge.ensures
+    (sym c.is_constraint_edge.ensures ∙ c.if-not-is_constraint_edge.true)
+    (λ x. laws.marked_has_mark x c.requires.can_mark) c.make_constraint.ensures)
+    (λ x. laws.marked_has_mark x c.requires.can_mark)
 
 pub loop-next-preserved : goal.loop-next-preserved
 loop-next-preserved g c =
-    let edge = c.edge_between-edge.ensures in
-    let made = c.turn_listed.ensures in
-    adding_goes_on_by c.loop-next.invariant c.in-Some.ensures.piece.next _ made.makes edge.whole
-    edge.source edge.target (rw c.as_undirected.ensures at c.mark.ensures)
-    (λ x. g.met.M.ConstraintMarker.marked_has_mark x c.requires.can_mark) made.capacity
-    (room_on c.list_piece.ensures.room made.room)
+    adding_goes_on_by c.loop-next.invariant c.in-Some.ensures.piece.next c.list_piece.ensures.room
+    c.loop-edge.invariant c.in_default-next_turn.ensures.found c.next_turn.ensures.room
+    (index_found c.in-Some-get_edge_from_neighbors.ensures.some c.fix.ensures.value
+    c.fix.ensures.in_range)
+    (has_mark c.undirected_edge_data.ensures c.as_undirected-edge.ensures
+    (sym c.is_constraint_edge.ensures ∙ c.if-not-is_constraint_edge.false))
+    (λ x. g.met.M.ConstraintMarker.marked_has_mark x c.requires.can_mark)
+
+pub loop-next-smaller-then-not-is_constraint_edge :
+    goal.loop-next-smaller-then-not-is_constraint_edge
+loop-next-smaller-then-not-is_constraint_edge g c =
+    adding_shortens c.loop-next.invariant.so_far c.in-Some.ensures.piece.next
 
 pub loop-next-smaller : goal.loop-next-smaller
 loop-next-smaller g c =

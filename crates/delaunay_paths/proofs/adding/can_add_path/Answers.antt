@@ -1,16 +1,19 @@
 use Rattle.std.proofs.Common.{ℕ, ◌<◌, refl, subst}
 use Rattle.delaunay_lines.specs.delaunay_legalization.State.{state_of}
 use Rattle.delaunay_paths.proofs.InTheWay.{first_decides}
+use Rattle.delaunay_paths.proofs.JoinedPairs.{index_found}
 use Rattle.delaunay_paths.proofs.OnePiece.{found, joined_is_free}
 use Rattle.delaunay_paths.proofs.adding.can_add_path.Goals as goal
 
 pub returns-then-is_some : goal.returns-then-is_some
 returns-then-is_some g c =
-    let edge = found _ _ _ c.is_some.ensures c.if-is_some.true c.edge_if_joined.ensures.some in (
+    let edge = found _ _ _ c.is_some.ensures c.if-is_some.true
+    c.get_edge_from_neighbors.ensures.some in
+    let at = index_found edge.1 refl edge.0.in_range in (
       (λ t. joined_is_free g.V.HasPosition.place (state_of c.args.dcel.now) c.requires.kept _
-          (subst (λ (n : ℕ). edge.0 < n) c.requires.kept.fits.directed_fit edge.1.0)
-          g.M.ConstraintMarker.marks _ g.met.M.ConstraintMarker.constraints_are_marked _ _ edge.1.1
-          edge.1.2),
+          (subst (λ (n : ℕ). edge.0.index < n) c.requires.kept.fits.directed_fit at.0)
+          g.M.ConstraintMarker.marks _ g.met.M.ConstraintMarker.constraints_are_marked _ _ at.1
+          at.2),
       (λ free. refl),
     )
 

@@ -1,10 +1,19 @@
-use Rattle.std.proofs.Common.{ap, arith}
+use Rattle.std.proofs.Common.{◌∙◌, ap, arith, sym}
+use Rattle.delaunay_paths.proofs.Marks.{gets_mark, has_mark}
 use Rattle.delaunay_paths.proofs.OnePiece.{edge_added}
 use Rattle.delaunay_paths.proofs.constraints.constrain_edge.Goals as goal
 
-pub mark-requires-clause-within : goal.mark-requires-clause-within
-mark-requires-clause-within g c =
-    let fits = c.requires.legal.kept.fits in omega arith
+pub undirected_edge_data-requires : goal.undirected_edge_data-requires
+undirected_edge_data-requires g c = let fits = c.requires.legal.kept.fits in omega arith
+
+pub returns-then-is_constraint_edge-clause-adds : goal.returns-then-is_constraint_edge-clause-adds
+returns-then-is_constraint_edge-clause-adds g c =
+    let laws = g.met.M.ConstraintMarker in
+    edge_added _ _ _ _ laws.constraints_are_marked
+    (λ x. laws.marked_has_mark x c.requires.can_mark) _ _ c.requires.legal _
+    (rw c.requires.legal.kept.fits.directed_fit at c.requires.within)
+    (has_mark c.undirected_edge_data.ensures c.as_undirected-edge.ensures
+    (sym c.is_constraint_edge.ensures ∙ c.if-is_constraint_edge.true))
 
 pub returns-clause-adds : goal.returns-clause-adds
 returns-clause-adds g c =
@@ -12,7 +21,9 @@ returns-clause-adds g c =
     edge_added _ _ _ _ laws.constraints_are_marked
     (λ x. laws.marked_has_mark x c.requires.can_mark) _ _ c.requires.legal _
     (rw c.requires.legal.kept.fits.directed_fit at c.requires.within)
-    (rw c.as_undirected.ensures at c.mark.ensures)
+    (gets_mark c.undirected_edge_data.ensures c.as_undirected-edge.ensures
+    (sym c.is_constraint_edge.ensures ∙ c.if-is_constraint_edge.false)
+    (λ x. laws.marked_has_mark x c.requires.can_mark) c.make_constraint.ensures)
 
 pub returns-clause-mesh : goal.returns-clause-mesh
-returns-clause-mesh g c = ap (λ d. d.mesh) c.mark.ensures.whole
+returns-clause-mesh g c = ap (λ d. d.mesh) c.make_constraint.ensures.whole
