@@ -14,8 +14,8 @@ use delaunay_edit::delaunay_core::HintGenerator;
 use delaunay_edit::delaunay_core::math::PlaneTests;
 use delaunay_edit::delaunay_core::point::HasPosition;
 use delaunay_edit::delaunay_legalization::{EdgeConstraints, is_constraint_edge};
-use delaunay_edit::delaunay_paths::{add_constraints, constrain_edge, edge_if_joined};
-use delaunay_edit::half_edge_mesh::{FixedDirectedEdgeHandle, FixedVertexHandle};
+use delaunay_edit::delaunay_paths::{add_constraints, constrain_edge};
+use delaunay_edit::half_edge_mesh::{FixedDirectedEdgeHandle, FixedVertexHandle, MeshViews};
 use std::alloc::AllocError;
 
 impl<V: HasPosition, DE, UE, F, L: HintGenerator<V::Scalar>> ConstrainedDelaunayTriangulation<
@@ -98,7 +98,8 @@ impl<V: HasPosition, DE, UE, F, L: HintGenerator<V::Scalar>> ConstrainedDelaunay
         if from == to {
             return Ok(Some(false));
         }
-        if let Some(edge) = edge_if_joined(&self.dcel, from, to) {
+        if let Some(edge) = self.dcel.get_edge_from_neighbors(from, to) {
+            let edge = edge.fix();
             return Ok(Some(self.constrain(edge)));
         }
         let counted = count_path::<EdgeConstraints, _, _, _, _, _>(&self.dcel, from, to, tests);

@@ -30,10 +30,10 @@ use delaunay_edit::delaunay_legalization::{
 };
 use delaunay_edit::delaunay_lines::{ConflictingEdgesIterator, HasMesh, intersects_constraint};
 use delaunay_edit::delaunay_paths::{
-    can_add_path, edge_if_joined, edges_along, is_constraint_between, release_constraint,
+    can_add_path, edges_along, is_constraint_between, release_constraint,
 };
 use delaunay_edit::half_edge_mesh::{
-    FixedDirectedEdgeHandle, FixedUndirectedEdgeHandle, FixedVertexHandle,
+    FixedDirectedEdgeHandle, FixedUndirectedEdgeHandle, FixedVertexHandle, MeshViews,
 };
 use std::alloc::AllocError;
 use std::marker::PhantomData;
@@ -118,7 +118,8 @@ impl<V: HasPosition, DE, UE, F, L: HintGenerator<V::Scalar>> ConstrainedDelaunay
         if from == to {
             return Ok(edges);
         }
-        if let Some(edge) = edge_if_joined(&self.dcel, from, to) {
+        if let Some(edge) = self.dcel.get_edge_from_neighbors(from, to) {
+            let edge = edge.fix();
             edges.push(edge)?;
             self.constrain(edge);
             return Ok(edges);

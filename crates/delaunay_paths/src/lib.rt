@@ -17,5 +17,5 @@ mod path_edges;
 pub use adding::{add_path, can_add_path};
 pub use constraints::{add_constraints, constrain_edge, release_constraint};
 pub use crossing::CrossingLists;
-pub use joined::{edge_if_joined, is_constraint_between};
+pub use joined::is_constraint_between;
 pub use path_edges::edges_along;

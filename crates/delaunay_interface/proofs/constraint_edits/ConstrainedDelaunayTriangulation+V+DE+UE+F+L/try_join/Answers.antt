@@ -1,6 +1,7 @@
 use Rattle.std.proofs.Common.{◌∙◌, refl, sym}
 use Rattle.std.proofs.lemmas.Bool.{eqb-true}
 use Rattle.std.proofs.lemmas.Result.{err_from_is_err_and}
+use Rattle.delaunay_edit.proofs.delaunay_paths_lemmas.JoinedPairs.{index_found}
 use Rattle.delaunay_edit.proofs.EditingConstraints.{nothing_added, path_added}
 use Rattle.delaunay_edit.proofs.OnePieceAdded.{edge_told, none_missing, none_to_itself, some_missing}
 use Rattle.delaunay_interface.proofs.constraint_edits.ConstrainedDelaunayTriangulation+V+DE+UE+F+L.try_join.Goals as goal
@@ -10,10 +11,16 @@ returns-then-eq-clause-adds g c =
     none_to_itself _ _ c.recall_well_formed.ensures.kept _ _ c.requires.from_in
     (eqb-true _ _ (sym c.eq.ensures ∙ c.if-eq.true))
 
+pub constrain-requires : goal.constrain-requires
+constrain-requires g c = rw (← c.self.view_is) (index_found c.in-Some.ensures.some
+    c.fix-edge.ensures.value c.fix-edge.ensures.in_range).0
+
 pub returns-in-Some-clause-adds : goal.returns-in-Some-clause-adds
 returns-in-Some-clause-adds g c =
-    edge_told c.constrain.ensures.adds (rw (← c.self.view_is) c.in-Some.ensures.some.1)
-    (rw (← c.self.view_is) c.in-Some.ensures.some.2)
+    let found = index_found c.in-Some.ensures.some c.fix-edge.ensures.value
+    c.fix-edge.ensures.in_range in
+    edge_told c.constrain.ensures.adds (rw (← c.self.view_is) found.1)
+    (rw (← c.self.view_is) found.2)
 
 pub returns-in_default-counted-clause-adds : goal.returns-in_default-counted-clause-adds
 returns-in_default-counted-clause-adds g c =

@@ -4,6 +4,7 @@ use Rattle.delaunay_edit.specs.half_edge_mesh.Mesh.{origin, rev}
 use Rattle.delaunay_edit.specs.delaunay_legalization.CdtEdge.{is_constraint}
 use Rattle.delaunay_edit.specs.delaunay_legalization.State.{state_of}
 use Rattle.delaunay_edit.proofs.delaunay_legalization_lemmas.Questions.{both_ways}
+use Rattle.delaunay_edit.proofs.delaunay_paths_lemmas.JoinedPairs.{index_found}
 use Rattle.delaunay_edit.proofs.delaunay_paths_lemmas.OnePiece.{joined_is_free}
 use Rattle.delaunay_edit.specs.Constrained.{constraint_edges}
 use Rattle.delaunay_edit.proofs.EditingConstraints.{none_listed, path_is_there}
@@ -18,28 +19,34 @@ returns-then-eq-clause-path g c =
 pub returns-in_err-push-clause-none : goal.returns-in_err-push-clause-none
 returns-in_err-push-clause-none g c =
     let kept = c.self.invariant.0.legal.kept in
-    let found = c.in-Some.ensures.some in
+    let found = index_found c.in-Some.ensures.some c.fix-edge.ensures.value
+    c.fix-edge.ensures.in_range in
     let free = joined_is_free g.V.HasPosition.place (state_of c.self.inside.dcel) kept
-    c.in-Some.edge (rw kept.fits.directed_fit at found.0) is_constraint constraint_edges
+    c.fix-edge.result (rw kept.fits.directed_fit at found.0) is_constraint constraint_edges
     (λ ds. refl) c.args.from c.args.to found.1 found.2 in
     λ barred. absurd (elim barred as (λ _. ⊥) [
       | inl same ↦ both_ways _ (c.eq.ensures ∙ eq-eqb _ _ same) c.if-eq.false
       | inr none ↦ none (rw (← c.self.view_is) free)
     ])
 
+pub constrain-requires : goal.constrain-requires
+constrain-requires g c = rw (← c.self.view_is) (index_found c.in-Some.ensures.some
+    c.fix-edge.ensures.value c.fix-edge.ensures.in_range).0
+
 pub returns-in-Some-clause-path : goal.returns-in-Some-clause-path
 returns-in-Some-clause-path g c =
     let old = c.args.self.now in
-    let edge = c.in-Some.edge in
+    let edge = c.fix-edge.result in
+    let found = index_found c.in-Some.ensures.some c.fix-edge.ensures.value
+    c.fix-edge.ensures.in_range in
     let kept = c.recall_well_formed.ensures.kept in
-    let within : edge < length old.directed = rw (← c.self.view_is) c.in-Some.ensures.some.0 in
+    let within : edge < length old.directed = rw (← c.self.view_is) found.0 in
     let listed = edge_listed c.constrain.ensures.adds kept (rw kept.fits.directed_fit at within)
     c.constrain.ensures.mesh _ (c.in_ok-push.ensures.items
     ∙ ap (λ (hs : List ℕ). hs ++ edge ∷ []) c.new-edges.ensures.items) in
     list_renamed g.V.HasPosition.place old c.constrain.new.self _ (origin old.mesh edge)
     (origin old.mesh (rev edge)) c.args.from c.args.to
-    (rw (← c.self.view_is) c.in-Some.ensures.some.1)
-    (rw (← c.self.view_is) c.in-Some.ensures.some.2) listed
+    (rw (← c.self.view_is) found.1) (rw (← c.self.view_is) found.2) listed
 
 pub returns-in_default-counted-clause-path : goal.returns-in_default-counted-clause-path
 returns-in_default-counted-clause-path g c =
