@@ -13,8 +13,8 @@ use delaunay_edit::count_path;
 use delaunay_edit::delaunay_core::HintGenerator;
 use delaunay_edit::delaunay_core::math::PlaneTests;
 use delaunay_edit::delaunay_core::point::HasPosition;
-use delaunay_edit::delaunay_legalization::{EdgeConstraints, is_constraint_edge};
-use delaunay_edit::delaunay_paths::{add_constraints, constrain_edge};
+use delaunay_edit::delaunay_legalization::{EdgeConstraints, Sides, is_constraint_edge, legalize};
+use delaunay_edit::delaunay_paths::{add_path, constrain_edge};
 use delaunay_edit::half_edge_mesh::{FixedDirectedEdgeHandle, FixedVertexHandle, MeshViews};
 use std::alloc::AllocError;
 
@@ -67,13 +67,20 @@ impl<V: HasPosition, DE, UE, F, L: HintGenerator<V::Scalar>> ConstrainedDelaunay
         let edges = 3 * self.dcel.num_vertices();
         self.work.reserve(edges)?;
         self.crossing.reserve(edges)?;
-        let mut flips = 0;
-        add_constraints::<EdgeConstraints, _, _, _, _, _>(
+        self.work.clear();
+        add_path::<EdgeConstraints, _, _, _, _, _>(
             &mut self.dcel,
             from,
             to,
             tests,
             &mut self.crossing,
+            &mut self.work,
+        );
+        let mut flips = 0;
+        legalize::<EdgeConstraints, _, _, _, _, _>(
+            &mut self.dcel,
+            &Sides::Round,
+            tests,
             &mut self.work,
             &mut flips,
         );

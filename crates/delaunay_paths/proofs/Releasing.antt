@@ -1,9 +1,9 @@
 -- A constraint that is released, and what is left to test then.
 -- Lemmas: same_pair_or_not, double, one_edge, released_kept, released_left, released_room,
--- released, added_sites, added_fits, added_counts, added_room, added_left, constraints_added.
+-- released, added_left, constraints_added.
 use Rattle.std.proofs.Common.{◌≡◌, ◌≢◌, ◌⊎◌, ◌↔◌, ◌*◌, ◌<◌, ◌≤◌, [], ◌∷◌, ◌∙◌}
 use Rattle.std.proofs.Common.{ℕ, List, length, map, set, sym, ap, subst, inl, inr, arith}
-use Rattle.std.specs.Prelude.{Bool, false, All, Contains}
+use Rattle.std.specs.Prelude.{Bool, false, Contains}
 use Rattle.std.proofs.lemmas.Bool.{cases_eq}
 use Rattle.std.proofs.lemmas.List.{length-set}
 use Rattle.delaunay_lines.specs.half_edge_mesh.Mesh.{Mesh, origin, rev}
@@ -23,7 +23,6 @@ use Rattle.delaunay_lines.proofs.mesh_embedding.WorkLists.{once_after}
 use Rattle.delaunay_lines.specs.delaunay_legalization.Constraints.{marked_edges, constraint_pairs}
 use Rattle.delaunay_lines.specs.delaunay_legalization.Constraints.{constraints_by}
 use Rattle.delaunay_lines.specs.delaunay_legalization.Constraints.{points_and_constraints_by}
-use Rattle.delaunay_lines.specs.delaunay_legalization.Flips.{CountsFlips, FlipsFit}
 use Rattle.delaunay_lines.specs.delaunay_legalization.Marking.{HasEdgeData}
 use Rattle.delaunay_lines.specs.delaunay_legalization.Shape.{IsTriangulated}
 use Rattle.delaunay_lines.specs.delaunay_legalization.Shape.{IsDelaunayTriangulation}
@@ -192,30 +191,6 @@ module _ {V D U F : Type 0} {at : V → Point} (marks : U → Bool) {constraints
 module _ {V D U F : Type 0} {at : V → Point} {marks : U → Bool} {marked : U → U}
     {constraints : List U → List ℕ} {old mid : Contents V D U F} {i j : ℕ}
     (adds : AddsPath at marks marked constraints old mid i j) where
-  -- vertices that are sites are sites still
-  pub added_sites : (IsSite : Point → Type 0) → All IsSite (map at old.vertices)
-      → All IsSite (map at mid.vertices)
-  added_sites IsSite sites =
-      subst (λ (vs : List V). All IsSite (map at vs)) (sym adds.plain.vertices) sites
-
-  -- flips that fit in the count fit in it still
-  pub added_fits : (flips : ℕ) → FlipsFit (length old.vertices) flips
-      → FlipsFit (length mid.vertices) flips
-  added_fits flips h =
-      subst (λ (vs : List V). FlipsFit (length vs) flips) (sym adds.plain.vertices) h
-
-  -- a count of the flips afterwards is one of before
-  pub added_counts : {before after : ℕ} → CountsFlips (length mid.vertices) before after
-      → CountsFlips (length old.vertices) before after
-  added_counts {before = before} {after = after} h =
-      subst (λ (vs : List V). CountsFlips (length vs) before after) adds.plain.vertices h
-
-  -- what has room for three edges for each vertex has room for the edges
-  pub added_room : {room : ℕ} → 3 * length old.vertices ≤ room → length mid.undirected ≤ room
-  added_room fits =
-      let few = adds.kept.few_edges in let same = ap length adds.plain.vertices in
-      omega (arith, few, same, fits)
-
   -- all passed but the constraints, and these are constraints still
   pub added_left : {was left : List ℕ} → LeavesToTest (map at old.vertices) old mid was left
       → IsDelaunayTriangulation at constraints (state_of old)

@@ -1,59 +1,17 @@
-//! Constraints that are added and released, with each other edge legal afterwards.
+//! Edges that become constraints and are released, with each other edge legal afterwards.
 ghost use Rattle.std.specs.Prelude.{◌≡◌, ◌*◌, ◌<◌, ◌≤◌, true, length, map, All, Contains};
 ghost use Rattle.delaunay_lines.specs.half_edge_mesh.Mesh.{origin, rev};
 ghost use Rattle.delaunay_lines.specs.delaunay_legalization.Flips.{CountsFlips, FlipsFit};
 ghost use Rattle.delaunay_lines.specs.delaunay_legalization.Shape.{IsDelaunayTriangulation};
 ghost use Rattle.delaunay_lines.specs.delaunay_legalization.State.{state_of};
-ghost use Rattle.delaunay_paths.specs.Adding.{HasFreeWay};
-ghost use Rattle.delaunay_paths.specs.Lists.{HaveRoom};
 ghost use Rattle.delaunay_paths.specs.Releasing.{AddsConstraints, ReleasesEdge};
 
-use crate::adding::add_path;
-use crate::crossing::CrossingLists;
 use delaunay_lines::delaunay_core::math::PlaneTests;
 use delaunay_lines::delaunay_core::point::HasPosition;
 use delaunay_lines::delaunay_legalization::{
     ConstraintMarker, EdgeSet, Sides, free_edge, legalize, make_constraint,
 };
-use delaunay_lines::half_edge_mesh::{
-    Dcel, FixedDirectedEdgeHandle, FixedUndirectedEdgeHandle, FixedVertexHandle,
-};
-
-/// Adds the pieces of the path between two vertices, whose segment no constraint crosses, to the
-/// constraints, and flips edges that fail the circle test until none does. `work` and each of the
-/// two lists of crossing edges has room for each edge, and `flips` counts on.
-pub fn add_constraints<
-    M: ConstraintMarker<UE>,
-    V: HasPosition,
-    DE,
-    UE,
-    F,
-    P: PlaneTests<V::Scalar>,
->(
-    dcel: &mut Dcel<V, DE, UE, F>,
-    from: FixedVertexHandle,
-    to: FixedVertexHandle,
-    tests: &P,
-    lists: &mut CrossingLists,
-    work: &mut EdgeSet,
-    flips: &mut u64,
-)
-    requires can_mark { M.can_mark ≡ true }
-    requires way { HasFreeWay V.place M.constraints dcel.old from to }
-    requires legal { IsDelaunayTriangulation V.place M.constraints (state_of dcel.old) }
-    requires sites { All (P.sites tests.now) (map V.place dcel.old.vertices) }
-    requires room { (3 * length dcel.old.vertices ≤ work.old.room) ×
-        HaveRoom (3 * length dcel.old.vertices) lists.old }
-    requires fits { FlipsFit (length dcel.old.vertices) flips.old }
-
-    ensures adds { AddsConstraints V.place M.marks M.marked M.constraints dcel.old dcel.new from
-        to }
-    ensures counted { CountsFlips (length dcel.old.vertices) flips.old flips.new }
-{
-    work.clear();
-    add_path::<M, _, _, _, _, _>(dcel, from, to, tests, lists, work);
-    legalize::<M, _, _, _, _, _>(dcel, &Sides::Round, tests, work, flips);
-}
+use delaunay_lines::half_edge_mesh::{Dcel, FixedDirectedEdgeHandle, FixedUndirectedEdgeHandle};
 
 /// Makes an edge a constraint, unless it is one. No edge is turned for it.
 pub fn constrain_edge<M: ConstraintMarker<UE>, V: HasPosition, DE, UE, F>(

@@ -15,7 +15,7 @@ mod path_edges;
 
 // For the crates of edits and for tests, and not for users.
 pub use adding::{add_path, can_add_path};
-pub use constraints::{add_constraints, constrain_edge, release_constraint};
+pub use constraints::{constrain_edge, release_constraint};
 pub use crossing::CrossingLists;
 pub use joined::is_constraint_between;
 pub use path_edges::edges_along;

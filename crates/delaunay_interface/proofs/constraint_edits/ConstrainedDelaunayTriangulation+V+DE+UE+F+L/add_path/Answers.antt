@@ -1,6 +1,11 @@
 use Rattle.std.proofs.Common.{◌+◌, length, refl, ap, arith}
-use Rattle.delaunay_edit.specs.delaunay_legalization.CdtEdge.{is_constraint}
+use Rattle.std.specs.Prelude.{true}
+use Rattle.delaunay_edit.specs.delaunay_legalization.CdtEdge.{is_constraint, with_mark}
 use Rattle.delaunay_edit.specs.delaunay_legalization.State.{state_of}
+use Rattle.delaunay_edit.specs.delaunay_paths.Releasing.{AddsConstraints}
+use Rattle.delaunay_edit.proofs.delaunay_paths_lemmas.AddingPieces.{cleared_work}
+use Rattle.delaunay_edit.proofs.delaunay_paths_lemmas.MovedEdges.{fewer_fit}
+use Rattle.delaunay_edit.proofs.delaunay_paths_lemmas.Releasing.{added_left, constraints_added}
 use Rattle.delaunay_edit.specs.Constrained.{constraint_edges}
 use Rattle.delaunay_edit.specs.Counting.{IsCounted}
 use Rattle.delaunay_edit.proofs.EditingConstraints.{edges_marked}
@@ -8,18 +13,38 @@ use Rattle.delaunay_edit.proofs.Recounted.{counted_added, few_counted}
 use Rattle.delaunay_edit.proofs.WellFormed.{is_delaunay}
 use Rattle.delaunay_interface.proofs.Kept.{held_of_same}
 use Rattle.delaunay_interface.proofs.constraint_edits.ConstrainedDelaunayTriangulation+V+DE+UE+F+L.add_path.Given.{Over}
-use Rattle.delaunay_interface.proofs.constraint_edits.ConstrainedDelaunayTriangulation+V+DE+UE+F+L.add_path.Goals.{After-add_constraints}
+use Rattle.delaunay_interface.proofs.constraint_edits.ConstrainedDelaunayTriangulation+V+DE+UE+F+L.add_path.Goals.{After-legalize}
 use Rattle.delaunay_interface.proofs.constraint_edits.ConstrainedDelaunayTriangulation+V+DE+UE+F+L.add_path.Goals as goal
 
--- there are so many constraints more
-counted : (g : Over) (c : After-add_constraints g) → IsCounted g.V.HasPosition.place
-    constraint_edges (state_of c.add_constraints.new.dcel)
-    (c.self.inside.num_constraints + c.args.missing)
-counted g c = counted_added is_constraint (λ ds. refl) c.self.invariant.0
-    c.add_constraints.ensures.adds (rw (← c.self.view_is) at c.requires.missing)
+-- the path is added
+added : (g : Over) (c : After-legalize g) → AddsConstraints g.V.HasPosition.place is_constraint
+    (with_mark true) constraint_edges c.self.inside.dcel c.legalize.new.dcel c.args.from c.args.to
+added g c =
+    let flips = c.legalize.ensures.legalizes in
+    constraints_added c.add_path.ensures.adds flips.contents flips.constraints flips.legal
 
-pub add_constraints-requires-clause-way : goal.add_constraints-requires-clause-way
-add_constraints-requires-clause-way g c = record {
+-- there are so many constraints more
+counted : (g : Over) (c : After-legalize g) → IsCounted g.V.HasPosition.place
+    constraint_edges (state_of c.legalize.new.dcel)
+    (c.self.inside.num_constraints + c.args.missing)
+counted g c = counted_added is_constraint (λ ds. refl) c.self.invariant.0 (added g c)
+    (rw (← c.self.view_is) at c.requires.missing)
+
+pub add_path-requires-clause-room : goal.add_path-requires-clause-room
+add_path-requires-clause-room g c =
+    let few = c.self.invariant.0.legal.kept.few_edges in
+    let all = c.num_vertices-edges.ensures.value in (
+      cleared_work _ _ _ _ few (rw all at c.in_ok-reserve.ensures.room) c.clear.ensures.room
+          c.clear.ensures.items,
+      fewer_fit _ _ _ few (rw all at c.in_ok-reserve-2.ensures),
+    )
+
+pub legalize-requires-clause-left : goal.legalize-requires-clause-left
+legalize-requires-clause-left g c =
+    added_left c.add_path.ensures.adds c.add_path.ensures.leaves c.self.invariant.0.legal
+
+pub add_path-requires-clause-way : goal.add_path-requires-clause-way
+add_path-requires-clause-way g c = record {
   from = rw (← c.self.view_is) at c.requires.within.0;
   to = rw (← c.self.view_is) at c.requires.within.1;
   free = rw (← c.self.view_is) at c.requires.free;
@@ -27,26 +52,28 @@ add_constraints-requires-clause-way g c = record {
 
 pub returns-clause-data : goal.returns-clause-data
 returns-clause-data g c =
-    rw (← c.self.view_is) (edges_marked _ _ _ _ _ c.add_constraints.ensures.adds)
+    rw (← c.self.view_is) (edges_marked _ _ _ _ _
+    (added g (goal.at.returns-clause-data g c).After-legalize))
 
 pub overflow_add-self : goal.overflow_add-self
 overflow_add-self g c =
     let room = few_counted is_constraint (λ ds. refl)
-    (counted g (goal.at.overflow_add-self g c).After-add_constraints) in
-    let same = ap (λ vs. length vs) c.add_constraints.ensures.adds.plain.vertices in
+    (counted g (goal.at.overflow_add-self g c).After-legalize) in
+    let same = ap (λ vs. length vs) c.add_path.ensures.adds.plain.vertices in
     let few = rw (← c.self.view_is) at c.recall_well_formed.ensures.small in
     omega (arith, room, same, few)
 
 pub invariant_of-self-2 : goal.invariant_of-self-2
 invariant_of-self-2 g c = (
-  counted g (goal.at.invariant_of-self-2 g c).After-add_constraints,
+  counted g (goal.at.invariant_of-self-2 g c).After-legalize,
   held_of_same g.V.HasPosition.place _ _ _
-      (ap (λ d. d.vertices) c.add_constraints.ensures.adds.contents) c.self.invariant.1,
+      (ap (λ d. d.vertices)
+      (added g (goal.at.invariant_of-self-2 g c).After-legalize).contents) c.self.invariant.1,
 )
 
 pub returns-clause-headline : goal.returns-clause-headline
 returns-clause-headline g c =
-    is_delaunay _ is_constraint constraint_edges (λ ds. refl) _ c.add_constraints.ensures.adds.legal
+    is_delaunay _ is_constraint constraint_edges (λ ds. refl) _ c.legalize.ensures.legalizes.legal
 
 pub returns-in_err-reserve-clause-headline : goal.returns-in_err-reserve-clause-headline
 returns-in_err-reserve-clause-headline g c =
