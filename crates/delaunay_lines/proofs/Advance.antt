@@ -1,9 +1,10 @@
 -- What is left of a walk from one item to the next.
 -- Notions: Others, IsFirstOf; none_further, one_further, further, one_fewer, some_left, first_of,
--- starts_with, starts_at_vertex.
+-- starts_with, starts_at_vertex, walks_line, is_ready.
 use Rattle.std.proofs.Common.{◌≡◌, ◌≢◌, ◌⊎◌, ◌+◌, ◌-◌, ◌<◌, ◌≤◌, [], ◌∷◌}
 use Rattle.std.proofs.Common.{ℕ, List, length, map, Option, Some, None}
 use Rattle.std.proofs.Common.{refl, sym, ap, subst, inl, inr, arith}
+use Rattle.std.specs.Prelude.{ℤ}
 use Rattle.std.proofs.lemmas.List.{length-map}
 use Rattle.delaunay_location.specs.half_edge_mesh.Contents.{Contents}
 use Rattle.delaunay_location.specs.plane.Fraction.{Point, whole, IsSame}
@@ -20,12 +21,15 @@ use Rattle.delaunay_location.proofs.plane.Segments.{same-refl}
 use Rattle.plane_segments.proofs.Crossing.EitherWay.{one_point}
 use Rattle.delaunay_location.specs.mesh_embedding.Drawn.{drawn, edges_of}
 use Rattle.delaunay_location.proofs.delaunay_legalization_lemmas.ElementCounts.{edges_counted}
+use Rattle.delaunay_location.specs.delaunay_core.Place.{place_of}
 use Rattle.delaunay_location.specs.delaunay_legalization.Known.{point_at}
+use Rattle.delaunay_location.specs.delaunay_legalization.State.{state_of}
+use Rattle.delaunay_lines.specs.declared.iterator.LineIntersectionIterator.{LineIntersectionIterator}
 use Rattle.delaunay_lines.specs.declared.intersection.FixedIntersection.{FixedIntersection}
 use Rattle.delaunay_lines.specs.declared.intersection.FixedIntersection.TheVariants.{Vertex}
 use Rattle.delaunay_lines.specs.Items.{item_of, IsHandleOf}
 use Rattle.delaunay_lines.specs.Steps.{IsOverMesh, IsNext}
-use Rattle.delaunay_lines.specs.Walk.{ComeAfter, AreFrom, Starts}
+use Rattle.delaunay_lines.specs.Walk.{ComeAfter, AreFrom, IsReady, Starts, WalksLine}
 use Rattle.delaunay_lines.proofs.MeshSteps.{laid}
 
 module _ {V D U F : Type 0} {at : V → Point} {IsSite IsCovered : Point → Type 0}
@@ -179,3 +183,30 @@ module _ {V D U F : Type 0} {at : V → Point} {IsSite IsCovered : Point → Typ
       v
       (subst (λ (n : ℕ). v < n) (sym (length-map c.vertices at)) here)
       (subst (λ (z : Point). IsSame (whole p) (whole z)) is (same-refl (whole p))))
+
+-- an iterator at the first item of the line list walks it
+module _ {V D U F P S : Type 0} {at : V → Point} {number : S → ℤ}
+    {it : LineIntersectionIterator V D U F P S}
+    (first : Starts at it.dcel.now (place_of number it.from) (place_of number it.to)
+    it.current) where
+  pub walks_line : WalksLine at number (state_of it.dcel.now) (place_of number it.from)
+      (place_of number it.to) it
+  walks_line = record {
+    state = refl;
+    items = first.items;
+    line_list = first.line_list;
+    are_left = first.are_from;
+  }
+
+  -- and is ready, if it counts each item
+  pub is_ready : {IsSite IsCovered : P → Point → Type 0}
+      → IsOverMesh at (IsSite it.tests.now) (IsCovered it.tests.now) it.dcel.now
+      (place_of number it.from) (place_of number it.to)
+      → length it.dcel.now.vertices + length it.dcel.now.undirected ≤ it.left
+      → IsReady at number IsSite IsCovered it
+  is_ready over counted = record {
+    over = over;
+    items = first.items;
+    are_left = first.are_from;
+    few = omega (arith, first.few, counted);
+  }

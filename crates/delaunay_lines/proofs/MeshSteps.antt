@@ -1,8 +1,8 @@
 -- From an item that a segment meets to the next, by the links of a mesh.
--- Lemmas: over_value, not_same, positive, laid, in_mesh, of_mesh, joined, tiles_with, bare,
+-- Notions: IsExit; over_value, not_same, positive, at_ends, side_at, laid, in_mesh, of_mesh, joined, tiles_with, bare,
 -- face_at, start_in, start_known, twin_within, next_spoke, ends_apart, twin_of_prev, twin_of_next,
--- last_at_edge, through_right, through_left, ends_inside, at_corner, last_within_overlap,
--- end_of_overlap, last_at_end, last_if_none_leads, along_ahead, into_face.
+-- last_at_edge, ends_inside, at_corner, through_exit, last_within_overlap,
+-- end_of_overlap, end_if_same, last_at_end, last_if_none_leads, along_ahead, last_in_face, through_far.
 use Rattle.std.proofs.Common.{◌≡◌, ◌≢◌, ◌⊎◌, ◌↔◌, ◌<◌, ◌∙◌, ◌∷◌}
 use Rattle.std.specs.Borrow.{Bor}
 use Rattle.std.proofs.Common.{ℕ, List, length, map, Option, Some, None, sym, ap, subst}
@@ -40,8 +40,9 @@ use Rattle.delaunay_location.proofs.delaunay_legalization_lemmas.Rounds.{next_st
 use Rattle.delaunay_lines.specs.declared.intersection.FixedIntersection.{FixedIntersection}
 use Rattle.delaunay_lines.specs.Items.{item_of, IsHandleOf}
 use Rattle.delaunay_lines.specs.Over.{Spanning}
-use Rattle.delaunay_lines.specs.Steps.{IsOverMesh, IsNext, IsLeftOf, LeavesBy, IsEdgeAhead}
+use Rattle.delaunay_lines.specs.Steps.{IsOverMesh, IsLeftOf, IsEdgeAhead}
 use Rattle.delaunay_lines.specs.Steps.{IsInCone, LeadsOn}
+use Rattle.delaunay_lines.proofs.SegmentTests.{differs_if_within}
 
 -- what holds of a segment by its fields holds of its value
 pub over_value : {V D U F P : Type 0} {at : V → Point} {IsSite IsCovered : Point → Type 0}
@@ -59,6 +60,24 @@ not_same p q n e = n (one_point p q e)
 -- a number that is not 0 is positive
 pub positive : (n : ℕ) → (n ≡ 0 → ⊥) → 0 < n
 positive n h = omega (arith, h)
+
+-- what an answer says of two points and a third, it says of what the two are
+pub at_ends : (K : Fraction → Fraction → Fraction → Type 0) {R : Type 0} {u v a b : Point}
+    {w : Fraction} → u ≡ a → v ≡ b → R ↔ K (whole u) (whole v) w → R ↔ K (whole a) (whole b) w
+at_ends K {R = R} {w = w} from to =
+    subst (λ (z : Point × Point). R ↔ K (whole z.0) (whole z.1) w) (λ i. (from i, to i))
+
+-- and the side of a point is the side of what this is
+pub side_at : (p q : Fraction) {u a : Point} {z : Side} → z ≡ side p q (whole u) → u ≡ a
+    → z ≡ side p q (whole a)
+side_at p q e is = e ∙ ap (λ (x : Point). side p q (whole x)) is
+
+-- side x of the face on the left of directed edge h is the one before h where the opposite corner
+-- is on the right of the segment from p to q, else the one after h
+abbrev pub IsExit : List Point → Mesh → Point → Point → ℕ → ℕ → Type 0
+IsExit points m p q h x =
+    ((side (whole p) (whole q) (place points (origin m (prev m h))) ≡ right) × (x ≡ prev m h))
+    ⊎ ((side (whole p) (whole q) (place points (origin m (prev m h))) ≢ right) × (x ≡ next m h))
 
 module _ {V D U F : Type 0} {at : V → Point} {IsSite IsCovered : Point → Type 0}
     {c : Contents V D U F} {p q : Point} (over : IsOverMesh at IsSite IsCovered c p q) where
@@ -270,51 +289,44 @@ module _ {V D U F : Type 0} {at : V → Point} {IsSite IsCovered : Point → Typ
         across_prev : crossed (rev (prev m h)) ≡ across a d
         across_prev = λ i. across (twin_of_prev h w inner i) (ap (origin m) (rev-rev (prev m h)) i)
 
-        -- the opposite corner is on the right: the side before h is next, or none if q is inside of
-        -- it
-        pub through_right : side (whole p) (whole q) (place points d) ≡ right
-            → (r : Option FixedIntersection) → LeavesBy at c q (prev m h) r
-            → IsNext at c p q (crossed h) r
-        through_right x None l = law.4 x (side_before.0 l)
-        through_right x (Some n) l =
-            subst (λ (k : FixedIntersection). IsHandleOf c k
-            × Next (across a b) (item_of m k)) (sym l.0) (
-              l.1,
-              subst (Next (across a b)) (sym across_prev) (law.1 x (λ y. l.2 (side_before.1 y))),
-            )
+        -- by where q and the corner are, seen from the side by which the segment leaves the face
+        module _ {x : ℕ} (exit : IsExit points m p q h x) where
+          -- q is inside of it: edge h is the last item
+          pub ends_inside : IsLeftOf points m q x → Last (crossed h)
+          ends_inside l = elim exit [
+            | inl e ↦ law.4 e.0 (side_before.0 (subst (IsLeftOf points m q) e.1 l))
+            | inr e ↦ law.3 e.0 (side_after.0 (subst (IsLeftOf points m q) e.1 l))
+          ]
 
-        -- the opposite corner is on the left: the side after h is next, or none if q is inside of
-        -- it
-        pub through_left : side (whole p) (whole q) (place points d) ≡ left
-            → (r : Option FixedIntersection) → LeavesBy at c q (next m h) r
-            → IsNext at c p q (crossed h) r
-        through_left x None l = law.3 (λ y. differ (sym x ∙ y)) (side_after.0 l)
-          where
-            differ : left ≡ right → ⊥
-            differ e = cc
-        through_left x (Some n) l =
-            subst (λ (k : FixedIntersection). IsHandleOf c k
-            × Next (across a b) (item_of m k)) (sym l.0)
-            (l.1, subst (Next (across a b)) (sym across_next) (law.0 x (λ y. l.2 (side_after.1 y))))
+          module _ (outside : ¬ IsLeftOf points m q x) where
+            -- q is not, and the corner is on the line: the corner is next
+            pub at_corner : side (whole p) (whole q) (place points d) ≡ on
+                → Next (crossed h) (at_vertex d)
+            at_corner flat = elim exit [
+              | inl e ↦ absurd (differ (sym flat ∙ e.0))
+              | inr e ↦ law.2 flat
+                  (λ y. outside (subst (IsLeftOf points m q) (sym e.1) (side_after.1 y)))
+            ]
+              where
+                differ : on ≡ right → ⊥
+                differ e = cc
 
-        -- a side that is neither right nor left is on
-        flat : (z : Side) → z ≢ right → z ≢ left → z ≡ on
-        flat left r l = absurd (l (λ _. left))
-        flat right r l = absurd (r (λ _. right))
-        flat on r l = λ _. on
-
-        -- that corner is not on the right, and q is inside the side after h: the edge is the last
-        -- item
-        pub ends_inside : side (whole p) (whole q) (place points d) ≢ right
-            → IsLeftOf points m q (next m h) → Last (crossed h)
-        ends_inside x l = law.3 x (side_after.0 l)
-
-        -- that corner is on the line, and q is not inside the side after h: the corner is next
-        pub at_corner : side (whole p) (whole q) (place points d) ≢ right
-            → side (whole p) (whole q) (place points d) ≢ left → ¬ IsLeftOf points m q (next m h)
-            → Next (crossed h) (at_vertex d)
-        at_corner x y l =
-            law.2 (flat (side (whole p) (whole q) (place points d)) x y) (λ z. l (side_after.1 z))
+            -- the corner is beside the line: the side is next
+            pub through_exit : side (whole p) (whole q) (place points d) ≢ on
+                → Next (crossed h) (crossed (rev x))
+            through_exit beside = elim exit [
+              | inl e ↦ subst (λ (y : ℕ). Next (crossed h) (crossed (rev y))) (sym e.1)
+                  (subst (Next (across a b)) (sym across_prev) (law.1 e.0
+                  (λ y. outside (subst (IsLeftOf points m q) (sym e.1) (side_before.1 y)))))
+              | inr e ↦ subst (λ (y : ℕ). Next (crossed h) (crossed (rev y))) (sym e.1)
+                  (subst (Next (across a b)) (sym across_next) (law.0 (is_left _ e.0 beside)
+                  (λ y. outside (subst (IsLeftOf points m q) (sym e.1) (side_after.1 y)))))
+            ]
+              where
+                is_left : (z : Side) → z ≢ right → z ≢ on → z ≡ left
+                is_left left r o = λ _. left
+                is_left right r o = absurd (r (λ _. right))
+                is_left on r o = absurd (o (λ _. on))
 
     -- ---- after an edge that is overlapped
     abbrev overlapped : ℕ → Item
@@ -340,6 +352,19 @@ module _ {V D U F : Type 0} {at : V → Point} {IsSite IsCovered : Point → Typ
       pub end_of_overlap : ¬ WithinSegment (start h) (start (rev h)) (whole q) →
           Next (overlapped h) (at_vertex (origin m (rev h)))
       end_of_overlap x = overlap_law.1 x
+
+      -- it is where q is at one of its ends
+      pub end_if_same : h < length c.directed → {u v : Point} → u ≡ point_at points (origin m h)
+          → v ≡ point_at points (origin m (rev h)) → (q ≡ u) ⊎ (q ≡ v)
+          → Next (overlapped h) (at_vertex (origin m (rev h)))
+      end_if_same within {u = u} {v = v} from to same = end_of_overlap (λ w. neither_end same
+          (differs_if_within u v (ends_apart h within u v from to) q
+          (subst (λ (x : Point × Point). WithinSegment (whole x.0) (whole x.1) (whole q))
+          (λ i. (sym from i, sym to i)) w)))
+        where
+          neither_end : (q ≡ u) ⊎ (q ≡ v) → (q ≢ u) × (q ≢ v) → ⊥
+          neither_end (inl e) differs = differs.0 e
+          neither_end (inr e) differs = differs.1 e
 
     -- ---- after a vertex
     module _ (v : ℕ) (met : Met (at_vertex v)) where
@@ -453,14 +478,13 @@ module _ {V D U F : Type 0} {at : V → Point} {IsSite IsCovered : Point → Typ
         across_far = λ i. across (twin_of_next h v_in cone.inner i)
             ((ap (origin m) (rev-rev (next m h)) ∙ (s.sound.edges h v_in).starts) i)
 
-        -- where q is in the cone of the face, its third side is next, or none if q is inside of it
-        pub into_face : (r : Option FixedIntersection) → LeavesBy at c q (next m h) r →
-            IsNext at c p q (at_vertex (origin m h)) r
-        into_face None l = cone_law.0 (far_side.0 l)
-        into_face (Some n) l =
-            subst (λ (k : FixedIntersection). IsHandleOf c k
-            × Next (at_vertex (origin m h)) (item_of m k)) (sym l.0) (
-              l.1,
-              subst (Next (at_vertex (origin m h))) (sym across_far)
-                  (cone_law.1 (λ y. l.2 (far_side.1 y))),
-            )
+        -- where q is in the cone of the face and inside its third side, the vertex is the last
+        -- item
+        pub last_in_face : IsLeftOf points m q (next m h) → Last (at_vertex (origin m h))
+        last_in_face l = cone_law.0 (far_side.0 l)
+
+        -- else this side is next
+        pub through_far : ¬ IsLeftOf points m q (next m h)
+            → Next (at_vertex (origin m h)) (crossed (rev (next m h)))
+        through_far l = subst (Next (at_vertex (origin m h))) (sym across_far)
+            (cone_law.1 (λ y. l (far_side.1 y)))

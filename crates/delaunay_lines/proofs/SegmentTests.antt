@@ -1,6 +1,6 @@
 -- What answers to questions say, and of points of a segment.
--- Lemmas: unless, neither, if_both, if_not_first, differs_if_within, within_if_differs, on_if_same.
-use Rattle.std.proofs.Common.{◌≡◌, ◌≢◌, ◌⊎◌, ◌↔◌, Bool, true, false, IsTrue, sym, subst, inl, inr}
+-- Lemmas: unless, neither, differs_if_within, within_if_differs, on_if_same.
+use Rattle.std.proofs.Common.{◌≡◌, ◌≢◌, ◌⊎◌, ◌↔◌, Bool, false, IsTrue, sym, subst, inl, inr}
 use Rattle.std.proofs.Common.{arith}
 use Rattle.std.specs.Prelude.{ℤ, pos, ◌<ℤ◌, ◌*ℤ◌}
 use Rattle.std.proofs.lemmas.Int.{ints}
@@ -19,14 +19,6 @@ unless {b = b} is refused a = both_ways b (is.1 a) refused
 pub neither : {A B : Type 0} → ¬ A → ¬ B → ¬ (A ⊎ B)
 neither a b (inl x) = a x
 neither a b (inr y) = b y
-
--- two questions, of which the second is asked where the answer to the first is yes
-module _ {A B : Type 0} {a : Bool} (first : IsTrue a ↔ A) where
-  pub if_both : {b : Bool} → a ≡ true → IsTrue b ↔ B → IsTrue b ↔ (A × B)
-  if_both told second = ((λ t. (first.0 told, second.0 t)), (λ x. second.1 x.1))
-
-  pub if_not_first : a ≡ false → IsTrue a ↔ (A × B)
-  if_not_first refused = ((λ t. absurd (both_ways a t refused)), (λ x. first.1 x.0))
 
 none_below : (a b : ℤ) → a ≡ pos 0 → pos 0 <ℤ a → ⊥
 none_below a b e h = omega (arith, ints)

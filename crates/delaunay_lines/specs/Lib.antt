@@ -18,4 +18,3 @@ pub mod Outline
 pub mod Over
 pub mod Starts
 pub mod Walk
-pub mod Way

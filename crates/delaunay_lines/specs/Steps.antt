@@ -10,7 +10,6 @@ use Rattle.delaunay_location.specs.plane_tiling.Local.{IsMesh}
 use Rattle.plane_segments.specs.Steps.{ComesNext, IsLast, IsAhead}
 use Rattle.delaunay_location.specs.mesh_embedding.Drawn.{drawn, faces_of, outer_of}
 use Rattle.delaunay_lines.specs.declared.intersection.FixedIntersection.{FixedIntersection}
-use Rattle.delaunay_lines.specs.declared.intersection.FixedIntersection.TheVariants.{Edge}
 use Rattle.delaunay_lines.specs.Items.{item_of, IsHandleOf}
 
 -- the mesh of a triangulation whose vertices are sites, and two covered points, the ends of a
@@ -35,14 +34,6 @@ IsNext at c p q k r =
     MatchOption r (IsLast (drawn (map at c.vertices) c.mesh) (whole p) (whole q) k)
     (λ n. IsHandleOf c n
     × ComesNext (drawn (map at c.vertices) c.mesh) (whole p) (whole q) k (item_of c.mesh n))
-
--- the other way of side h of a face, or nothing where q is on the left of h
-abbrev pub LeavesBy : {V D U F : Type 0} → (V → Point) → Contents V D U F → Point → ℕ
-    → Option FixedIntersection →
-    Type 0
-LeavesBy at c q h r = MatchOption r (IsLeftOf (map at c.vertices) c.mesh q h)
-    (λ n. (n ≡ Edge (rev h)) × (rev h < length c.directed)
-    × (¬ IsLeftOf (map at c.vertices) c.mesh q h))
 
 -- q lies in the direction of directed edge h from where it starts
 abbrev pub IsEdgeAhead : List Point → Mesh → Point → ℕ → Type 0

@@ -75,8 +75,15 @@ pub fn line_between<'a, V: HasPosition, DE, UE, F, P: PlaneTests<V::Scalar>>(
         from,
         to,
     };
-    let first = segment.first_from(locate_with_hint(dcel, from, hint, tests));
-    segment.starting(first)
+    let current = segment.first_from(locate_with_hint(dcel, from, hint, tests));
+    LineIntersectionIterator {
+        dcel,
+        tests,
+        from,
+        to,
+        current,
+        left: dcel.num_vertices() + dcel.num_undirected_edges(),
+    }
 }
 
 /// What the segment from one vertex to another meets, from the vertex on: of a vertex to itself,
@@ -95,13 +102,13 @@ pub fn line_between_vertices<'a, V: HasPosition, DE, UE, F, P: PlaneTests<V::Sca
     ensures line { WalksBetween V.place V.Scalar.whole (state_of dcel.now) from to result }
     ensures ready { IsReady V.place V.Scalar.whole P.sites P.covered result }
 {
-    dcel.recall_invariant();
     let (start, end) = (position_of(dcel, from), position_of(dcel, to));
-    let segment = Segment {
+    LineIntersectionIterator {
         dcel,
         tests,
         from: start,
         to: end,
-    };
-    segment.starting(Some(FixedIntersection::Vertex(from)))
+        current: Some(FixedIntersection::Vertex(from)),
+        left: dcel.num_vertices() + dcel.num_undirected_edges(),
+    }
 }

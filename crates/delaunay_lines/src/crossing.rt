@@ -1,28 +1,16 @@
 //! What a segment meets after an edge that it crosses or goes along.
-ghost use Rattle.std.specs.Prelude.{◌<◌, length};
 ghost use Rattle.delaunay_lines.specs.Over.{GoesOnTo, IsAtItem};
-ghost use Rattle.delaunay_lines.specs.Steps.{LeavesBy};
 
 use crate::intersection::FixedIntersection;
 use crate::segment::Segment;
 use delaunay_location::delaunay_core::math::PlaneTests;
 use delaunay_location::delaunay_core::point::HasPosition;
+use delaunay_location::delaunay_legalization::{
+    is_same_point, is_strictly_within, position_of, start_of,
+};
 use delaunay_location::half_edge_mesh::{FixedDirectedEdgeHandle, MeshViews};
 
 impl<'a, V: HasPosition, DE, UE, F, P: PlaneTests<V::Scalar>> Segment<'a, V, DE, UE, F, P> {
-    // The way out of a face by one of its sides: nothing where the segment ends on the left of the
-    // side, inside the face.
-    pub(crate) fn leave_by(&self, side: FixedDirectedEdgeHandle) -> Option<FixedIntersection>
-        requires { side < length self.now.dcel.directed }
-        ensures { LeavesBy V.place self.now.dcel self.now.to side result }
-    {
-        if self.side_of_to(side).is_on_left_side() {
-            return None;
-        }
-        let twin = self.dcel.directed_edge(side).rev().fix();
-        Some(FixedIntersection::Edge(twin))
-    }
-
     // What a segment meets after an edge that it crosses: nothing where the other side is outside,
     // or it ends on the edge or inside the next face; else another side of this face, or the corner
     // between the two.
@@ -38,29 +26,41 @@ impl<'a, V: HasPosition, DE, UE, F, P: PlaneTests<V::Scalar>> Segment<'a, V, DE,
         if end.is_on_line() {
             return None;
         }
-        let (next, prev) = (here.next().fix(), here.prev().fix());
-        let corner = self.side_of_start(prev);
-        if corner.is_on_right_side() {
-            return self.leave_by(prev);
-        }
-        if corner.is_on_left_side() {
-            return self.leave_by(next);
-        }
-        if self.side_of_to(next).is_on_left_side() {
+        let corner = here.prev_from().fix();
+        let opposite = position_of(self.dcel, corner);
+        let side = self.tests.side(self.from, self.to, opposite);
+        let exit = if side.is_on_right_side() {
+            here.prev().fix()
+        } else {
+            here.next().fix()
+        };
+        if self.side_of_to(exit).is_on_left_side() {
             return None;
         }
-        Some(FixedIntersection::Vertex(here.prev_from().fix()))
+        if side.is_on_line() {
+            return Some(FixedIntersection::Vertex(corner));
+        }
+        Some(FixedIntersection::Edge(exit.rev()))
     }
 
-    // What a segment meets after an edge that it overlaps.
+    // What a segment meets after an edge that it overlaps: nothing where it ends strictly within
+    // the edge, else the vertex at the edge's end.
     pub(crate) fn after_overlap(&self, edge: FixedDirectedEdgeHandle) -> Option<FixedIntersection>
         requires { IsAtItem V.place self.now (FixedIntersection.Overlap edge) }
         ensures { GoesOnTo V.place self.now (FixedIntersection.Overlap edge) result }
     {
-        if self.way_along(edge).has_within(self.to) {
+        let vertex = self.dcel.directed_edge(edge).rev().from().fix();
+        let (start, end) = (start_of(self.dcel, edge), position_of(self.dcel, vertex));
+        let next = Some(FixedIntersection::Vertex(vertex));
+        if is_same_point(self.to, start) {
+            return next;
+        }
+        if is_same_point(self.to, end) {
+            return next;
+        }
+        if is_strictly_within(start, end, self.to, self.tests) {
             return None;
         }
-        let end = self.dcel.directed_edge(edge).rev().from().fix();
-        Some(FixedIntersection::Vertex(end))
+        next
     }
 }

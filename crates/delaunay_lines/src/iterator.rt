@@ -1,9 +1,8 @@
 //! The items that a segment meets, one after another.
 ghost use Rattle.std.specs.Prelude.{◌≡◌, ◌≢◌};
 ghost use Rattle.std.specs.Iterator.{at_most};
-ghost use Rattle.delaunay_location.specs.delaunay_legalization.State.{state_of};
 ghost use Rattle.delaunay_lines.specs.Over.{GoesOnTo, IsAtItem};
-ghost use Rattle.delaunay_lines.specs.Walk.{GivesNext, IsReady, Starts, WalksLine};
+ghost use Rattle.delaunay_lines.specs.Walk.{GivesNext, IsReady};
 
 use crate::intersection::{FixedIntersection, Intersection, intersection_in};
 use crate::segment::Segment;
@@ -48,26 +47,6 @@ impl<'a, V: HasPosition, DE, UE, F, P: PlaneTests<V::Scalar>> Segment<'a, V, DE,
             FixedIntersection::Edge(edge) => self.after_crossing(edge),
             FixedIntersection::Vertex(vertex) => self.after_vertex(vertex),
             FixedIntersection::Overlap(edge) => self.after_overlap(edge),
-        }
-    }
-
-    // What it meets, from a first item on.
-    pub(crate) fn starting(
-        &self,
-        first: Option<FixedIntersection>,
-    ) -> LineIntersectionIterator<'a, V, DE, UE, F, P>
-        requires { Starts V.place self.now.dcel self.now.from self.now.to first }
-        ensures line { WalksLine V.place V.Scalar.whole (state_of self.now.dcel) self.now.from
-            self.now.to result }
-        ensures ready { IsReady V.place V.Scalar.whole P.sites P.covered result }
-    {
-        LineIntersectionIterator {
-            dcel: self.dcel,
-            tests: self.tests,
-            from: self.from,
-            to: self.to,
-            current: first,
-            left: self.dcel.num_vertices() + self.dcel.num_undirected_edges(),
         }
     }
 }

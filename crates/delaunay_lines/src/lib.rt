@@ -14,7 +14,6 @@ mod outside;
 mod segment;
 mod starts;
 mod vertex;
-mod way;
 
 pub use conflicts::ConflictingEdgesIterator;
 pub use intersection::{FixedIntersection, Intersection};

@@ -2,7 +2,7 @@
 ghost use Rattle.std.specs.Prelude.{◌≡◌, ◌≢◌, ◌↔◌, ◌<◌, ◌<ℤ◌, ℕ};
 ghost use Rattle.std.specs.Prelude.{length, map, IsTrue, IfSome, IfNone, MatchOption};
 ghost use Rattle.delaunay_location.specs.half_edge_mesh.Mesh.{origin};
-ghost use Rattle.delaunay_location.specs.plane.Fraction.{whole as fraction};
+ghost use Rattle.delaunay_location.specs.plane.Fraction.{whole as fraction, OnSegment};
 ghost use Rattle.delaunay_location.specs.plane.Circle.{gap};
 ghost use Rattle.delaunay_location.specs.plane.Location.{IsPast};
 ghost use Rattle.delaunay_location.specs.mesh_embedding.Drawn.{drawn};
@@ -17,10 +17,9 @@ ghost use Rattle.delaunay_lines.specs.Walk.{Starts};
 
 use crate::intersection::FixedIntersection;
 use crate::segment::Segment;
-use crate::way::Way;
 use delaunay_location::delaunay_core::math::PlaneTests;
 use delaunay_location::delaunay_core::point::{HasPosition, Point2, SpadeNum};
-use delaunay_location::delaunay_legalization::position_of;
+use delaunay_location::delaunay_legalization::{is_same_point, is_strictly_within, position_of};
 use delaunay_location::half_edge_mesh::{FixedDirectedEdgeHandle, FixedVertexHandle, MeshViews};
 
 // Whether a point is nearer to a position than another.
@@ -55,6 +54,22 @@ impl<'a, V: HasPosition, DE, UE, F, P: PlaneTests<V::Scalar>> Segment<'a, V, DE,
             && self.side_of_to(edge).is_on_left_side_or_on_line()
     }
 
+    // Whether a point is on the segment.
+    fn carries(&self, point: Point2<V::Scalar>) -> bool
+        requires covered { P.covered self.now.tests (place_of V.Scalar.whole point) }
+        requires apart { self.now.from ≢ self.now.to }
+        ensures { IsTrue result ↔ OnSegment (fraction self.now.from) (fraction self.now.to)
+            (fraction (place_of V.Scalar.whole point)) }
+    {
+        if is_same_point(point, self.from) {
+            return true;
+        }
+        if is_same_point(point, self.to) {
+            return true;
+        }
+        is_strictly_within(self.from, self.to, point, self.tests)
+    }
+
     // Whether a vertex is on a segment, and nearer to its start than another vertex, if there is
     // one.
     fn is_better(&self, vertex: FixedVertexHandle, than: &Option<FixedVertexHandle>) -> bool
@@ -65,12 +80,7 @@ impl<'a, V: HasPosition, DE, UE, F, P: PlaneTests<V::Scalar>> Segment<'a, V, DE,
             self.now.to vertex than.now }
     {
         let position = position_of(self.dcel, vertex);
-        let way = Way {
-            from: self.from,
-            to: self.to,
-            tests: self.tests,
-        };
-        if !way.carries(position) {
+        if !self.carries(position) {
             return false;
         }
         match than {

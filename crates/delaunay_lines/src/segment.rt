@@ -8,7 +8,6 @@ ghost use Rattle.delaunay_location.specs.delaunay_core.Place.{place_of};
 ghost use Rattle.delaunay_location.specs.delaunay_legalization.Known.{point_at};
 ghost use Rattle.delaunay_lines.specs.Steps.{IsLeftOf};
 
-use crate::way::Way;
 use delaunay_location::delaunay_core::line_side_info::LineSideInfo;
 use delaunay_location::delaunay_core::math::PlaneTests;
 use delaunay_location::delaunay_core::point::{HasPosition, Point2};
@@ -90,23 +89,5 @@ impl<'a, V: HasPosition, DE, UE, F, P: PlaneTests<V::Scalar>> Segment<'a, V, DE,
             (place points (origin self.now.dcel.mesh (rev edge))) }
     {
         self.side_of_start(self.dcel.directed_edge(edge).rev().fix())
-    }
-
-    // The way along an edge.
-    pub(crate) fn way_along(&self, edge: FixedDirectedEdgeHandle) -> Way<'a, V::Scalar, P>
-        requires { edge < length self.now.dcel.directed }
-        ensures { let points = map V.place self.now.dcel.vertices in let m = self.now.dcel.mesh in
-            result ≡ record {
-              from = point_at points (origin m edge);
-              to = point_at points (origin m (rev edge));
-              tests = self.now.tests;
-            } }
-    {
-        let twin = self.dcel.directed_edge(edge).rev().fix();
-        Way {
-            from: start_of(self.dcel, edge),
-            to: start_of(self.dcel, twin),
-            tests: self.tests,
-        }
     }
 }

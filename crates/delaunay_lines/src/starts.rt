@@ -6,7 +6,7 @@ ghost use Rattle.delaunay_lines.specs.Walk.{Starts};
 
 use crate::intersection::FixedIntersection;
 use crate::segment::Segment;
-use crate::way::Way;
+use crate::vertex::is_ahead;
 use delaunay_location::delaunay_core::math::PlaneTests;
 use delaunay_location::delaunay_core::point::HasPosition;
 use delaunay_location::delaunay_legalization::start_of;
@@ -29,12 +29,8 @@ impl<'a, V: HasPosition, DE, UE, F, P: PlaneTests<V::Scalar>> Segment<'a, V, DE,
         if side.is_on_right_side() {
             return FixedIntersection::Edge(twin);
         }
-        let ahead = Way {
-            from: self.from,
-            to: start_of(self.dcel, twin),
-            tests: self.tests,
-        };
-        if ahead.goes_towards(self.to) {
+        let end = start_of(self.dcel, twin);
+        if is_ahead(self.from, end, self.to, self.tests) {
             FixedIntersection::Overlap(edge)
         } else {
             FixedIntersection::Overlap(twin)

@@ -1,8 +1,46 @@
-use Rattle.std.proofs.Common.{◌∙◌, inl, inr}
-use Rattle.delaunay_lines.proofs.MeshSteps.{at_corner, ends_inside, last_at_edge, positive}
-use Rattle.delaunay_lines.proofs.MeshSteps.{through_left, through_right}
+use Rattle.std.proofs.Common.{◌<◌, ◌∙◌, length, map, inl, inr}
+use Rattle.delaunay_location.specs.delaunay_core.Place.{place_of}
+use Rattle.delaunay_location.proofs.delaunay_legalization_lemmas.Questions.{covered_in}
+use Rattle.delaunay_lines.proofs.MeshSteps.{IsExit, at_corner, ends_inside, last_at_edge, positive}
+use Rattle.delaunay_lines.proofs.MeshSteps.{side_at, through_exit, twin_within}
 use Rattle.delaunay_lines.proofs.SegmentTests.{unless}
+use Rattle.delaunay_lines.proofs.segment.Segment.after_crossing.Given.{Over}
+use Rattle.delaunay_lines.proofs.segment.Segment.after_crossing.Goals.{After-side_of_to}
+use Rattle.delaunay_lines.proofs.segment.Segment.after_crossing.Goals.{then-is_on_right_side}
+use Rattle.delaunay_lines.proofs.segment.Segment.after_crossing.Goals.{else-is_on_right_side}
 use Rattle.delaunay_lines.proofs.segment.Segment.after_crossing.Goals as goal
+
+-- the side by which the segment leaves the face
+exit : (g : Over) (c : After-side_of_to g) → (c.if-is_on_right_side.exit < length
+    c.self.inside.dcel.now.directed) × IsExit (map g.V.HasPosition.place
+    c.self.inside.dcel.now.vertices) c.self.inside.dcel.now.mesh (place_of
+    g.V.Scalar.SpadeNum.whole c.self.inside.from) (place_of g.V.Scalar.SpadeNum.whole
+    c.self.inside.to) c.args.edge c.if-is_on_right_side.exit
+exit g c =
+    let here = c.directed_edge-here.ensures in
+    let corner = rw (here.dcel, here.index) at
+    (c.fix-corner.ensures.value ∙ c.prev_from.ensures.index) in
+    let side = side_at _ _ c.side-side.ensures (rw corner at
+    c.position_of-opposite.ensures.place) in
+    let right = rw side at c.is_on_right_side.ensures in
+    elim c.if-is_on_right_side.branch [
+      | then-is_on_right_side w ↦ (
+        rw w.exit-is (rw (w.prev.ensures.dcel, here.dcel) at w.fix-exit.ensures.in_range),
+        inl (
+          right.0 w.if-is_on_right_side.true,
+          w.exit-is ∙ (rw (here.dcel, here.index) at
+              (w.fix-exit.ensures.value ∙ w.prev.ensures.index)),
+        ),
+      )
+      | else-is_on_right_side w ↦ (
+        rw w.exit-is (rw (w.next.ensures.dcel, here.dcel) at w.fix-exit-else-is_on_right_side.ensures.in_range),
+        inr (
+          unless right w.if-is_on_right_side.false,
+          w.exit-is ∙ (rw (here.dcel, here.index) at
+              (w.fix-exit-else-is_on_right_side.ensures.value ∙ w.next.ensures.index)),
+        ),
+      )
+    ]
 
 pub returns-then-is_outer_edge : goal.returns-then-is_outer_edge
 returns-then-is_outer_edge g c =
@@ -19,61 +57,54 @@ returns-then-is_on_line g c =
     rw (← c.self.view_is) (last_at_edge c.self.invariant at.apart c.args.edge at.within at.met
     (inl (on.0 c.if-is_on_line.true)))
 
-pub returns-then-is_on_right_side : goal.returns-then-is_on_right_side
-returns-then-is_on_right_side g c =
-    let at = rw (← c.self.view_is) at c.requires in
-    let here = c.directed_edge-here.ensures in
-    let outer = rw (here.dcel, here.index) at c.is_outer_edge.ensures in
-    let prev = rw (here.dcel, here.index) at (c.fix-prev.ensures.value ∙ c.prev.ensures.index) in
-    let right = rw (c.side_of_start-corner.ensures, prev, ← c.self.view_is) at
-    c.is_on_right_side.ensures in
-    rw (← c.self.view_is) (through_right c.self.invariant at.apart c.args.edge at.within at.met
-    (positive _ (unless outer c.if-is_outer_edge.false)) (right.0 c.if-is_on_right_side.true) _
-    (rw (prev, ← c.self.view_is) at c.leave_by.ensures))
+pub side-side-requires-clause-point_covered : goal.side-side-requires-clause-point_covered
+side-side-requires-clause-point_covered g c =
+    covered_in _ _ (g.met.P.PlaneTests.sites_are_covered c.self.inside.tests.now) _ _
+    c.self.invariant.sites c.position_of-opposite.ensures.listed
 
 pub returns-then-is_on_left_side : goal.returns-then-is_on_left_side
 returns-then-is_on_left_side g c =
     let at = rw (← c.self.view_is) at c.requires in
     let here = c.directed_edge-here.ensures in
     let outer = rw (here.dcel, here.index) at c.is_outer_edge.ensures in
-    let next = rw (here.dcel, here.index) at (c.fix-next.ensures.value ∙ c.next.ensures.index) in
-    let prev = rw (here.dcel, here.index) at (c.fix-prev.ensures.value ∙ c.prev.ensures.index) in
-    let left = rw (c.side_of_start-corner.ensures, prev, ← c.self.view_is) at
-    c.is_on_left_side.ensures in
-    rw (← c.self.view_is) (through_left c.self.invariant at.apart c.args.edge at.within at.met
-    (positive _ (unless outer c.if-is_outer_edge.false)) (left.0 c.if-is_on_left_side.true) _
-    (rw (next, ← c.self.view_is) at c.leave_by-then-is_on_left_side.ensures))
+    let out = exit g (goal.at.returns-then-is_on_left_side g c).After-side_of_to in
+    let left = rw (c.side_of_to.ensures, ← c.self.view_is) at c.is_on_left_side.ensures in
+    rw (← c.self.view_is) (ends_inside c.self.invariant at.apart c.args.edge at.within at.met
+    (positive _ (unless outer c.if-is_outer_edge.false)) out.1
+    (left.0 c.if-is_on_left_side.true))
 
-pub returns-then-is_on_left_side-2 : goal.returns-then-is_on_left_side-2
-returns-then-is_on_left_side-2 g c =
+pub returns-then-is_on_line-2 : goal.returns-then-is_on_line-2
+returns-then-is_on_line-2 g c =
     let at = rw (← c.self.view_is) at c.requires in
     let here = c.directed_edge-here.ensures in
     let outer = rw (here.dcel, here.index) at c.is_outer_edge.ensures in
-    let next = rw (here.dcel, here.index) at (c.fix-next.ensures.value ∙ c.next.ensures.index) in
-    let prev = rw (here.dcel, here.index) at (c.fix-prev.ensures.value ∙ c.prev.ensures.index) in
-    let right = rw (c.side_of_start-corner.ensures, prev, ← c.self.view_is) at
-    c.is_on_right_side.ensures in
-    let ends = rw (c.side_of_to.ensures, next, ← c.self.view_is) at c.is_on_left_side-2.ensures in
-    rw (← c.self.view_is) (ends_inside c.self.invariant at.apart c.args.edge at.within at.met
-    (positive _ (unless outer c.if-is_outer_edge.false))
-    (unless right c.if-is_on_right_side.false) (ends.0 c.if-is_on_left_side-2.true))
+    let out = exit g (goal.at.returns-then-is_on_line-2 g c).After-side_of_to in
+    let left = rw (c.side_of_to.ensures, ← c.self.view_is) at c.is_on_left_side.ensures in
+    let corner = rw (here.dcel, here.index) at
+    (c.fix-corner.ensures.value ∙ c.prev_from.ensures.index) in
+    let on = rw (side_at _ _ c.side-side.ensures (rw corner at
+    c.position_of-opposite.ensures.place)) at c.is_on_line-2.ensures in
+    rw (corner, ← c.self.view_is) (
+      rw (corner, c.prev_from.ensures.dcel, here.dcel) at c.fix-corner.ensures.in_range,
+      at_corner c.self.invariant at.apart c.args.edge at.within at.met
+          (positive _ (unless outer c.if-is_outer_edge.false)) out.1
+          (unless left c.if-is_on_left_side.false) (on.0 c.if-is_on_line-2.true),
+    )
 
 pub returns : goal.returns
 returns g c =
     let at = rw (← c.self.view_is) at c.requires in
     let here = c.directed_edge-here.ensures in
     let outer = rw (here.dcel, here.index) at c.is_outer_edge.ensures in
-    let next = rw (here.dcel, here.index) at (c.fix-next.ensures.value ∙ c.next.ensures.index) in
-    let prev = rw (here.dcel, here.index) at (c.fix-prev.ensures.value ∙ c.prev.ensures.index) in
-    let corner = c.side_of_start-corner.ensures in
-    let right = rw (corner, prev, ← c.self.view_is) at c.is_on_right_side.ensures in
-    let left = rw (corner, prev, ← c.self.view_is) at c.is_on_left_side.ensures in
-    let ends = rw (c.side_of_to.ensures, next, ← c.self.view_is) at c.is_on_left_side-2.ensures in
-    let vertex = rw (here.dcel, here.index) at (c.fix.ensures.value ∙ c.prev_from.ensures.index) in
-    rw (vertex, ← c.self.view_is) (
-      rw (vertex, c.prev_from.ensures.dcel, here.dcel) at c.fix.ensures.in_range,
-      at_corner c.self.invariant at.apart c.args.edge at.within at.met
-          (positive _ (unless outer c.if-is_outer_edge.false))
-          (unless right c.if-is_on_right_side.false) (unless left c.if-is_on_left_side.false)
-          (unless ends c.if-is_on_left_side-2.false),
+    let out = exit g (goal.at.returns g c).After-side_of_to in
+    let left = rw (c.side_of_to.ensures, ← c.self.view_is) at c.is_on_left_side.ensures in
+    let corner = rw (here.dcel, here.index) at
+    (c.fix-corner.ensures.value ∙ c.prev_from.ensures.index) in
+    let on = rw (side_at _ _ c.side-side.ensures (rw corner at
+    c.position_of-opposite.ensures.place)) at c.is_on_line-2.ensures in
+    rw (c.rev.ensures, ← c.self.view_is) (
+      twin_within c.self.invariant _ out.0,
+      through_exit c.self.invariant at.apart c.args.edge at.within at.met
+          (positive _ (unless outer c.if-is_outer_edge.false)) out.1
+          (unless left c.if-is_on_left_side.false) (unless on c.if-is_on_line-2.false),
     )

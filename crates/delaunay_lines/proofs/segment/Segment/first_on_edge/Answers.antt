@@ -24,8 +24,8 @@ returns-then-is_on_right_side g c =
     c.args.edge c.requires.within c.requires.start c.requires.apart
     (right.0 c.if-is_on_right_side.true))
 
-pub invariant_of-ahead : goal.invariant_of-ahead
-invariant_of-ahead g c =
+pub is_ahead-requires : goal.is_ahead-requires
+is_ahead-requires g c =
     let s = c.args.self.now in
     let at : ℕ → Point =
     λ h. point_at (map g.V.HasPosition.place s.dcel.vertices) (origin s.dcel.mesh h) in
@@ -36,34 +36,37 @@ invariant_of-ahead g c =
     let covers = g.met.P.PlaneTests.sites_are_covered c.self.inside.tests.now in
     let twin = rw c.directed_edge.ensures.index at
     (c.fix-twin.ensures.value ∙ c.rev.ensures.index) in
-    let is = rw twin at c.start_of.ensures.place in
+    let is = rw twin at c.start_of-end.ensures.place in
     record {
-      from = c.self.invariant.from;
-      to = covered_in _ _ covers _ _ c.self.invariant.sites c.start_of.ensures.listed;
-      apart = rw is (rw (← c.self.view_is) at
+      from_covered = c.self.invariant.from;
+      towards_covered = covered_in _ _ covers _ _ c.self.invariant.sites
+          c.start_of-end.ensures.listed;
+      point_covered = c.self.invariant.to;
+      way_apart = rw is (rw (← c.self.view_is) at
           (differs_if_within start end ends s.from c.requires.start).1);
+      point_apart = rw (← c.self.view_is) at c.requires.apart;
     }
 
-pub returns-then-goes_towards : goal.returns-then-goes_towards
-returns-then-goes_towards g c =
+pub returns-then-is_ahead : goal.returns-then-is_ahead
+returns-then-is_ahead g c =
     let given = rw (← c.self.view_is) at c.requires in
     let side = rw (← c.self.view_is) at c.side_of_to-side.ensures in
     let twin = rw c.directed_edge.ensures.index at
     (c.fix-twin.ensures.value ∙ c.rev.ensures.index) in
     rw (← c.self.view_is) (along_edge c.self.invariant c.args.edge given.within given.start
-    given.apart (rw twin at c.start_of.ensures.place)
+    given.apart (rw twin at c.start_of-end.ensures.place)
     (on_if_neither _ (unless (rw side at c.is_on_left_side.ensures) c.if-is_on_left_side.false)
     (unless (rw side at c.is_on_right_side.ensures) c.if-is_on_right_side.false))
-    (c.goes_towards.ensures.0 c.if-goes_towards.true))
+    (c.is_ahead.ensures.0 c.if-is_ahead.true))
 
-pub returns-else-goes_towards : goal.returns-else-goes_towards
-returns-else-goes_towards g c =
+pub returns-else-is_ahead : goal.returns-else-is_ahead
+returns-else-is_ahead g c =
     let given = rw (← c.self.view_is) at c.requires in
     let side = rw (← c.self.view_is) at c.side_of_to-side.ensures in
     let twin = rw c.directed_edge.ensures.index at
     (c.fix-twin.ensures.value ∙ c.rev.ensures.index) in
     rw (twin, ← c.self.view_is) (along_twin c.self.invariant c.args.edge given.within
-    given.start given.apart (rw twin at c.start_of.ensures.place)
+    given.start given.apart (rw twin at c.start_of-end.ensures.place)
     (on_if_neither _ (unless (rw side at c.is_on_left_side.ensures) c.if-is_on_left_side.false)
     (unless (rw side at c.is_on_right_side.ensures) c.if-is_on_right_side.false))
-    (unless c.goes_towards.ensures c.if-goes_towards.false))
+    (unless c.is_ahead.ensures c.if-is_ahead.false))

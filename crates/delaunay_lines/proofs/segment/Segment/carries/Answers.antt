@@ -1,7 +1,7 @@
 use Rattle.std.proofs.Common.{inl, inr, refl}
 use Rattle.delaunay_location.proofs.plane.Segments.{on_of_within}
 use Rattle.delaunay_lines.proofs.SegmentTests.{on_if_same, unless, within_if_differs}
-use Rattle.delaunay_lines.proofs.way.Way.carries.Goals as goal
+use Rattle.delaunay_lines.proofs.segment.Segment.carries.Goals as goal
 
 pub returns-then-is_same_point : goal.returns-then-is_same_point
 returns-then-is_same_point g c =
