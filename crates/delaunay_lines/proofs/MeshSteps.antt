@@ -1,11 +1,12 @@
 -- From an item that a segment meets to the next, by the links of a mesh.
--- Notions: IsExit; over_value, not_same, positive, at_ends, side_at, laid, in_mesh, of_mesh, joined, tiles_with, bare,
--- face_at, start_in, start_known, twin_within, next_spoke, ends_apart, twin_of_prev, twin_of_next,
--- last_at_edge, ends_inside, at_corner, through_exit, last_within_overlap,
--- end_of_overlap, end_if_same, last_at_end, last_if_none_leads, along_ahead, last_in_face, through_far.
+-- Notions: IsExit; over_value, not_same, positive, at_ends, side_at, laid, in_mesh, of_mesh, joined,
+-- tiles_with, bare, face_at, start_in, start_known, twin_within, next_spoke, ends_apart,
+-- ends_not_within, twin_of_prev, twin_of_next, last_at_edge, ends_inside, at_corner, through_exit,
+-- last_within_overlap, end_of_overlap, last_at_end, last_if_none_leads, along_ahead, last_in_face,
+-- through_far.
 use Rattle.std.proofs.Common.{◌≡◌, ◌≢◌, ◌⊎◌, ◌↔◌, ◌<◌, ◌∙◌, ◌∷◌}
 use Rattle.std.specs.Borrow.{Bor}
-use Rattle.std.proofs.Common.{ℕ, List, length, map, Option, Some, None, sym, ap, subst}
+use Rattle.std.proofs.Common.{ℕ, List, length, map, Some, sym, ap, subst}
 use Rattle.std.proofs.Common.{inl, inr, arith}
 use Rattle.std.proofs.lemmas.List.{length-map}
 use Rattle.delaunay_location.specs.half_edge_mesh.Mesh.{Mesh, IsValidMesh, origin, next, prev, face}
@@ -37,10 +38,9 @@ use Rattle.delaunay_location.proofs.mesh_embedding.OwnEdges.{own_edges}
 use Rattle.delaunay_location.specs.delaunay_legalization.Known.{point_at}
 use Rattle.delaunay_location.proofs.delaunay_legalization_lemmas.Rounds.{IsGoingRound, next_within}
 use Rattle.delaunay_location.proofs.delaunay_legalization_lemmas.Rounds.{next_starts}
-use Rattle.delaunay_lines.specs.declared.intersection.FixedIntersection.{FixedIntersection}
-use Rattle.delaunay_lines.specs.Items.{item_of, IsHandleOf}
+use Rattle.delaunay_lines.specs.declared.intersection.FixedIntersection.TheVariants.{Edge, Vertex}
 use Rattle.delaunay_lines.specs.Over.{Spanning}
-use Rattle.delaunay_lines.specs.Steps.{IsOverMesh, IsLeftOf, IsEdgeAhead}
+use Rattle.delaunay_lines.specs.Steps.{IsOverMesh, IsNext, IsLeftOf, IsEdgeAhead}
 use Rattle.delaunay_lines.specs.Steps.{IsInCone, LeadsOn}
 use Rattle.delaunay_lines.proofs.SegmentTests.{differs_if_within}
 
@@ -73,11 +73,9 @@ pub side_at : (p q : Fraction) {u a : Point} {z : Side} → z ≡ side p q (whol
 side_at p q e is = e ∙ ap (λ (x : Point). side p q (whole x)) is
 
 -- side x of the face on the left of directed edge h is the one before h where the opposite corner
--- is on the right of the segment from p to q, else the one after h
-abbrev pub IsExit : List Point → Mesh → Point → Point → ℕ → ℕ → Type 0
-IsExit points m p q h x =
-    ((side (whole p) (whole q) (place points (origin m (prev m h))) ≡ right) × (x ≡ prev m h))
-    ⊎ ((side (whole p) (whole q) (place points (origin m (prev m h))) ≢ right) × (x ≡ next m h))
+-- is on the right, else the one after h
+abbrev pub IsExit : Mesh → ℕ → Side → ℕ → Type 0
+IsExit m h z x = ((z ≡ right) × (x ≡ prev m h)) ⊎ ((z ≢ right) × (x ≡ next m h))
 
 module _ {V D U F : Type 0} {at : V → Point} {IsSite IsCovered : Point → Type 0}
     {c : Contents V D U F} {p q : Point} (over : IsOverMesh at IsSite IsCovered c p q) where
@@ -174,6 +172,20 @@ module _ {V D U F : Type 0} {at : V → Point} {IsSite IsCovered : Point → Typ
             | inr l ↦ l.1.distinct (origin m h) (origin m (rev h)) (start_in h w)
                 (start_in (rev h) (rev_within h (length m.half_edges) s.sound.even w)) (s.apart h w)
           ]
+
+  -- and neither end is strictly within it
+  pub ends_not_within : (h : ℕ) → h < length c.directed → {u v w : Point}
+      → u ≡ point_at points (origin m h) → v ≡ point_at points (origin m (rev h))
+      → (w ≡ u) ⊎ (w ≡ v)
+      → ¬ WithinSegment (place points (origin m h)) (place points (origin m (rev h))) (whole w)
+  ends_not_within h within {u = u} {v = v} {w = w} from to same x = neither_end same
+      (differs_if_within u v (ends_apart h within u v from to) w
+      (subst (λ (y : Point × Point). WithinSegment (whole y.0) (whole y.1) (whole w))
+      (λ i. (sym from i, sym to i)) x))
+    where
+      neither_end : (w ≡ u) ⊎ (w ≡ v) → (w ≢ u) × (w ≢ v) → ⊥
+      neither_end (inl e) differs = differs.0 e
+      neither_end (inr e) differs = differs.1 e
 
   -- where the sides of a face start
   pub twin_of_prev : (h : ℕ) → h < length m.half_edges → 0 < face m h
@@ -290,39 +302,54 @@ module _ {V D U F : Type 0} {at : V → Point} {IsSite IsCovered : Point → Typ
         across_prev = λ i. across (twin_of_prev h w inner i) (ap (origin m) (rev-rev (prev m h)) i)
 
         -- by where q and the corner are, seen from the side by which the segment leaves the face
-        module _ {x : ℕ} (exit : IsExit points m p q h x) where
+        module _ {x : ℕ} {z : Side} (corner : z ≡ side (whole p) (whole q) (place points d))
+            (exit : IsExit m h z x) where
           -- q is inside of it: edge h is the last item
           pub ends_inside : IsLeftOf points m q x → Last (crossed h)
           ends_inside l = elim exit [
-            | inl e ↦ law.4 e.0 (side_before.0 (subst (IsLeftOf points m q) e.1 l))
-            | inr e ↦ law.3 e.0 (side_after.0 (subst (IsLeftOf points m q) e.1 l))
+            | inl e ↦ law.4 (sym corner ∙ e.0) (side_before.0 (subst (IsLeftOf points m q) e.1 l))
+            | inr e ↦ law.3 (λ y. e.0 (corner ∙ y))
+                (side_after.0 (subst (IsLeftOf points m q) e.1 l))
           ]
 
           module _ (outside : ¬ IsLeftOf points m q x) where
             -- q is not, and the corner is on the line: the corner is next
-            pub at_corner : side (whole p) (whole q) (place points d) ≡ on
-                → Next (crossed h) (at_vertex d)
-            at_corner flat = elim exit [
-              | inl e ↦ absurd (differ (sym flat ∙ e.0))
-              | inr e ↦ law.2 flat
-                  (λ y. outside (subst (IsLeftOf points m q) (sym e.1) (side_after.1 y)))
-            ]
+            pub at_corner : {v : ℕ} → v ≡ d → z ≡ on → IsNext at c p q (crossed h) (Some (Vertex v))
+            at_corner is flat = subst (λ (v : ℕ). (v < length c.vertices)
+                × Next (crossed h) (at_vertex v)) (sym is) (
+                  start_known (prev m h)
+                      (of_mesh (prev m h) (T.triangle_at m h s.sound w inner).prev_in),
+                  elim exit [
+                    | inl e ↦ absurd (differ (sym flat ∙ e.0))
+                    | inr e ↦ law.2 (sym corner ∙ flat)
+                        (λ y. outside (subst (IsLeftOf points m q) (sym e.1) (side_after.1 y)))
+                  ],
+                )
               where
                 differ : on ≡ right → ⊥
                 differ e = cc
 
             -- the corner is beside the line: the side is next
-            pub through_exit : side (whole p) (whole q) (place points d) ≢ on
-                → Next (crossed h) (crossed (rev x))
+            pub through_exit : z ≢ on → IsNext at c p q (crossed h) (Some (Edge (rev x)))
             through_exit beside = elim exit [
-              | inl e ↦ subst (λ (y : ℕ). Next (crossed h) (crossed (rev y))) (sym e.1)
-                  (subst (Next (across a b)) (sym across_prev) (law.1 e.0
+              | inl e ↦ leave (prev m h) e.1 r.prev_in (subst (Next (across a b)) (sym across_prev)
+                  (law.1 (sym corner ∙ e.0)
                   (λ y. outside (subst (IsLeftOf points m q) (sym e.1) (side_before.1 y)))))
-              | inr e ↦ subst (λ (y : ℕ). Next (crossed h) (crossed (rev y))) (sym e.1)
-                  (subst (Next (across a b)) (sym across_next) (law.0 (is_left _ e.0 beside)
+              | inr e ↦ leave (next m h) e.1 r.next_in (subst (Next (across a b)) (sym across_next)
+                  (law.0 (sym corner ∙ is_left z e.0 beside)
                   (λ y. outside (subst (IsLeftOf points m q) (sym e.1) (side_after.1 y)))))
             ]
               where
+                r : T.IsTriangle m h
+                r = T.triangle_at m h s.sound w inner
+
+                leave : (k : ℕ) → x ≡ k → k < length m.half_edges
+                    → Next (crossed h) (crossed (rev k))
+                    → (rev x < length c.directed) × Next (crossed h) (crossed (rev x))
+                leave k is k_in n = subst (λ (y : ℕ). (rev y < length c.directed)
+                    × Next (crossed h) (crossed (rev y))) (sym is)
+                    (twin_within k (of_mesh k k_in), n)
+
                 is_left : (z : Side) → z ≢ right → z ≢ on → z ≡ left
                 is_left left r o = λ _. left
                 is_left right r o = absurd (r (λ _. right))
@@ -349,22 +376,12 @@ module _ {V D U F : Type 0} {at : V → Point} {IsSite IsCovered : Point → Typ
       last_within_overlap x = overlap_law.0 x
 
       -- else its end is next
-      pub end_of_overlap : ¬ WithinSegment (start h) (start (rev h)) (whole q) →
-          Next (overlapped h) (at_vertex (origin m (rev h)))
-      end_of_overlap x = overlap_law.1 x
-
-      -- it is where q is at one of its ends
-      pub end_if_same : h < length c.directed → {u v : Point} → u ≡ point_at points (origin m h)
-          → v ≡ point_at points (origin m (rev h)) → (q ≡ u) ⊎ (q ≡ v)
-          → Next (overlapped h) (at_vertex (origin m (rev h)))
-      end_if_same within {u = u} {v = v} from to same = end_of_overlap (λ w. neither_end same
-          (differs_if_within u v (ends_apart h within u v from to) q
-          (subst (λ (x : Point × Point). WithinSegment (whole x.0) (whole x.1) (whole q))
-          (λ i. (sym from i, sym to i)) w)))
-        where
-          neither_end : (q ≡ u) ⊎ (q ≡ v) → (q ≢ u) × (q ≢ v) → ⊥
-          neither_end (inl e) differs = differs.0 e
-          neither_end (inr e) differs = differs.1 e
+      pub end_of_overlap : h < length c.directed → {v : ℕ} → v ≡ origin m (rev h)
+          → ¬ WithinSegment (start h) (start (rev h)) (whole q)
+          → IsNext at c p q (overlapped h) (Some (Vertex v))
+      end_of_overlap within is x = subst (λ (v : ℕ). (v < length c.vertices)
+          × Next (overlapped h) (at_vertex v)) (sym is)
+          (start_known (rev h) (twin_within h within), overlap_law.1 x)
 
     -- ---- after a vertex
     module _ (v : ℕ) (met : Met (at_vertex v)) where

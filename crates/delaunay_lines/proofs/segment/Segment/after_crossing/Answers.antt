@@ -1,8 +1,7 @@
-use Rattle.std.proofs.Common.{◌<◌, ◌∙◌, length, map, inl, inr}
-use Rattle.delaunay_location.specs.delaunay_core.Place.{place_of}
+use Rattle.std.proofs.Common.{◌∙◌, inl, inr}
 use Rattle.delaunay_location.proofs.delaunay_legalization_lemmas.Questions.{covered_in}
 use Rattle.delaunay_lines.proofs.MeshSteps.{IsExit, at_corner, ends_inside, last_at_edge, positive}
-use Rattle.delaunay_lines.proofs.MeshSteps.{side_at, through_exit, twin_within}
+use Rattle.delaunay_lines.proofs.MeshSteps.{side_at, through_exit}
 use Rattle.delaunay_lines.proofs.SegmentTests.{unless}
 use Rattle.delaunay_lines.proofs.segment.Segment.after_crossing.Given.{Over}
 use Rattle.delaunay_lines.proofs.segment.Segment.after_crossing.Goals.{After-side_of_to}
@@ -11,34 +10,20 @@ use Rattle.delaunay_lines.proofs.segment.Segment.after_crossing.Goals.{else-is_o
 use Rattle.delaunay_lines.proofs.segment.Segment.after_crossing.Goals as goal
 
 -- the side by which the segment leaves the face
-exit : (g : Over) (c : After-side_of_to g) → (c.if-is_on_right_side.exit < length
-    c.self.inside.dcel.now.directed) × IsExit (map g.V.HasPosition.place
-    c.self.inside.dcel.now.vertices) c.self.inside.dcel.now.mesh (place_of
-    g.V.Scalar.SpadeNum.whole c.self.inside.from) (place_of g.V.Scalar.SpadeNum.whole
-    c.self.inside.to) c.args.edge c.if-is_on_right_side.exit
+exit : (g : Over) (c : After-side_of_to g) → IsExit c.self.inside.dcel.now.mesh c.args.edge
+    c.side-side.result c.if-is_on_right_side.exit
 exit g c =
     let here = c.directed_edge-here.ensures in
-    let corner = rw (here.dcel, here.index) at
-    (c.fix-corner.ensures.value ∙ c.prev_from.ensures.index) in
-    let side = side_at _ _ c.side-side.ensures (rw corner at
-    c.position_of-opposite.ensures.place) in
-    let right = rw side at c.is_on_right_side.ensures in
     elim c.if-is_on_right_side.branch [
-      | then-is_on_right_side w ↦ (
-        rw w.exit-is (rw (w.prev.ensures.dcel, here.dcel) at w.fix-exit.ensures.in_range),
-        inl (
-          right.0 w.if-is_on_right_side.true,
-          w.exit-is ∙ (rw (here.dcel, here.index) at
-              (w.fix-exit.ensures.value ∙ w.prev.ensures.index)),
-        ),
+      | then-is_on_right_side w ↦ inl (
+        c.is_on_right_side.ensures.0 w.if-is_on_right_side.true,
+        w.exit-is ∙ (rw (here.dcel, here.index) at
+            (w.fix-exit.ensures.value ∙ w.prev.ensures.index)),
       )
-      | else-is_on_right_side w ↦ (
-        rw w.exit-is (rw (w.next.ensures.dcel, here.dcel) at w.fix-exit-else-is_on_right_side.ensures.in_range),
-        inr (
-          unless right w.if-is_on_right_side.false,
-          w.exit-is ∙ (rw (here.dcel, here.index) at
-              (w.fix-exit-else-is_on_right_side.ensures.value ∙ w.next.ensures.index)),
-        ),
+      | else-is_on_right_side w ↦ inr (
+        unless c.is_on_right_side.ensures w.if-is_on_right_side.false,
+        w.exit-is ∙ (rw (here.dcel, here.index) at
+            (w.fix-exit-else-is_on_right_side.ensures.value ∙ w.next.ensures.index)),
       )
     ]
 
@@ -67,10 +52,13 @@ returns-then-is_on_left_side g c =
     let at = rw (← c.self.view_is) at c.requires in
     let here = c.directed_edge-here.ensures in
     let outer = rw (here.dcel, here.index) at c.is_outer_edge.ensures in
-    let out = exit g (goal.at.returns-then-is_on_left_side g c).After-side_of_to in
+    let corner = rw (here.dcel, here.index) at
+    (c.fix-corner.ensures.value ∙ c.prev_from.ensures.index) in
     let left = rw (c.side_of_to.ensures, ← c.self.view_is) at c.is_on_left_side.ensures in
     rw (← c.self.view_is) (ends_inside c.self.invariant at.apart c.args.edge at.within at.met
-    (positive _ (unless outer c.if-is_outer_edge.false)) out.1
+    (positive _ (unless outer c.if-is_outer_edge.false))
+    (side_at _ _ c.side-side.ensures (rw corner at c.position_of-opposite.ensures.place))
+    (exit g (goal.at.returns-then-is_on_left_side g c).After-side_of_to)
     (left.0 c.if-is_on_left_side.true))
 
 pub returns-then-is_on_line-2 : goal.returns-then-is_on_line-2
@@ -78,33 +66,27 @@ returns-then-is_on_line-2 g c =
     let at = rw (← c.self.view_is) at c.requires in
     let here = c.directed_edge-here.ensures in
     let outer = rw (here.dcel, here.index) at c.is_outer_edge.ensures in
-    let out = exit g (goal.at.returns-then-is_on_line-2 g c).After-side_of_to in
-    let left = rw (c.side_of_to.ensures, ← c.self.view_is) at c.is_on_left_side.ensures in
     let corner = rw (here.dcel, here.index) at
     (c.fix-corner.ensures.value ∙ c.prev_from.ensures.index) in
-    let on = rw (side_at _ _ c.side-side.ensures (rw corner at
-    c.position_of-opposite.ensures.place)) at c.is_on_line-2.ensures in
-    rw (corner, ← c.self.view_is) (
-      rw (corner, c.prev_from.ensures.dcel, here.dcel) at c.fix-corner.ensures.in_range,
-      at_corner c.self.invariant at.apart c.args.edge at.within at.met
-          (positive _ (unless outer c.if-is_outer_edge.false)) out.1
-          (unless left c.if-is_on_left_side.false) (on.0 c.if-is_on_line-2.true),
-    )
+    let left = rw (c.side_of_to.ensures, ← c.self.view_is) at c.is_on_left_side.ensures in
+    rw (← c.self.view_is) (at_corner c.self.invariant at.apart c.args.edge at.within at.met
+    (positive _ (unless outer c.if-is_outer_edge.false))
+    (side_at _ _ c.side-side.ensures (rw corner at c.position_of-opposite.ensures.place))
+    (exit g (goal.at.returns-then-is_on_line-2 g c).After-side_of_to)
+    (unless left c.if-is_on_left_side.false) corner
+    (c.is_on_line-2.ensures.0 c.if-is_on_line-2.true))
 
 pub returns : goal.returns
 returns g c =
     let at = rw (← c.self.view_is) at c.requires in
     let here = c.directed_edge-here.ensures in
     let outer = rw (here.dcel, here.index) at c.is_outer_edge.ensures in
-    let out = exit g (goal.at.returns g c).After-side_of_to in
-    let left = rw (c.side_of_to.ensures, ← c.self.view_is) at c.is_on_left_side.ensures in
     let corner = rw (here.dcel, here.index) at
     (c.fix-corner.ensures.value ∙ c.prev_from.ensures.index) in
-    let on = rw (side_at _ _ c.side-side.ensures (rw corner at
-    c.position_of-opposite.ensures.place)) at c.is_on_line-2.ensures in
-    rw (c.rev.ensures, ← c.self.view_is) (
-      twin_within c.self.invariant _ out.0,
-      through_exit c.self.invariant at.apart c.args.edge at.within at.met
-          (positive _ (unless outer c.if-is_outer_edge.false)) out.1
-          (unless left c.if-is_on_left_side.false) (unless on c.if-is_on_line-2.false),
-    )
+    let left = rw (c.side_of_to.ensures, ← c.self.view_is) at c.is_on_left_side.ensures in
+    rw (c.rev.ensures, ← c.self.view_is) (through_exit c.self.invariant at.apart c.args.edge
+    at.within at.met (positive _ (unless outer c.if-is_outer_edge.false))
+    (side_at _ _ c.side-side.ensures (rw corner at c.position_of-opposite.ensures.place))
+    (exit g (goal.at.returns g c).After-side_of_to)
+    (unless left c.if-is_on_left_side.false)
+    (unless c.is_on_line-2.ensures c.if-is_on_line-2.false))

@@ -1,9 +1,9 @@
-use Rattle.std.proofs.Common.{◌≡◌, ◌∙◌, inl, inr, sym}
+use Rattle.std.proofs.Common.{◌≡◌, ◌∙◌, inl, inr}
 use Rattle.delaunay_location.specs.half_edge_mesh.Mesh.{origin, rev}
 use Rattle.delaunay_location.specs.plane.Fraction.{WithinSegment}
 use Rattle.delaunay_location.proofs.delaunay_legalization_lemmas.Questions.{covered_in}
-use Rattle.delaunay_lines.proofs.MeshSteps.{last_within_overlap, end_of_overlap, end_if_same}
-use Rattle.delaunay_lines.proofs.MeshSteps.{at_ends, ends_apart}
+use Rattle.delaunay_lines.proofs.MeshSteps.{at_ends, end_of_overlap, ends_apart, ends_not_within}
+use Rattle.delaunay_lines.proofs.MeshSteps.{last_within_overlap}
 use Rattle.delaunay_lines.proofs.SegmentTests.{unless}
 use Rattle.delaunay_lines.proofs.segment.Segment.after_overlap.Given.{Over}
 use Rattle.delaunay_lines.proofs.segment.Segment.after_overlap.Goals.{After-position_of-end}
@@ -22,25 +22,19 @@ pub returns-then-is_same_point : goal.returns-then-is_same_point
 returns-then-is_same_point g c =
     let here = rw (← c.self.view_is) at c.requires in
     let is = vertex g (goal.at.returns-then-is_same_point g c).After-position_of-end in
-    rw (is, ← c.self.view_is) (
-      rw (is, c.from.ensures.dcel, c.rev.ensures.dcel, c.directed_edge.ensures.dcel) at
-          c.fix-vertex.ensures.in_range,
-      end_if_same c.self.invariant here.apart c.args.edge here.met here.within
-          c.start_of-start.ensures.place (rw is at c.position_of-end.ensures.place)
-          (inl (c.is_same_point.ensures.0 c.if-is_same_point.true)),
-    )
+    rw (← c.self.view_is) (end_of_overlap c.self.invariant here.apart c.args.edge here.met
+    here.within is (ends_not_within c.self.invariant c.args.edge here.within
+    c.start_of-start.ensures.place (rw is at c.position_of-end.ensures.place)
+    (inl (c.is_same_point.ensures.0 c.if-is_same_point.true))))
 
 pub returns-then-is_same_point-2 : goal.returns-then-is_same_point-2
 returns-then-is_same_point-2 g c =
     let here = rw (← c.self.view_is) at c.requires in
     let is = vertex g (goal.at.returns-then-is_same_point-2 g c).After-position_of-end in
-    rw (is, ← c.self.view_is) (
-      rw (is, c.from.ensures.dcel, c.rev.ensures.dcel, c.directed_edge.ensures.dcel) at
-          c.fix-vertex.ensures.in_range,
-      end_if_same c.self.invariant here.apart c.args.edge here.met here.within
-          c.start_of-start.ensures.place (rw is at c.position_of-end.ensures.place)
-          (inr (c.is_same_point-2.ensures.0 c.if-is_same_point-2.true)),
-    )
+    rw (← c.self.view_is) (end_of_overlap c.self.invariant here.apart c.args.edge here.met
+    here.within is (ends_not_within c.self.invariant c.args.edge here.within
+    c.start_of-start.ensures.place (rw is at c.position_of-end.ensures.place)
+    (inr (c.is_same_point-2.ensures.0 c.if-is_same_point-2.true))))
 
 pub is_strictly_within-requires : goal.is_strictly_within-requires
 is_strictly_within-requires g c =
@@ -73,9 +67,5 @@ returns g c =
     let is = vertex g (goal.at.returns g c).After-position_of-end in
     let within = at_ends WithinSegment c.start_of-start.ensures.place
     (rw is at c.position_of-end.ensures.place) c.is_strictly_within.ensures in
-    rw (is, ← c.self.view_is) (
-      rw (is, c.from.ensures.dcel, c.rev.ensures.dcel, c.directed_edge.ensures.dcel) at
-          c.fix-vertex.ensures.in_range,
-      end_of_overlap c.self.invariant here.apart c.args.edge here.met
-          (unless within c.if-is_strictly_within.false),
-    )
+    rw (← c.self.view_is) (end_of_overlap c.self.invariant here.apart c.args.edge here.met
+    here.within is (unless within c.if-is_strictly_within.false))
