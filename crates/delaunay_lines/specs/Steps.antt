@@ -1,5 +1,5 @@
 -- From an item that a segment meets in a mesh to the next, by handles.
-use Rattle.std.specs.Prelude.{◌≡◌, ◌⊎◌, ℕ, ◌<◌, List, length, map, All, Option, MatchOption}
+use Rattle.std.specs.Prelude.{◌⊎◌, ℕ, ◌<◌, List, map, All, Option, MatchOption}
 use Rattle.delaunay_location.specs.half_edge_mesh.Mesh.{Mesh, origin, prev, face, rev}
 use Rattle.delaunay_location.specs.half_edge_mesh.Contents.{Contents, IsMeshWithData}
 use Rattle.delaunay_location.specs.plane.Fraction.{Point, whole}

@@ -1,4 +1,4 @@
-use Rattle.std.proofs.Common.{◌≡◌, ◌<◌, ◌∙◌, ap, inl, inr, length}
+use Rattle.std.proofs.Common.{◌≡◌, ◌<◌, ◌∙◌, ap, length}
 use Rattle.delaunay_location.specs.half_edge_mesh.Mesh.{origin}
 use Rattle.delaunay_location.specs.half_edge_mesh.Rounds.{out_edges_left}
 use Rattle.plane_segments.specs.Steps.{IsAhead}
