@@ -12,6 +12,12 @@ pub record Seeking (V D U F P : Type 0) : Type 0 where
   pub tests : P
   pub point : Point
 
+-- distances from p to the vertices of a triangulation can be taken
+pub record CanMeasure {V D U F : Type 0} (at : V → Point) (c : Contents V D U F)
+    (p : Point) : Type 0 where
+  pub kept : IsTriangulated at (state_of c)
+  pub in_range : InRange p
+
 -- the mesh is that of a triangulation whose vertices are sites of the tests, which cover p
 pub record IsSearch {V D U F P : Type 0} (at : V → Point) (IsSite IsCovered : P → Point → Type 0)
     (c : Contents V D U F) (t : P) (p : Point) : Type 0 where

@@ -28,11 +28,11 @@ module _ {V D U F P S : Type 0} (at : V → Point) (number : S → ℤ) (IsCover
   IsStopOf = IsStop number (IsCovered s.tests) (map at s.dcel.vertices) s.dcel.mesh
       (length s.dcel.directed)
 
-  -- a step leads to such an edge, or to where the position is
+  -- a step leads across such an edge, or to where the position is, or to an edge to look at
   abbrev pub IsStepOf : Step S → Type 0
   IsStepOf (Beyond stop) = IsStopOf stop
   IsStepOf (Found place) = IsPlaceOf at s place
-  IsStepOf OnSide = Unit {0}
+  IsStepOf (OnSide e) = e < length s.dcel.directed
 
 -- a walk ends where the position is, or reaches an edge
 abbrev pub IsWalkOf : {V D U F P : Type 0} → (V → Point) → Seeking V D U F P → Walked → Type 0

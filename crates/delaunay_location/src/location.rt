@@ -1,14 +1,10 @@
 //! Where a position is, by a look at all vertices, edges and faces.
 ghost use Rattle.std.specs.Prelude.{◌≡◌, ℕ, ◌<◌, ◌≤◌};
 ghost use Rattle.std.specs.Prelude.{length, map, MatchOption};
-ghost use Rattle.delaunay_legalization.specs.plane.Tests.{InRange};
 ghost use Rattle.delaunay_legalization.specs.delaunay_core.Place.{place_of};
-ghost use Rattle.delaunay_legalization.specs.Known.{point_at};
-ghost use Rattle.delaunay_legalization.specs.Shape.{IsTriangulated};
-ghost use Rattle.delaunay_legalization.specs.State.{state_of};
-ghost use Rattle.delaunay_legalization.specs.Parts.{IsApart};
 ghost use Rattle.delaunay_location.specs.Location.{StartsNearest};
 ghost use Rattle.delaunay_location.specs.Search.{IsAtNoVertex, IsClear, IsInFace, IsPlaceOf};
+ghost use Rattle.delaunay_location.specs.Seeking.{CanMeasure};
 
 use crate::position_in_triangulation::PositionInTriangulation;
 use crate::search::Search;
@@ -23,32 +19,13 @@ use delaunay_legalization::{
     turns_left,
 };
 
-// The vertex at a position.
-fn vertex_at<V: HasPosition, DE, UE, F>(
-    dcel: &Dcel<V, DE, UE, F>,
-    point: Point2<V::Scalar>,
-) -> Option<FixedVertexHandle>
-    ensures { let points = map V.place dcel.now.vertices in let p = place_of V.Scalar.whole point in
-        MatchOption result (IsApart points p) (λ v. (v < length dcel.now.vertices) ×
-        (point_at points v ≡ p)) }
-{
-    for index in 0..dcel.num_vertices() {
-        let vertex = FixedVertexHandle::from_index(index as u32);
-        if is_same_point(position_of(dcel, vertex), point) {
-            return Some(vertex);
-        }
-    }
-    None
-}
-
 // The directed edge that starts nearest to a position.
 fn edge_from_nearest<V: HasPosition, DE, UE, F>(
     dcel: &Dcel<V, DE, UE, F>,
     point: Point2<V::Scalar>,
 ) -> FixedDirectedEdgeHandle
-    requires kept { IsTriangulated V.place (state_of dcel.now) }
+    requires can { CanMeasure V.place dcel.now (place_of V.Scalar.whole point) }
     requires some { 0 < length dcel.now.directed }
-    requires in_range { InRange (place_of V.Scalar.whole point) }
     ensures { StartsNearest (map V.place dcel.now.vertices) dcel.now.mesh
         (place_of V.Scalar.whole point) (length dcel.now.directed) result }
 {
@@ -108,8 +85,11 @@ impl<'a, V: HasPosition, DE, UE, F, P: PlaneTests<V::Scalar>> Search<'a, V, DE, 
     pub(crate) fn place_by_scan(&self) -> PositionInTriangulation
         ensures { IsPlaceOf V.place self.now result }
     {
-        if let Some(vertex) = vertex_at(self.dcel, self.point) {
-            return PositionInTriangulation::OnVertex(vertex);
+        for index in 0..self.dcel.num_vertices() {
+            let vertex = FixedVertexHandle::from_index(index as u32);
+            if is_same_point(position_of(self.dcel, vertex), self.point) {
+                return PositionInTriangulation::OnVertex(vertex);
+            }
         }
         if self.dcel.num_vertices() < 2 {
             return PositionInTriangulation::NoTriangulation;

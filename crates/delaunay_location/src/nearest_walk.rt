@@ -14,6 +14,7 @@ ghost use Rattle.delaunay_legalization.specs.Shape.{IsTriangulated};
 ghost use Rattle.delaunay_legalization.specs.State.{state_of, triangulation_of};
 ghost use Rattle.delaunay_location.specs.Candidate.{EndsNoNearer, HasNoNearerNeighbor, IsCandidate};
 ghost use Rattle.delaunay_location.specs.Candidate.{IsMoveCount, IsNearerCandidate, IsReached};
+ghost use Rattle.delaunay_location.specs.Seeking.{CanMeasure};
 
 use crate::samples::nearer_sample;
 use crate::vertex_distance::distance_2_to;
@@ -71,10 +72,9 @@ fn nearer_end<V: HasPosition, DE, UE, F>(
     distance_2: i64,
     point: Point2<V::Scalar>,
 ) -> Option<Candidate>
-    requires kept { IsTriangulated V.place (state_of dcel.now) }
+    requires can { CanMeasure V.place dcel.now (place_of V.Scalar.whole point) }
     requires within { edge < length dcel.now.directed }
     requires end { end ≡ origin dcel.now.mesh (rev edge) }
-    requires in_range { InRange (place_of V.Scalar.whole point) }
     requires start { distance_2 ≡ gap (fraction (place_of V.Scalar.whole point))
         (place (map V.place dcel.now.vertices) (origin dcel.now.mesh edge)) }
     ensures { let points = map V.place dcel.now.vertices in
@@ -117,9 +117,8 @@ fn first_candidate<V: HasPosition, DE, UE, F>(
     point: Point2<V::Scalar>,
     moves: &mut u64,
 ) -> Option<Candidate>
-    requires kept { IsTriangulated V.place (state_of dcel.now) }
+    requires can { CanMeasure V.place dcel.now (place_of V.Scalar.whole point) }
     requires within { from < length dcel.now.vertices }
-    requires in_range { InRange (place_of V.Scalar.whole point) }
     requires fits { moves.old + nearer_count (triangulation_of V.place (state_of dcel.now))
         (fraction (place_of V.Scalar.whole point)) from < 2 ^ 64 }
     ensures { let points = map V.place dcel.now.vertices in
@@ -147,8 +146,7 @@ fn nearer_neighbor<V: HasPosition, DE, UE, F>(
     from: &Candidate,
     point: Point2<V::Scalar>,
 ) -> Option<Candidate>
-    requires kept { IsTriangulated V.place (state_of dcel.now) }
-    requires in_range { InRange (place_of V.Scalar.whole point) }
+    requires can { CanMeasure V.place dcel.now (place_of V.Scalar.whole point) }
     requires from { IsCandidate (map V.place dcel.now.vertices) dcel.now.mesh
         (place_of V.Scalar.whole point) from.now }
     ensures { let points = map V.place dcel.now.vertices in
@@ -191,8 +189,7 @@ fn candidate_anywhere<V: HasPosition, DE, UE, F>(
     point: Point2<V::Scalar>,
     moves: &mut u64,
 ) -> Candidate
-    requires kept { IsTriangulated V.place (state_of dcel.now) }
-    requires in_range { InRange (place_of V.Scalar.whole point) }
+    requires can { CanMeasure V.place dcel.now (place_of V.Scalar.whole point) }
     requires from { IsCandidate (map V.place dcel.now.vertices) dcel.now.mesh
         (place_of V.Scalar.whole point) from }
     requires fits { moves.old + nearer_count (triangulation_of V.place (state_of dcel.now))
@@ -225,11 +222,10 @@ fn nearest_from<V: HasPosition, DE, UE, F>(
     point: Point2<V::Scalar>,
     moves: &mut u64,
 ) -> FixedVertexHandle
-    requires kept { IsTriangulated V.place (state_of dcel.now) }
+    requires can { CanMeasure V.place dcel.now (place_of V.Scalar.whole point) }
     requires delaunay { IsConstrainedDelaunay (triangulation_of V.place (state_of dcel.now)) [] }
     requires start { IsCandidate (map V.place dcel.now.vertices) dcel.now.mesh
         (place_of V.Scalar.whole point) start }
-    requires in_range { InRange (place_of V.Scalar.whole point) }
     requires fits { moves.old + nearer_count (triangulation_of V.place (state_of dcel.now))
         (fraction (place_of V.Scalar.whole point)) (origin dcel.now.mesh start.spoke) < 2 ^ 64 }
     ensures nearest { IsNearest (triangulation_of V.place (state_of dcel.now))

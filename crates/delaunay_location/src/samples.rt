@@ -2,11 +2,10 @@
 ghost use Rattle.std.specs.Prelude.{◌≡◌, ◌⊎◌, ◌<◌, length};
 ghost use Rattle.delaunay_legalization.specs.plane.Fraction.{whole as fraction};
 ghost use Rattle.delaunay_legalization.specs.plane.Circle.{IsNearer};
-ghost use Rattle.delaunay_legalization.specs.plane.Tests.{InRange};
 ghost use Rattle.delaunay_legalization.specs.plane.Tiling.{vertex};
 ghost use Rattle.delaunay_legalization.specs.delaunay_core.Place.{place_of};
-ghost use Rattle.delaunay_legalization.specs.Shape.{IsTriangulated};
 ghost use Rattle.delaunay_legalization.specs.State.{state_of, triangulation_of};
+ghost use Rattle.delaunay_location.specs.Seeking.{CanMeasure};
 
 use crate::vertex_distance::is_nearer;
 use delaunay_legalization::delaunay_core::point::{HasPosition, Point2};
@@ -20,9 +19,8 @@ pub(crate) fn nearer_sample<V: HasPosition, DE, UE, F>(
     from: FixedVertexHandle,
     point: Point2<V::Scalar>,
 ) -> FixedVertexHandle
-    requires kept { IsTriangulated V.place (state_of dcel.now) }
+    requires can { CanMeasure V.place dcel.now (place_of V.Scalar.whole point) }
     requires within { from < length dcel.now.vertices }
-    requires in_range { InRange (place_of V.Scalar.whole point) }
     ensures within { result < length dcel.now.vertices }
     ensures nearer { let t = triangulation_of V.place (state_of dcel.now) in (result ≡ from) ⊎
         IsNearer (fraction (place_of V.Scalar.whole point)) (vertex t result) (vertex t from) }

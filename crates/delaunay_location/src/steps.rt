@@ -22,12 +22,12 @@ pub(crate) struct Stop<S> {
 
 // What a step of a walk leads to.
 pub(crate) enum Step<S> {
-    // The next face.
+    // The face beyond this side.
     Beyond(Stop<S>),
     // The end of the walk: the position is here.
     Found(PositionInTriangulation),
-    // The end of the walk: the position is on a side of the face.
-    OnSide,
+    // The end of the walk: the position is on this side of the face.
+    OnSide(FixedDirectedEdgeHandle),
 }
 
 impl<'a, V: HasPosition, DE, UE, F, P: PlaneTests<V::Scalar>> Search<'a, V, DE, UE, F, P> {
@@ -50,26 +50,11 @@ impl<'a, V: HasPosition, DE, UE, F, P: PlaneTests<V::Scalar>> Search<'a, V, DE, 
         (placed.start_of(edge), placed.start_of(to))
     }
 
-    // The step across an edge, into the face on its right.
-    #[inline(always)]
-    fn beyond(&self, side: Stop<V::Scalar>) -> Step<V::Scalar>
-        requires { IsStopOf V.place V.Scalar.whole P.covered self.now side }
-        ensures { IsStepOf V.place V.Scalar.whole P.covered self.now result }
-    {
-        self.dcel.recall_invariant();
-        let Stop { edge, from, to } = side;
-        Step::Beyond(Stop {
-            edge: edge.rev(),
-            from: to,
-            to: from,
-        })
-    }
-
     // The step from the inner face on the left of an edge: across a side that has the position
     // strictly on its right, of which the edge itself is looked at last; else the face, where the
-    // position is strictly inside, or that it is on a side.
+    // position is strictly inside, or the side that it is on.
     #[inline(always)]
-    fn way_through(&self, stop: Stop<V::Scalar>) -> Step<V::Scalar>
+    pub(crate) fn way_through(&self, stop: Stop<V::Scalar>) -> Step<V::Scalar>
         requires stop { IsStopOf V.place V.Scalar.whole P.covered self.now stop }
         requires inner { 0 < face self.now.dcel.mesh stop.edge }
         ensures { IsStepOf V.place V.Scalar.whole P.covered self.now result }
@@ -93,26 +78,32 @@ impl<'a, V: HasPosition, DE, UE, F, P: PlaneTests<V::Scalar>> Search<'a, V, DE, 
         };
         let at_behind = self.tests.side(across, from, self.point);
         if at_behind.is_on_right_side() {
-            return self.beyond(behind);
+            return Step::Beyond(behind);
         }
         let at_ahead = self.tests.side(to, across, self.point);
         if at_ahead.is_on_right_side() {
-            return self.beyond(ahead);
+            return Step::Beyond(ahead);
         }
         let at_stop = self.tests.side(from, to, self.point);
         if at_stop.is_on_right_side() {
-            return self.beyond(stop);
+            return Step::Beyond(stop);
         }
         if at_behind.is_on_left_side() && at_ahead.is_on_left_side() && at_stop.is_on_left_side() {
             return Step::Found(PositionInTriangulation::OnFace(here.face().fix()));
         }
-        Step::OnSide
+        if at_behind.is_on_line() {
+            return Step::OnSide(behind.edge);
+        }
+        if at_ahead.is_on_line() {
+            return Step::OnSide(ahead.edge);
+        }
+        Step::OnSide(stop.edge)
     }
 
-    // The way out of a face near the hull. From the outer face it is the other direction of the
-    // edge, unless the position is strictly on the edge's left.
+    // The same of a face near the hull. From the outer face it leads across the edge, unless the
+    // position is strictly on the left of that.
     #[inline(never)]
-    fn way_near_hull(&self, stop: Stop<V::Scalar>) -> Step<V::Scalar>
+    pub(crate) fn way_near_hull(&self, stop: Stop<V::Scalar>) -> Step<V::Scalar>
         requires { IsStopOf V.place V.Scalar.whole P.covered self.now stop }
         ensures { IsStepOf V.place V.Scalar.whole P.covered self.now result }
     {
@@ -120,29 +111,7 @@ impl<'a, V: HasPosition, DE, UE, F, P: PlaneTests<V::Scalar>> Search<'a, V, DE, 
             if turns_left(stop.from, stop.to, self.point, self.tests) {
                 return Step::Found(PositionInTriangulation::OutsideOfConvexHull(stop.edge));
             }
-            return self.beyond(stop);
-        }
-        self.way_through(stop)
-    }
-
-    // The step from the face on the left of an edge: across a side that has the position strictly
-    // on its right, or the end of the walk. From the outer face it leads inside, unless the
-    // position is strictly on the left of the edge.
-    //
-    // A face near the hull is told apart before it is known which side leads on. So the records of
-    // both sides are asked for while the corner between them is on its way from memory, and the
-    // next step does not wait for its own.
-    #[inline(always)]
-    pub(crate) fn way_out(&self, stop: Stop<V::Scalar>) -> Step<V::Scalar>
-        requires { IsStopOf V.place V.Scalar.whole P.covered self.now stop }
-        ensures { IsStepOf V.place V.Scalar.whole P.covered self.now result }
-    {
-        let here = self.dcel.directed_edge(stop.edge);
-        if here.is_outer_edge()
-            || here.prev().rev().is_outer_edge()
-            || here.next().rev().is_outer_edge()
-        {
-            return self.way_near_hull(stop);
+            return Step::Beyond(stop);
         }
         self.way_through(stop)
     }

@@ -3,10 +3,8 @@ ghost use Rattle.std.specs.Prelude.{◌≡◌, ◌↔◌, ℕ, ◌<◌, ◌<ℤ�
 ghost use Rattle.delaunay_legalization.specs.plane.Fraction.{whole as fraction};
 ghost use Rattle.delaunay_legalization.specs.plane.Circle.{gap};
 ghost use Rattle.delaunay_legalization.specs.plane.Pairs.{place};
-ghost use Rattle.delaunay_legalization.specs.plane.Tests.{InRange};
 ghost use Rattle.delaunay_legalization.specs.delaunay_core.Place.{place_of};
-ghost use Rattle.delaunay_legalization.specs.Shape.{IsTriangulated};
-ghost use Rattle.delaunay_legalization.specs.State.{state_of};
+ghost use Rattle.delaunay_location.specs.Seeking.{CanMeasure};
 
 use delaunay_legalization::delaunay_core::point::{HasPosition, Point2};
 use delaunay_legalization::half_edge_mesh::{Dcel, FixedVertexHandle};
@@ -18,9 +16,8 @@ pub(crate) fn distance_2_to<V: HasPosition, DE, UE, F>(
     vertex: FixedVertexHandle,
     point: Point2<V::Scalar>,
 ) -> i64
-    requires kept { IsTriangulated V.place (state_of dcel.now) }
+    requires can { CanMeasure V.place dcel.now (place_of V.Scalar.whole point) }
     requires within { vertex < length dcel.now.vertices }
-    requires in_range { InRange (place_of V.Scalar.whole point) }
     ensures { result ≡ gap (fraction (place_of V.Scalar.whole point))
         (place (map V.place dcel.now.vertices) vertex) }
 {
@@ -34,10 +31,9 @@ pub(crate) fn is_nearer<V: HasPosition, DE, UE, F>(
     other: FixedVertexHandle,
     point: Point2<V::Scalar>,
 ) -> bool
-    requires kept { IsTriangulated V.place (state_of dcel.now) }
+    requires can { CanMeasure V.place dcel.now (place_of V.Scalar.whole point) }
     requires vertex_in { vertex < length dcel.now.vertices }
     requires other_in { other < length dcel.now.vertices }
-    requires in_range { InRange (place_of V.Scalar.whole point) }
     ensures { let at = λ (i : ℕ). gap (fraction (place_of V.Scalar.whole point))
         (place (map V.place dcel.now.vertices) i) in IsTrue result ↔ (at vertex <ℤ at other) }
 {

@@ -1,11 +1,11 @@
 //! Where a position is, by a walk from face to face.
 ghost use Rattle.std.specs.Prelude.{◌<◌, length, map, All, IfSome};
-ghost use Rattle.delaunay_legalization.specs.plane.Tests.{InRange};
 ghost use Rattle.delaunay_legalization.specs.delaunay_core.Place.{place_of};
 ghost use Rattle.delaunay_legalization.specs.Shape.{IsTriangulated};
 ghost use Rattle.delaunay_legalization.specs.State.{state_of};
 ghost use Rattle.delaunay_location.specs.Location.{Locates};
 ghost use Rattle.delaunay_location.specs.Search.{IsPlaceOf};
+ghost use Rattle.delaunay_location.specs.Seeking.{CanMeasure};
 ghost use Rattle.delaunay_location.specs.Stop.{IsWalkOf};
 
 use crate::position_in_triangulation::PositionInTriangulation;
@@ -32,6 +32,7 @@ pub(crate) enum Walked {
 
 impl<'a, V: HasPosition, DE, UE, F, P: PlaneTests<V::Scalar>> Search<'a, V, DE, UE, F, P> {
     // The location of a position on an edge: at one of its ends, or within it.
+    #[inline(never)]
     pub(crate) fn place_on_edge(
         &self,
         edge: FixedDirectedEdgeHandle,
@@ -53,23 +54,12 @@ impl<'a, V: HasPosition, DE, UE, F, P: PlaneTests<V::Scalar>> Search<'a, V, DE, 
         None
     }
 
-    // The location of a position on a side of the face on the left of an edge.
-    #[inline(never)]
-    fn place_on_sides(&self, edge: FixedDirectedEdgeHandle) -> Option<PositionInTriangulation>
-        requires { edge < length self.now.dcel.directed }
-        ensures { IfSome result (IsPlaceOf V.place self.now) }
-    {
-        if let Some(place) = self.place_on_edge(edge) {
-            return Some(place);
-        }
-        let edge = self.dcel.directed_edge(edge);
-        if let Some(place) = self.place_on_edge(edge.next().fix()) {
-            return Some(place);
-        }
-        self.place_on_edge(edge.prev().fix())
-    }
-
-    // Where a walk from an edge ends, or is after a number of steps.
+    // Where a walk from an edge ends, or is after a number of steps, each from the face on the left
+    // of an edge.
+    //
+    // A face near the hull is told apart before it is known which side leads on. So the records of
+    // both sides are asked for while the corner between them is on its way from memory, and the
+    // next step does not wait for its own.
     fn walk_on(&self, edge: FixedDirectedEdgeHandle, steps: usize) -> Walked
         requires { edge < length self.now.dcel.directed }
         ensures { IsWalkOf V.place self.now result }
@@ -77,11 +67,25 @@ impl<'a, V: HasPosition, DE, UE, F, P: PlaneTests<V::Scalar>> Search<'a, V, DE, 
         let (from, to) = self.ends_of(edge);
         let mut stop = Stop { edge, from, to };
         for _ in 0..steps {
-            let edge = stop.edge;
-            match self.way_out(stop) {
-                Step::Beyond(next) => stop = next,
+            let here = self.dcel.directed_edge(stop.edge);
+            let step = if here.is_outer_edge()
+                || here.prev().rev().is_outer_edge()
+                || here.next().rev().is_outer_edge()
+            {
+                self.way_near_hull(stop)
+            } else {
+                self.way_through(stop)
+            };
+            match step {
+                Step::Beyond(side) => {
+                    stop = Stop {
+                        edge: side.edge.rev(),
+                        from: side.to,
+                        to: side.from,
+                    };
+                }
                 Step::Found(place) => return Walked::Ended(Some(place)),
-                Step::OnSide => return Walked::Ended(self.place_on_sides(edge)),
+                Step::OnSide(side) => return Walked::Ended(self.place_on_edge(side)),
             }
         }
         Walked::Reached(stop.edge)
@@ -122,9 +126,8 @@ pub(crate) fn nearer_edge<V: HasPosition, DE, UE, F>(
     other: FixedDirectedEdgeHandle,
     point: Point2<V::Scalar>,
 ) -> FixedDirectedEdgeHandle
-    requires kept { IsTriangulated V.place (state_of dcel.now) }
+    requires can { CanMeasure V.place dcel.now (place_of V.Scalar.whole point) }
     requires within { other < length dcel.now.directed }
-    requires in_range { InRange (place_of V.Scalar.whole point) }
     ensures { result < length dcel.now.directed }
 {
     let from = dcel.directed_edge(other).from().fix();

@@ -7,11 +7,11 @@ use Rattle.delaunay_location.proofs.location.edge_from_nearest.Goals as goal
 
 pub loop-index-init : goal.loop-index-init
 loop-index-init g c = starts_first _ _ _ c.from_index-nearest.ensures
-    (rw (← c.requires.kept.fits.directed_fit) c.requires.some)
+    (rw (← c.requires.can.kept.fits.directed_fit) c.requires.some)
 
 pub loop-index-preserved : goal.loop-index-preserved
 loop-index-preserved g c =
-    let fit = c.requires.kept.fits.directed_fit in
+    let fit = c.requires.can.kept.fits.directed_fit in
     let here = c.directed_edge.ensures in
     let there = c.directed_edge-in-loop-index.ensures in
     let start = c.fix-start.ensures.value ∙ rw (here.dcel, here.index) at c.from.ensures.index in

@@ -11,7 +11,7 @@ first_candidate-requires-clause-fits g c =
     let sample = c.nearer_sample-sample.ensures in
     let here = c.directed_edge.ensures in
     let start = c.fix-vertex.ensures.value ∙ rw (here.dcel, here.index) at c.from.ensures.index in
-    room_there (move_to_found c.requires.kept c.requires.from sample.within sample.nearer
+    room_there (move_to_found c.requires.can.kept c.requires.from sample.within sample.nearer
     start c.index.ensures c.index-2.ensures c.if-index.false)
     c.args.moves.now (2 ^ 64) c.requires.fits
 
@@ -20,7 +20,7 @@ overflow_add-moves g c =
     let sample = c.nearer_sample-sample.ensures in
     let here = c.directed_edge.ensures in
     let start = c.fix-vertex.ensures.value ∙ rw (here.dcel, here.index) at c.from.ensures.index in
-    let move = move_to_found c.requires.kept c.requires.from sample.within sample.nearer
+    let move = move_to_found c.requires.can.kept c.requires.from sample.within sample.nearer
     start c.index.ensures c.index-2.ensures c.if-index.false in
     let fits = moves_fit (counted_after move c.in-Some.ensures.counted) (2 ^ 64) c.requires.fits in
     omega (arith, fits)
@@ -30,7 +30,7 @@ returns-in-Some g c =
     let sample = c.nearer_sample-sample.ensures in
     let here = c.directed_edge.ensures in
     let start = c.fix-vertex.ensures.value ∙ rw (here.dcel, here.index) at c.from.ensures.index in
-    let move = move_to_found c.requires.kept c.requires.from sample.within sample.nearer
+    let move = move_to_found c.requires.can.kept c.requires.from sample.within sample.nearer
     start c.index.ensures c.index-2.ensures c.if-index.false in
     record {
       candidate = c.in-Some.ensures.candidate;

@@ -11,7 +11,7 @@ use Rattle.delaunay_location.proofs.nearest_walk.first_candidate.Goals as goal
 
 pub returns-in_err-spoke : goal.returns-in_err-spoke
 returns-in_err-spoke g c = rw c.from_residual.ensures (
-  no_nearer_neighbour _ _ _ _ c.requires.kept.valid.sound
+  no_nearer_neighbour _ _ _ _ c.requires.can.kept.valid.sound
       (λ h within starts. absurd (c.in_err-spoke.ensures h within starts)),
   refl,
 )
@@ -26,11 +26,11 @@ nearer_end-requires-clause-start g c =
 pub overflow_add-moves : goal.overflow_add-moves
 overflow_add-moves g c =
     let near = nearer_than_same c.in_ok-spoke.ensures.1 c.in-Some.ensures in
-    let next = reached_next c.requires.kept c.requires.within near in
+    let next = reached_next c.requires.can.kept c.requires.within near in
     let fits = moves_fit next.counted (2 ^ 64) c.requires.fits in omega (arith, fits)
 
 pub returns-in-Some : goal.returns-in-Some
-returns-in-Some g c = reached_next c.requires.kept c.requires.within
+returns-in-Some g c = reached_next c.requires.can.kept c.requires.within
     (nearer_than_same c.in_ok-spoke.ensures.1 c.in-Some.ensures)
 
 pub returns-in-None : goal.returns-in-None
@@ -40,7 +40,7 @@ returns-in-None g c =
     let spoke = c.in_ok-spoke.ensures in
     record {
       candidate = record {
-        within = rw (← c.requires.kept.fits.directed_fit) spoke.0;
+        within = rw (← c.requires.can.kept.fits.directed_fit) spoke.0;
         distance = to_z-of_z w64 _ (record { sfits = c.distance_2_to-distance_2.type_inv })
             ∙ c.distance_2_to-distance_2.ensures ∙ ap far (sym spoke.1);
         ends = c.in-None.ensures;

@@ -23,7 +23,7 @@ returns-then-at_end_2-distance_2 g c =
     let less = subst (λ (z : ℤ). z <ℤ far (origin c.args.dcel.now.mesh c.args.edge)) at_end
     (subst (λ (z : ℤ). to_z w64 (of_z w64 c.distance_2_to-at_end_2.result) <ℤ z) at_start
     (less_by_test _ _ c.if-at_end_2-distance_2.true)) in
-    let within = rev_within c.args.edge _ c.requires.kept.valid.sound.even
-    (let w = c.requires.within in let fit = c.requires.kept.fits.directed_fit in
+    let within = rev_within c.args.edge _ c.requires.can.kept.valid.sound.even
+    (let w = c.requires.within in let fit = c.requires.can.kept.fits.directed_fit in
     omega (arith, w, fit)) in
     candidate_at_end _ _ p c.args.edge _ c.rev.ensures less within at_end

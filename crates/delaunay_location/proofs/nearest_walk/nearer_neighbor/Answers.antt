@@ -9,20 +9,20 @@ use Rattle.delaunay_location.proofs.nearest_walk.nearer_neighbor.Goals as goal
 
 pub loop-point-init : goal.loop-point-init
 loop-point-init g c =
-    closing_in_begins c.requires.kept.valid c.requires.from.within refl c.requires.from.ends
+    closing_in_begins c.requires.can.kept.valid c.requires.from.within refl c.requires.from.ends
 
 pub edge_clockwise-next-requires : goal.edge_clockwise-next-requires
 edge_clockwise-next-requires g c =
-    rw c.requires.kept.fits.directed_fit (left_within c.loop-point.invariant)
+    rw c.requires.can.kept.fits.directed_fit (left_within c.loop-point.invariant)
 
 pub returns-then-index : goal.returns-then-index
-returns-then-index g c = no_nearer_neighbour _ _ _ _ c.requires.kept.valid.sound
+returns-then-index g c = no_nearer_neighbour _ _ _ _ c.requires.can.kept.valid.sound
     (seen_where_left_meets c.loop-point.invariant c.edge_clockwise-next.ensures.value
     (sym c.index.ensures ∙ c.if-index.true ∙ c.index-in-loop-point.ensures))
 
 pub nearer_end-requires-clause-start : goal.nearer_end-requires-clause-start
 nearer_end-requires-clause-start g c =
-    distance_read c.requires.kept c.requires.in_range c.requires.from _
+    distance_read c.requires.can.kept c.requires.can.in_range c.requires.from _
     (left_starts c.loop-point.invariant c.edge_clockwise-next.ensures.value)
 
 pub returns-in-Some : goal.returns-in-Some
@@ -31,20 +31,20 @@ returns-in-Some g c = nearer_than_same
 
 pub ccw_edge-next-requires : goal.ccw_edge-next-requires
 ccw_edge-next-requires g c =
-    rw c.requires.kept.fits.directed_fit (right_within c.loop-point.invariant)
+    rw c.requires.can.kept.fits.directed_fit (right_within c.loop-point.invariant)
 
 pub returns-then-index-2 : goal.returns-then-index-2
 returns-then-index-2 g c =
     let left = left_goes_on c.loop-point.invariant c.edge_clockwise-next.ensures.value
     (λ e. c.if-index.false (c.index.ensures ∙ e ∙ sym c.index-in-loop-point.ensures))
     c.in_default.ensures in
-    no_nearer_neighbour _ _ _ _ c.requires.kept.valid.sound (seen_where_right_meets left
+    no_nearer_neighbour _ _ _ _ c.requires.can.kept.valid.sound (seen_where_right_meets left
     c.ccw_edge-next.ensures.value
     (sym c.index-in-loop-point-2.ensures ∙ c.if-index-2.true ∙ c.index-in-loop-point-3.ensures))
 
 pub directed_edge-requires : goal.directed_edge-requires
 directed_edge-requires g c =
-    rw c.requires.kept.fits.directed_fit (right_within c.loop-point.invariant)
+    rw c.requires.can.kept.fits.directed_fit (right_within c.loop-point.invariant)
 
 pub nearer_end-requires-in-loop-point-clause-end : goal.nearer_end-requires-in-loop-point-clause-end
 nearer_end-requires-in-loop-point-clause-end g c =
@@ -55,7 +55,7 @@ nearer_end-requires-in-loop-point-clause-end g c =
 pub nearer_end-requires-in-loop-point-clause-start :
     goal.nearer_end-requires-in-loop-point-clause-start
 nearer_end-requires-in-loop-point-clause-start g c =
-    distance_read c.requires.kept c.requires.in_range c.requires.from _
+    distance_read c.requires.can.kept c.requires.can.in_range c.requires.from _
     (right_starts c.loop-point.invariant c.ccw_edge-next.ensures.value)
 
 pub returns-in-Some-nearer_end : goal.returns-in-Some-nearer_end

@@ -14,4 +14,4 @@ distance_2-requires-clause-other_in_range g c =
       arith,
       c.requires.within,
       length-map vertices at,
-    )) (All-map InRange at vertices c.requires.kept.in_range))
+    )) (All-map InRange at vertices c.requires.can.kept.in_range))

@@ -1,11 +1,31 @@
-use Rattle.std.proofs.Common.{◌≤◌, length, arith}
+use Rattle.std.proofs.Common.{◌≤◌, length, map, sym, ◌∙◌, arith}
+use Rattle.std.proofs.lemmas.List.{length-map}
+use Rattle.delaunay_legalization.specs.delaunay_core.Place.{place_of}
+use Rattle.delaunay_legalization.specs.Parts.{IsApart}
 use Rattle.delaunay_location.proofs.Locating.{at_vertex, in_face, past_end, some_edge}
+use Rattle.delaunay_location.proofs.search.Search.place_by_scan.Given.{Over}
+use Rattle.delaunay_location.proofs.search.Search.place_by_scan.Goals.{After-num_vertices}
 use Rattle.delaunay_location.proofs.search.Search.place_by_scan.Goals as goal
 
-pub returns-in-Some : goal.returns-in-Some
-returns-in-Some g c =
-    let here = c.in-Some.ensures in
-    rw (← c.self.view_is) (at_vertex _ _ c.self.invariant.kept _ _ here.0 here.1)
+-- no vertex has the position, once all were looked at
+apart : (g : Over) (c : After-num_vertices g)
+    → IsApart (map g.V.HasPosition.place c.self.inside.dcel.now.vertices)
+    (place_of g.V.Scalar.SpadeNum.whole c.self.inside.point)
+apart g c = record {
+  apart = λ k below.
+      let count = c.num_vertices-index-end.ensures.value in
+      let many = length-map c.self.inside.dcel.now.vertices g.V.HasPosition.place in
+      (rw (← c.self.view_is) at c.loop-index.invariant) k
+      (omega (arith, below, count, many, c.loop-index-test.false));
+}
+
+pub returns-then-is_same_point : goal.returns-then-is_same_point
+returns-then-is_same_point g c =
+    let here = c.from_index-vertex.ensures in
+    let count = c.num_vertices-index-end.ensures.value in
+    rw (← c.self.view_is) (at_vertex _ _ c.self.invariant.kept _ _
+    (omega (arith, here, count, c.loop-index-test.true))
+    (sym c.position_of.ensures.place ∙ c.is_same_point.ensures.0 c.if-is_same_point.true))
 
 pub returns-in-Some-face_around : goal.returns-in-Some-face_around
 returns-in-Some-face_around g c =
@@ -16,15 +36,17 @@ pub edge_from_nearest-requires-clause-some : goal.edge_from_nearest-requires-cla
 edge_from_nearest-requires-clause-some g c =
     let several : 2 ≤ length c.self.inside.dcel.now.vertices =
     omega (arith, c.num_vertices.ensures.value, c.if-num_vertices-lt2.false) in
-    some_edge _ _ c.self.invariant.kept _ c.in_default.ensures
-    (rw (← c.self.view_is) at c.in_default-place_at_edges.ensures)
+    some_edge _ _ c.self.invariant.kept _
+    (apart g (goal.at.edge_from_nearest-requires-clause-some g c).After-num_vertices)
+    (rw (← c.self.view_is) at c.in_default.ensures)
     (rw (← c.self.view_is) at c.in_default-face_around.ensures) several
 
 pub returns : goal.returns
 returns g c =
     let several : 2 ≤ length c.self.inside.dcel.now.vertices =
     omega (arith, c.num_vertices.ensures.value, c.if-num_vertices-lt2.false) in
-    rw (← c.self.view_is) (past_end _ _ c.self.invariant.kept _ c.in_default.ensures
-    (rw (← c.self.view_is) at c.in_default-place_at_edges.ensures)
+    rw (← c.self.view_is) (past_end _ _ c.self.invariant.kept _
+    (apart g (goal.at.returns g c).After-num_vertices)
+    (rw (← c.self.view_is) at c.in_default.ensures)
     (rw (← c.self.view_is) at c.in_default-face_around.ensures) several _
     c.edge_from_nearest.ensures)
