@@ -1,9 +1,8 @@
 -- The look for an edge between two vertices, round both of them at once.
 -- Notions: EndsThere, IsLooking, AreLooking; none_back, looking_begins, starts_there, none_of_all,
 -- none_when_back, looking_goes_on.
-use Rattle.std.proofs.Common.{◌≡◌, ◌↔◌, ◌+◌, ◌<◌, ◌≤◌, ◌∙◌}
+use Rattle.std.proofs.Common.{◌≡◌, ◌+◌, ◌<◌, ◌≤◌, ◌∙◌}
 use Rattle.std.proofs.Common.{ℕ, length, refl, sym, ap, arith, inl, inr}
-use Rattle.std.specs.Prelude.{Bool, false, IsTrue}
 use Rattle.std.proofs.lemmas.Bool.{cases_lt}
 use Rattle.delaunay_legalization.proofs.half_edge_links.Lists.Rev.{rev-rev, rev_within}
 use Rattle.delaunay_legalization.specs.half_edge_mesh.Contents.{Contents, IsMeshWithData}
@@ -13,7 +12,7 @@ use Rattle.delaunay_legalization.specs.half_edge_mesh.Round.{IsRound}
 use Rattle.delaunay_legalization.proofs.half_edge_views.Loops.{round_fits}
 use Rattle.delaunay_legalization.proofs.Rounds.{round_at}
 use Rattle.delaunay_removal.specs.Pairs.{HasNoEdgeBetween}
-use Rattle.delaunay_removal.proofs.Searching.{IsSearching, not_so, search_goes_on}
+use Rattle.delaunay_removal.proofs.Searching.{IsSearching, search_goes_on}
 
 -- edge e ends at vertex u
 abbrev pub EndsThere : Mesh → ℕ → ℕ → Type 0
@@ -82,12 +81,12 @@ module _ {m : Mesh} {bound i first j count edge : ℕ}
   ]
 
   -- it passes an edge that ends elsewhere
-  pub looking_goes_on : {b : Bool} {after : ℕ} → IsTrue b ↔ EndsThere m j edge → b ≡ false
-      → after < bound → after ≡ turn m edge → IsLooking m bound i first j (count + 1) after
-  looking_goes_on asks failed within is = record {
+  pub looking_goes_on : {after : ℕ} → ¬ EndsThere m j edge → after < bound → after ≡ turn m edge
+      → IsLooking m bound i first j (count + 1) after
+  looking_goes_on elsewhere within is = record {
     valid = look.valid;
     fit = look.fit;
     first_in = look.first_in;
     starts = look.starts;
-    walk = search_goes_on look.walk (not_so asks failed) within is;
+    walk = search_goes_on look.walk elsewhere within is;
   }

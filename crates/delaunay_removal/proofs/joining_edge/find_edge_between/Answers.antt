@@ -1,4 +1,4 @@
-use Rattle.std.proofs.Common.{arith}
+use Rattle.std.proofs.Common.{sym, ◌∙◌, arith}
 use Rattle.delaunay_legalization.proofs.half_edge_links.Lists.Rev.{rev-rev}
 use Rattle.delaunay_removal.proofs.BothRounds.{looking_begins, looking_goes_on, none_back}
 use Rattle.delaunay_removal.proofs.BothRounds.{none_of_all, none_when_back, starts_there}
@@ -14,36 +14,42 @@ loop-i-init g c =
           c.in_ok-second.ensures.starts;
     }
 
-pub returns-then-ends_at-clause-starts : goal.returns-then-ends_at-clause-starts
-returns-then-ends_at-clause-starts g c = starts_there c.loop-i.invariant.outward
+pub returns-then-index-clause-starts : goal.returns-then-index-clause-starts
+returns-then-index-clause-starts g c = starts_there c.loop-i.invariant.outward
 
-pub returns-then-ends_at-2-clause-ends : goal.returns-then-ends_at-2-clause-ends
-returns-then-ends_at-2-clause-ends g c =
+pub returns-then-index-2-clause-ends : goal.returns-then-index-2-clause-ends
+returns-then-index-2-clause-ends g c =
     rw (c.rev.ensures, rev-rev) (starts_there c.loop-i.invariant.inward)
 
-pub returns-then-is_same_edge-clause-none : goal.returns-then-is_same_edge-clause-none
-returns-then-is_same_edge-clause-none g c =
+pub returns-then-index-3-clause-none : goal.returns-then-index-3-clause-none
+returns-then-index-3-clause-none g c =
     let after = c.ccw_edge-forward.ensures in
-    none_when_back (looking_goes_on c.loop-i.invariant.outward c.ends_at.ensures c.if-ends_at.false
-    after.within after.value) (omega arith) (c.is_same_edge.ensures.0 c.if-is_same_edge.true)
+    none_when_back (looking_goes_on c.loop-i.invariant.outward
+    (λ e. c.if-index.false (c.index-in-loop-i.ensures ∙ c.vertex_at_end.ensures ∙ e
+    ∙ sym c.index-in-loop-i-2.ensures)) after.within after.value) (omega arith)
+    (sym c.index-in-loop-i-5.ensures ∙ c.if-index-3.true ∙ c.index-in-loop-i-6.ensures)
 
-pub returns-then-is_same_edge-2-clause-none : goal.returns-then-is_same_edge-2-clause-none
-returns-then-is_same_edge-2-clause-none g c =
+pub returns-then-index-4-clause-none : goal.returns-then-index-4-clause-none
+returns-then-index-4-clause-none g c =
     let inward = c.loop-i.invariant.inward in
     let after = c.ccw_edge-backward.ensures in
-    none_back inward.valid (none_when_back (looking_goes_on inward c.ends_at-in-loop-i.ensures
-    c.if-ends_at-2.false after.within after.value) (omega arith)
-    (c.is_same_edge-in-loop-i.ensures.0 c.if-is_same_edge-2.true))
+    none_back inward.valid (none_when_back (looking_goes_on inward
+    (λ e. c.if-index-2.false (c.index-in-loop-i-3.ensures ∙ c.vertex_at_end-in-loop-i.ensures ∙ e
+    ∙ sym c.index-in-loop-i-4.ensures)) after.within after.value) (omega arith)
+    (sym c.index-in-loop-i-7.ensures ∙ c.if-index-4.true ∙ c.index-in-loop-i-8.ensures))
 
 pub loop-i-preserved : goal.loop-i-preserved
 loop-i-preserved g c =
     let forward = c.ccw_edge-forward.ensures in
     let backward = c.ccw_edge-backward.ensures in
     record {
-      outward = looking_goes_on c.loop-i.invariant.outward c.ends_at.ensures c.if-ends_at.false
-          forward.within forward.value;
-      inward = looking_goes_on c.loop-i.invariant.inward c.ends_at-in-loop-i.ensures
-          c.if-ends_at-2.false backward.within backward.value;
+      outward = looking_goes_on c.loop-i.invariant.outward
+          (λ e. c.if-index.false (c.index-in-loop-i.ensures ∙ c.vertex_at_end.ensures ∙ e
+          ∙ sym c.index-in-loop-i-2.ensures)) forward.within forward.value;
+      inward = looking_goes_on c.loop-i.invariant.inward
+          (λ e. c.if-index-2.false (c.index-in-loop-i-3.ensures
+          ∙ c.vertex_at_end-in-loop-i.ensures ∙ e ∙ sym c.index-in-loop-i-4.ensures))
+          backward.within backward.value;
     }
 
 pub returns-clause-none : goal.returns-clause-none
