@@ -1,6 +1,6 @@
 //! A flood over the edges of a mesh that have a point in a shape: from those found, to those beside
 //! them in their faces.
-ghost use Rattle.std.specs.Prelude.{◌≡◌, ◌<◌, ◌/◌, ℕ, [], length, map, All, Contains, IfOk};
+ghost use Rattle.std.specs.Prelude.{◌≡◌, ◌<◌, ◌/◌, [], length, map, All, IfOk};
 ghost use Rattle.std.specs.Prelude.{replicate, false, OnOk};
 ghost use Rattle.delaunay_shapes.specs.Flood.{HasBegunWith, IsAsked, IsSpread, IsSpreadTo, Spreads};
 ghost use Rattle.delaunay_shapes.specs.InShape.{AreEdgesInShape, undirected_of};
@@ -12,9 +12,8 @@ use crate::marks::Marks;
 use crate::shape_search::ShapeSearch;
 use delaunay_location::delaunay_core::math::PlaneTests;
 use delaunay_location::delaunay_core::point::HasPosition;
-use delaunay_location::half_edge_mesh::{
-    FixedDirectedEdgeHandle, FixedUndirectedEdgeHandle, FixedVertexHandle, MeshViews,
-};
+use delaunay_location::half_edge_mesh::{FixedDirectedEdgeHandle, FixedVertexHandle, MeshViews};
+use delaunay_location::locate_with_hint;
 use std::alloc::{AllocError, Global};
 
 // The edges that a flood has asked of, and those of them that have a point in the shape, each in
@@ -135,24 +134,9 @@ impl<
         Ok(())
     }
 
-    // Asks of each edge of a list.
-    fn ask_each(
-        &self,
-        edges: &[FixedUndirectedEdgeHandle],
-        flood: &mut EdgeFlood,
-    ) -> Result<(), AllocError>
-        requires within { All (λ e. e < length self.now.dcel.undirected) edges.now }
-        requires flooding { IsFloodFor V.place M.shape self.now flood.old }
-        ensures flooding { OnOk result (IsFloodFor V.place M.shape self.now flood.new) }
-        ensures each { OnOk result ((k : ℕ) → Contains edges.now k → IsAsked flood.new.asked k) }
-    {
-        for edge in edges {
-            self.ask(edge.as_directed(), flood)?;
-        }
-        Ok(())
-    }
-
-    // Asks of the edges to begin with, which are looked for from the vertex `hint` on.
+    // Asks of edges of which one has a point in the shape, if any edge has: those at the centre of a
+    // circle or at the lower corner of a rectangle, or, where that is outside, an outer edge. They
+    // are looked for from the vertex `hint` on.
     pub(crate) fn ask_starts(
         &self,
         hint: FixedVertexHandle,
@@ -164,8 +148,11 @@ impl<
         ensures begun { OnOk result (HasBegunWith (EnclosesEdge V.place M.shape self.now)
             (length self.now.dcel.undirected) flood.new.asked) }
     {
-        let starts = self.first_edges(hint, alloc)?;
-        self.ask_each(starts.as_slice(), flood)?;
+        let location = locate_with_hint(self.dcel, self.start, hint, self.tests);
+        let starts = self.edges_at(location, alloc)?;
+        for edge in starts.as_slice() {
+            self.ask(edge.as_directed(), flood)?;
+        }
         Ok(())
     }
 

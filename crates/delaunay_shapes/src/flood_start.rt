@@ -3,19 +3,18 @@ ghost use Rattle.std.specs.Prelude.{◌≡◌, ℕ, ◌/◌, ◌<◌, ◌≤◌}
 ghost use Rattle.std.specs.Prelude.{length, All, IfNone, IfOk, IfSome, Contains, Some};
 ghost use Rattle.delaunay_location.specs.half_edge_mesh.Mesh.{face, face_edge, out_edge};
 ghost use Rattle.delaunay_location.specs.Location.{HasHandle};
-ghost use Rattle.delaunay_shapes.specs.Flood.{IsBegunBy};
 ghost use Rattle.delaunay_shapes.specs.ShapeSearch.{EnclosesEdge};
 ghost use Rattle.delaunay_shapes.specs.Start.{HasSides, HasStarts};
 
 use crate::distance_metric::DistanceMetric;
 use crate::shape_search::ShapeSearch;
+use delaunay_location::PositionInTriangulation;
 use delaunay_location::delaunay_core::math::PlaneTests;
 use delaunay_location::delaunay_core::point::HasPosition;
 use delaunay_location::half_edge_mesh::{
     Dcel, FixedDirectedEdgeHandle, FixedFaceHandle, FixedUndirectedEdgeHandle, FixedVertexHandle,
     MeshViews,
 };
-use delaunay_location::{PositionInTriangulation, locate_with_hint};
 use std::alloc::{AllocError, Global};
 
 // An edge at a vertex, if it has one.
@@ -97,7 +96,7 @@ impl<
     }
 
     // The edges to begin with from a location.
-    fn edges_at(
+    pub(crate) fn edges_at(
         &self,
         location: PositionInTriangulation,
         alloc: Global,
@@ -118,21 +117,5 @@ impl<
             },
             PositionInTriangulation::NoTriangulation => Ok(Vec::new(alloc)),
         }
-    }
-
-    // Edges of which one has a point in the shape, if any edge has: those at the centre of a circle
-    // or at the lower corner of a rectangle, or, where that is outside, an outer edge. They are
-    // looked for from the vertex `hint` on.
-    pub(crate) fn first_edges(
-        &self,
-        hint: FixedVertexHandle,
-        alloc: Global,
-    ) -> Result<Vec<FixedUndirectedEdgeHandle>, AllocError>
-        ensures begun { IfOk result (λ v. IsBegunBy (EnclosesEdge V.place M.shape self.now)
-            (length self.now.dcel.undirected) v.items) }
-        ensures within { IfOk result (λ v. All (λ e. e < length self.now.dcel.undirected) v.items) }
-    {
-        let location = locate_with_hint(self.dcel, self.start, hint, self.tests);
-        self.edges_at(location, alloc)
     }
 }
