@@ -1,6 +1,6 @@
 -- From an item that a segment meets to the next, by the links of a mesh.
--- Notions: IsExit; over_value, not_same, positive, at_ends, side_at, laid, in_mesh, of_mesh, joined,
--- tiles_with, bare, face_at, start_in, start_known, twin_within, next_spoke, ends_apart,
+-- Notions: IsExit; over_value, not_same, positive, at_ends, side_at, laid, in_mesh, of_mesh,
+-- joined, tiles_with, bare, face_at, start_in, start_known, twin_within, next_spoke, ends_apart,
 -- ends_not_within, twin_of_prev, twin_of_next, last_at_edge, ends_inside, at_corner, through_exit,
 -- last_within_overlap, end_of_overlap, last_at_end, last_if_none_leads, along_ahead, last_in_face,
 -- through_far.
