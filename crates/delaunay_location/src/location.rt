@@ -1,5 +1,5 @@
 //! Where a position is, by a look at all vertices, edges and faces.
-ghost use Rattle.std.specs.Prelude.{◌≡◌, ℕ, ◌<◌, ◌≤◌};
+ghost use Rattle.std.specs.Prelude.{ℕ, ◌<◌, ◌≤◌};
 ghost use Rattle.std.specs.Prelude.{length, map, MatchOption};
 ghost use Rattle.delaunay_legalization.specs.delaunay_core.Place.{place_of};
 ghost use Rattle.delaunay_location.specs.Location.{StartsNearest};

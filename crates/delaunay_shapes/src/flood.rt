@@ -134,9 +134,9 @@ impl<
         Ok(())
     }
 
-    // Asks of edges of which one has a point in the shape, if any edge has: those at the centre of a
-    // circle or at the lower corner of a rectangle, or, where that is outside, an outer edge. They
-    // are looked for from the vertex `hint` on.
+    // Asks of edges of which one has a point in the shape, if any edge has: those at the centre of
+    // a circle or at the lower corner of a rectangle, or, where that is outside, an outer edge.
+    // They are looked for from the vertex `hint` on.
     pub(crate) fn ask_starts(
         &self,
         hint: FixedVertexHandle,

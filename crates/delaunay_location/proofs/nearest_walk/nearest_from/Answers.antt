@@ -34,7 +34,8 @@ loop-nearer-smaller g c =
 
 pub loop-nearer-smaller-then-moves-eq0 : goal.loop-nearer-smaller-then-moves-eq0
 loop-nearer-smaller-then-moves-eq0 g c =
-    let falls = next_falls c.requires.can.kept c.loop-nearer.invariant.candidate c.in-Some.ensures in
+    let falls = next_falls c.requires.can.kept c.loop-nearer.invariant.candidate
+    c.in-Some.ensures in
     let stays = count_stays c.candidate_anywhere-nearest.ensures.counted in
     omega (arith, falls, stays)
 
@@ -47,6 +48,7 @@ returns g c =
     let here = c.directed_edge.ensures in
     rw (c.fix.ensures.value ∙ rw (here.dcel, here.index) at c.from.ensures.index) (record {
       nearest = nearest_by_neighbours _ c.requires.delaunay _ _
-          (vertex_within c.requires.can.kept c.loop-nearer.invariant.candidate) c.in_default.ensures;
+          (vertex_within c.requires.can.kept c.loop-nearer.invariant.candidate)
+          c.in_default.ensures;
       counted = c.loop-nearer.invariant.counted;
     })
