@@ -1,23 +1,24 @@
 -- What a table says, by the indexes of points: a listed triple turns left, its rotations too, their
 -- three other orders turn right, and the rest is on.
-use Rattle.std.specs.Prelude.{ℕ, ◌==◌, Bool, false, ◌&&◌, ◌||◌, if◌then◌else◌, List, get_or}
+use Rattle.std.specs.Prelude.{ℕ, nat_eq, Bool, false, if◌then◌else◌, List, [], ◌∷◌, get_or}
 use Rattle.std.specs.Prelude.{Option, is_some}
+use Rattle.std.specs.Cmp.Lexicographic.{pointwise}
 use Rattle.std.specs.List.{list_any, find}
 use Rattle.std.specs.Option.{option_map_or}
 use Rattle.delaunay_edit.specs.plane.Side.{Side, left, right, on}
 use Rattle.triangulate_run.specs.declared.circles.Circle.{Circle}
 
--- the triple t is i, j, k in this order
-abbrev pub is_triple : List ℕ → ℕ → ℕ → ℕ → Bool
-is_triple t i j k = (get_or t 0 0 == i) && ((get_or t 1 0 == j) && (get_or t 2 0 == k))
+-- the triples have the triple t
+abbrev pub has : List (List ℕ) → List ℕ → Bool
+has ts t = list_any (λ u. pointwise nat_eq u t) ts
 
--- the triple t is i, j, k or a rotation of it
-abbrev pub is_turned : List ℕ → ℕ → ℕ → ℕ → Bool
-is_turned t i j k = is_triple t i j k || (is_triple t j k i || is_triple t k i j)
+-- a triple, and its rotations
+abbrev pub rotations : ℕ → ℕ → ℕ → List (List ℕ)
+rotations i j k = (i ∷ j ∷ k ∷ []) ∷ (j ∷ k ∷ i ∷ []) ∷ (k ∷ i ∷ j ∷ []) ∷ []
 
 -- one of the triples is i, j, k or a rotation of it
 abbrev pub lists : List (List ℕ) → ℕ → ℕ → ℕ → Bool
-lists ts i j k = list_any (λ t. is_turned t i j k) ts
+lists ts i j k = list_any (has ts) (rotations i j k)
 
 -- the first circle of the table that lists i, j, k or a rotation of it
 abbrev pub circle_in : List Circle → ℕ → ℕ → ℕ → Option Circle

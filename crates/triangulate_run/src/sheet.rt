@@ -10,7 +10,7 @@ ghost use Rattle.triangulate_run.specs.Range.{covered_in_range};
 ghost use Rattle.triangulate_run.specs.Stage.{position};
 ghost use Rattle.triangulate_run.specs.declared.sheet.Sheet.{Sheet};
 
-use crate::circles::{Circle, is_inside_at, side_at};
+use crate::circles::{Circle, circle_of};
 use crate::points::{SheetPoint, index_of, site_index_of};
 use crate::table::{
     B_POINTS, G_POINTS, GRID_CIRCLES, L_CIRCLES, L_POINTS, R_POINTS, X_CIRCLES, X_POINTS,
@@ -104,12 +104,16 @@ impl PlaneTests<i64> for Sheet {
             (whole (position point)) }
     {
         let (points, circles) = self.table();
-        side_at(
-            circles,
-            index_of(points, from).unwrap(),
-            index_of(points, to).unwrap(),
-            index_of(points, point).unwrap(),
-        )
+        let i = index_of(points, from).unwrap();
+        let j = index_of(points, to).unwrap();
+        let k = index_of(points, point).unwrap();
+        if circle_of(circles, i, j, k).is_some() {
+            LineSideInfo::left()
+        } else if circle_of(circles, i, k, j).is_some() {
+            LineSideInfo::right()
+        } else {
+            LineSideInfo::on_line()
+        }
     }
 
     fn is_in_circle(
@@ -129,12 +133,13 @@ impl PlaneTests<i64> for Sheet {
             (whole (position v3)) (whole (position point)) }
     {
         let (points, circles) = self.table();
-        is_inside_at(
-            circles,
-            site_index_of(points, v1).unwrap(),
-            site_index_of(points, v2).unwrap(),
-            site_index_of(points, v3).unwrap(),
-            site_index_of(points, point).unwrap(),
-        )
+        let i = site_index_of(points, v1).unwrap();
+        let j = site_index_of(points, v2).unwrap();
+        let k = site_index_of(points, v3).unwrap();
+        let l = site_index_of(points, point).unwrap();
+        match circle_of(circles, i, j, k) {
+            Some(circle) => *circle.inside.get(l).unwrap_or(&false),
+            None => false,
+        }
     }
 }

@@ -68,69 +68,50 @@ macro_rules! circle {
     };
 }
 
-// The points of the grid, row by row from below:
-//
-//     G H I
-//     D E F
-//     A B C
-const A: usize = 0;
-
-const B: usize = 1;
-
-const C: usize = 2;
-
-const D: usize = 3;
-
-const E: usize = 4;
-
-const F: usize = 5;
-
-const G: usize = 6;
-
-const H: usize = 7;
-
-const I: usize = 8;
-
 pub(crate) const G_POINTS: [SheetPoint; 9] = grid!(-1, 0, 1);
 
 pub(crate) const B_POINTS: [SheetPoint; 9] = grid!(-536870912, 0, 536870912);
 
-// Of the grid, however far apart its points are.
+// Of the grid, however far apart its points are. By their indexes they stand so:
+//
+//     6 7 8
+//     3 4 5
+//     0 1 2
 pub(crate) const GRID_CIRCLES: [Circle; 34] = [
-    circle!([[A, B, E], [A, B, D], [A, E, D], [B, E, D]];),
-    circle!([[B, C, F], [B, C, E], [B, F, E], [C, F, E]];),
-    circle!([[D, E, H], [D, E, G], [D, H, G], [E, H, G]];),
-    circle!([[E, F, I], [E, F, H], [E, I, H], [F, I, H]];),
-    circle!([[A, B, H], [A, B, G], [A, H, G], [B, H, G]]; D, E),
-    circle!([[B, C, I], [B, C, H], [B, I, H], [C, I, H]]; E, F),
-    circle!([[A, C, F], [A, C, D], [A, F, D], [C, F, D]]; B, E),
-    circle!([[D, F, I], [D, F, G], [D, I, G], [F, I, G]]; E, H),
-    circle!([[A, C, I], [A, C, G], [A, I, G], [C, I, G]]; B, D, E, F, H),
-    circle!([[B, F, H], [B, F, D], [B, H, D], [F, H, D]]; E),
-    circle!([[A, C, E]; 4]; B),
-    circle!([[C, I, E]; 4]; F),
-    circle!([[I, G, E]; 4]; H),
-    circle!([[G, A, E]; 4]; D),
-    circle!([[A, C, H]; 4]; B, D, E, F),
-    circle!([[C, I, D]; 4]; B, E, F, H),
-    circle!([[I, G, B]; 4]; D, E, F, H),
-    circle!([[G, A, F]; 4]; B, D, E, H),
-    circle!([[A, B, F], [A, B, I], [A, F, I], [B, F, I]]; D, E, G, H),
-    circle!([[C, F, H], [C, F, G], [C, H, G], [F, H, G]]; A, B, D, E),
-    circle!([[I, H, D], [I, H, A], [I, D, A], [H, D, A]]; B, C, E, F),
-    circle!([[G, D, B], [G, D, C], [G, B, C], [D, B, C]]; E, F, H, I),
-    circle!([[D, E, I]; 4]; G, H),
-    circle!([[B, E, G]; 4]; A, D),
-    circle!([[F, E, A]; 4]; B, C),
-    circle!([[H, E, C]; 4]; F, I),
-    circle!([[G, E, F]; 4]; H, I),
-    circle!([[A, E, H]; 4]; D, G),
-    circle!([[C, E, D]; 4]; A, B),
-    circle!([[I, E, B]; 4]; C, F),
-    circle!([[A, F, H]; 4]; B, D, E),
-    circle!([[C, H, D]; 4]; B, E, F),
-    circle!([[I, D, B]; 4]; E, F, H),
-    circle!([[G, B, F]; 4]; D, E, H),
+    circle!([[0, 1, 4], [0, 1, 3], [0, 4, 3], [1, 4, 3]];),
+    circle!([[1, 2, 5], [1, 2, 4], [1, 5, 4], [2, 5, 4]];),
+    circle!([[3, 4, 7], [3, 4, 6], [3, 7, 6], [4, 7, 6]];),
+    circle!([[4, 5, 8], [4, 5, 7], [4, 8, 7], [5, 8, 7]];),
+    circle!([[0, 1, 7], [0, 1, 6], [0, 7, 6], [1, 7, 6]]; 3, 4),
+    circle!([[1, 2, 8], [1, 2, 7], [1, 8, 7], [2, 8, 7]]; 4, 5),
+    circle!([[0, 2, 5], [0, 2, 3], [0, 5, 3], [2, 5, 3]]; 1, 4),
+    circle!([[3, 5, 8], [3, 5, 6], [3, 8, 6], [5, 8, 6]]; 4, 7),
+    circle!([[0, 2, 8], [0, 2, 6], [0, 8, 6], [2, 8, 6]]; 1, 3, 4, 5, 7),
+    circle!([[1, 5, 7], [1, 5, 3], [1, 7, 3], [5, 7, 3]]; 4),
+    circle!([[0, 2, 4]; 4]; 1),
+    circle!([[2, 8, 4]; 4]; 5),
+    circle!([[8, 6, 4]; 4]; 7),
+    circle!([[6, 0, 4]; 4]; 3),
+    circle!([[0, 2, 7]; 4]; 1, 3, 4, 5),
+    circle!([[2, 8, 3]; 4]; 1, 4, 5, 7),
+    circle!([[8, 6, 1]; 4]; 3, 4, 5, 7),
+    circle!([[6, 0, 5]; 4]; 1, 3, 4, 7),
+    circle!([[0, 1, 5], [0, 1, 8], [0, 5, 8], [1, 5, 8]]; 3, 4, 6, 7),
+    circle!([[2, 5, 7], [2, 5, 6], [2, 7, 6], [5, 7, 6]]; 0, 1, 3, 4),
+    circle!([[8, 7, 3], [8, 7, 0], [8, 3, 0], [7, 3, 0]]; 1, 2, 4, 5),
+    circle!([[6, 3, 1], [6, 3, 2], [6, 1, 2], [3, 1, 2]]; 4, 5, 7, 8),
+    circle!([[3, 4, 8]; 4]; 6, 7),
+    circle!([[1, 4, 6]; 4]; 0, 3),
+    circle!([[5, 4, 0]; 4]; 1, 2),
+    circle!([[7, 4, 2]; 4]; 5, 8),
+    circle!([[6, 4, 5]; 4]; 7, 8),
+    circle!([[0, 4, 7]; 4]; 3, 6),
+    circle!([[2, 4, 3]; 4]; 0, 1),
+    circle!([[8, 4, 1]; 4]; 2, 5),
+    circle!([[0, 5, 7]; 4]; 1, 3, 4),
+    circle!([[2, 7, 3]; 4]; 1, 4, 5),
+    circle!([[8, 3, 1]; 4]; 4, 5, 7),
+    circle!([[6, 1, 5]; 4]; 3, 4, 7),
 ];
 
 pub(crate) const R_POINTS: [SheetPoint; 100] = row![

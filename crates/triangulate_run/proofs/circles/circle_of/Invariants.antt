@@ -1,11 +1,11 @@
 use Rattle.std.proofs.Common.{◌≡◌, false, take, drop}
 use Rattle.std.specs.List.{list_any}
-use Rattle.triangulate_run.specs.Table.{is_turned, circle_in}
+use Rattle.triangulate_run.specs.Table.{has, circle_in}
 use Rattle.triangulate_run.proofs.circles.circle_of.Given as goal
 
 abbrev pub invariant-loop-triple : goal.invariant-loop-triple
 invariant-loop-triple l =
-    list_any (λ t. is_turned t l.i l.j l.k) (take l.triple-index l.triple-items) ≡ false
+    list_any (has l.circle.triples) (take l.triple-index l.triple-items) ≡ false
 
 abbrev pub invariant-loop-circle : goal.invariant-loop-circle
 invariant-loop-circle l =
