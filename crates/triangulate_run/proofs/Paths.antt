@@ -1,6 +1,6 @@
 -- The edges of a path, as a reply names them, and what becomes of the stage.
--- Notions: edge_piece; leads, can_add, no_edges, some_edges, pieces_text, joins_none,
--- edges_within, joins_some, joins_refused.
+-- Notions: edge_piece; leads, can_add, no_edges, some_edges, same_piece, pieces_text,
+-- joins_none, edges_within, joins_some, joins_refused.
 use Rattle.std.proofs.Common.{◌≡◌, ◌≢◌, ◌<◌, [], ◌∷◌, ◌++◌}
 use Rattle.std.proofs.Common.{ℕ, Bool, true, false, List, length, map, refl, inl, inr, ap}
 use Rattle.std.proofs.Common.{sym, ◌∙◌, subst}
@@ -76,6 +76,10 @@ some_edges edges n b is e f none = eqb-false n 0 (sym e ∙ f) (sym is ∙ ap le
 -- the text of the ends of an edge
 abbrev pub edge_piece : Mesh → ℕ → List ℕ
 edge_piece m h = piece_text (origin m h, origin m (rev h))
+
+-- an edge of the same mesh with the same index has the same text
+pub same_piece : (m n : Mesh) (h k : ℕ) → n ≡ m → k ≡ h → edge_piece n k ≡ edge_piece m h
+same_piece m n h k e f = ap (λ l. edge_piece l k) e ∙ ap (edge_piece m) f
 
 -- the texts of the edges, by the mesh, are those of the pairs of their ends
 pub pieces_text : (m : Mesh) (edges : List ℕ)

@@ -1,20 +1,25 @@
 -- The items of a line, as they are put one after another.
 -- Notions: PutsSome, PutsEach; puts_begin, puts_one, puts_end, puts_part, line_none,
--- line_first_fails, line_others_fail, line_end_fails, line_passed.
+-- line_first_fails, line_others_fail, line_end_fails, line_passed, walks.
 use Rattle.std.proofs.Common.{◌≡◌, [], ◌∷◌, ◌++◌, ◌∙◌}
 use Rattle.std.proofs.Common.{ℕ, List, Option, Some, None, refl, sym, ap, subst, append_assoc}
-use Rattle.std.proofs.Common.{append-nil}
-use Rattle.std.specs.Prelude.{ℤ, codes}
+use Rattle.std.proofs.Common.{append-nil, true, is_some, inl}
+use Rattle.std.specs.Prelude.{ℤ, codes, MatchOption}
 use Rattle.std.specs.List.{flat_map}
 use Rattle.std.proofs.lemmas.Grind.{flat_map-append}
-use Rattle.delaunay_edit.specs.plane.Fraction.{Point}
-use Rattle.delaunay_edit.specs.plane.Line.{Item}
+use Rattle.delaunay_edit.specs.plane.Fraction.{Point, whole}
+use Rattle.delaunay_edit.specs.plane.Line.{Item, IsLineList}
+use Rattle.delaunay_edit.specs.plane.Tiling.{Triangulation}
 use Rattle.delaunay_edit.specs.delaunay_lines.declared.intersection.Intersection.{Intersection}
 use Rattle.delaunay_edit.specs.delaunay_lines.declared.iterator.LineIntersectionIterator.{LineIntersectionIterator}
 use Rattle.delaunay_edit.specs.delaunay_lines.Items.{item_in}
 use Rattle.delaunay_edit.specs.delaunay_lines.Walk.{AreLeft, GivesNext}
+use Rattle.triangulate_run.specs.declared.points.SheetPoint.{SheetPoint}
+use Rattle.triangulate_run.specs.Answer.{MayWalk}
 use Rattle.triangulate_run.specs.Output.{AppendsPart, Sends}
+use Rattle.triangulate_run.specs.Points.{HoldsAt, IsListed}
 use Rattle.triangulate_run.specs.Reply.{item_text, line_text, next_text}
+use Rattle.triangulate_run.proofs.Insertions.{listed_if_known}
 use Rattle.triangulate_run.proofs.OutputLemmas.{passes_nil, passes_more, passes_part, first_fails}
 use Rattle.triangulate_run.proofs.OutputLemmas.{second_fails}
 
@@ -149,3 +154,18 @@ module _ {V D U F P S : Type 0} {at : V → Point} {number : S → ℤ}
             → Sends a d held kept (line_text items)
         line_passed {kept} end = by_first (λ t. Sends a d held kept t)
             (λ others left. passes_more first (passes_more (rest others left) end))
+
+-- ---- a reply
+-- between points that lookups find, the line list is what the way meets
+pub walks : (points : List SheetPoint) (t : Triangulation) (p q : Point) (o r : Option ℕ)
+    → is_some o ≡ true → MatchOption o (¬ IsListed points p) (λ i. HoldsAt points i p)
+    → is_some r ≡ true → MatchOption r (¬ IsListed points q) (λ i. HoldsAt points i q)
+    → (items : List Item) → IsLineList t (whole p) (whole q) items
+    → MayWalk points t p q (line_text items)
+walks points t p q o r from_is from to_is to items list = inl (
+  items,
+  listed_if_known points p o from_is from,
+  listed_if_known points q r to_is to,
+  list,
+  refl,
+)

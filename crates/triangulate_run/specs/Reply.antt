@@ -45,23 +45,23 @@ reply_text (reply.Counts v e f c) = decimal v ++ codes " " ++ decimal e ++ codes
     ++ codes " " ++ decimal c ++ codes "\n"
 reply_text (reply.Faces faces) = flat_map corners_text faces.items ++ codes "end\n"
 
--- the edges of a path, by the ends of each
+-- an edge by its ends, in its direction
+abbrev pub edge_text : List ℕ → List ℕ → ℕ → ℕ → List ℕ
+edge_text name between i j = name ++ decimal i ++ between ++ decimal j
+
+-- an edge of a path, by its ends
 abbrev pub piece_text : ℕ × ℕ → List ℕ
-piece_text p = codes " " ++ decimal p.0 ++ codes "-" ++ decimal p.1
+piece_text p = edge_text (codes " ") (codes "-") p.0 p.1
 
 -- the text of a path: a word, the ends of each of its edges, and a line's end
 abbrev pub path_text : List (ℕ × ℕ) → List ℕ
 path_text path = codes "edges" ++ flat_map piece_text path ++ codes "\n"
 
--- an edge that a line meets, in its direction
-abbrev pub edge_text : List ℕ → ℕ → ℕ → List ℕ
-edge_text name i j = name ++ decimal i ++ codes ">" ++ decimal j
-
 -- what a line meets
 abbrev pub item_text : Item → List ℕ
 item_text (at_vertex i) = codes "v " ++ decimal i
-item_text (across i j) = edge_text (codes "e ") i j
-item_text (along i j) = edge_text (codes "o ") i j
+item_text (across i j) = edge_text (codes "e ") (codes ">") i j
+item_text (along i j) = edge_text (codes "o ") (codes ">") i j
 
 -- an item that a line meets, behind a space
 abbrev pub next_text : Item → List ℕ

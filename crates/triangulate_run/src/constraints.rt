@@ -1,17 +1,15 @@
 //! Constraints that are added and released.
-ghost use Rattle.std.specs.Prelude.{◌≡◌, ◌<◌, ℕ, List, false, length, All};
-ghost use Rattle.std.specs.List.{flat_map};
-ghost use Rattle.delaunay_edit.specs.half_edge_mesh.Mesh.{origin, rev};
+ghost use Rattle.std.specs.Prelude.{◌≡◌, ◌<◌, false, length, All};
 ghost use Rattle.triangulate_watched.specs.Watched.{has_failed};
 ghost use Rattle.delaunay_edit.specs.Constrained.{none, constraint_edges};
 ghost use Rattle.triangulate_run.specs.Answer.{MayJoin, MayRelease};
 ghost use Rattle.triangulate_run.specs.Engine.{stage_by, ends_in, HasSites};
-ghost use Rattle.triangulate_run.specs.Output.{Writes, Puts};
-ghost use Rattle.triangulate_run.specs.Reply.{path_text, piece_text};
+ghost use Rattle.triangulate_run.specs.Output.{Writes, WritesSome};
+ghost use Rattle.triangulate_run.specs.Reply.{path_text};
 
 use crate::engine::{Constrained, Plain};
-use crate::output::{Held, Written, put_pieces, write_all};
-use crate::piece::Piece::{Index, Text};
+use crate::line::put_ends;
+use crate::output::{Held, Written, put_bytes, write_all};
 use crate::reply::{Reply, write_reply};
 use spade_delaunay::handles::{FixedDirectedEdgeHandle, FixedVertexHandle};
 use spade_delaunay::{HintGenerator, InsertionError, PlaneTests, Triangulation};
@@ -31,10 +29,9 @@ pub(crate) fn constrain_and_write<L: HintGenerator<i64>, P: PlaneTests<i64>, W: 
     requires sites { HasSites (P.sites tests.now) (stage_by constraint_edges triangulation.old) }
     requires works { has_failed writer.old ≡ false }
     ensures sites { HasSites (P.sites tests.now) (stage_by constraint_edges triangulation.new) }
-    ensures answered { (text : List ℕ)
-        × MayJoin (stage_by constraint_edges triangulation.old) from to text
-        (stage_by constraint_edges triangulation.new)
-        × Writes W.contents writer.old writer.new result text }
+    ensures answered { WritesSome W.contents writer.old writer.new result
+        (λ text. MayJoin (stage_by constraint_edges triangulation.old) from to text
+        (stage_by constraint_edges triangulation.new)) }
 {
     match triangulation.try_add_constraint(from, to, tests) {
         Ok(edges) => {
@@ -60,54 +57,13 @@ fn write_path<L: HintGenerator<i64>, W: Write>(
         (path_text (ends_in triangulation.now.mesh path.now)) }
 {
     let mut held = Held::new();
-    put_pieces(writer, &mut held, &[Text("edges")])?;
-    put_edges(triangulation, path, writer, &mut held)?;
-    put_pieces(writer, &mut held, &[Text("\n")])?;
-    write_all(writer, held.as_slice())
-}
-
-/// Puts the ends of each edge, with a space before each.
-fn put_edges<L: HintGenerator<i64>, W: Write>(
-    triangulation: &Constrained<L>,
-    path: &[FixedDirectedEdgeHandle],
-    writer: &mut Watched<W>,
-    held: &mut Held,
-) -> Written
-    requires within { All (λ h. h < length triangulation.now.directed) path.now }
-    requires works { has_failed writer.old ≡ false }
-    ensures { Puts W.contents writer.old writer.new held.old.items held.new.items result
-        (flat_map piece_text (ends_in triangulation.now.mesh path.now)) }
-{
+    put_bytes(writer, &mut held, b"edges")?;
     for edge in path {
-        put_path_edge(triangulation, *edge, writer, held)?;
+        let edge = triangulation.directed_edge(*edge);
+        put_ends(writer, &mut held, "", " ", "-", edge)?;
     }
-    Ok(())
-}
-
-/// Puts the ends of an edge, in its direction.
-fn put_path_edge<L: HintGenerator<i64>, W: Write>(
-    triangulation: &Constrained<L>,
-    edge: FixedDirectedEdgeHandle,
-    writer: &mut Watched<W>,
-    held: &mut Held,
-) -> Written
-    requires within { edge < length triangulation.now.directed }
-    requires works { has_failed writer.old ≡ false }
-    ensures { let m = triangulation.now.mesh in
-        Puts W.contents writer.old writer.new held.old.items held.new.items result
-        (piece_text (origin m edge, origin m (rev edge))) }
-{
-    let edge = triangulation.directed_edge(edge);
-    put_pieces(
-        writer,
-        held,
-        &[
-            Text(" "),
-            Index(u64::from(edge.from().index())),
-            Text("-"),
-            Index(u64::from(edge.to().index())),
-        ],
-    )
+    put_bytes(writer, &mut held, b"\n")?;
+    write_all(writer, held.as_slice())
 }
 
 /// Releases the constraint between two vertices.

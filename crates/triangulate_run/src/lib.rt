@@ -11,7 +11,6 @@ pub mod law;
 mod line;
 mod nearest;
 mod output;
-mod piece;
 pub mod points;
 pub mod reply;
 pub mod session;

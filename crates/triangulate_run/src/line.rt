@@ -1,5 +1,5 @@
 //! What the way from one point to another meets.
-ghost use Rattle.std.specs.Prelude.{◌≡◌, ◌++◌, ℕ, List, false};
+ghost use Rattle.std.specs.Prelude.{◌≡◌, ◌++◌, List, false};
 ghost use Rattle.std.specs.List.{flat_map};
 ghost use Rattle.delaunay_edit.specs.half_edge_mesh.Mesh.{origin, rev};
 ghost use Rattle.triangulate_watched.specs.Watched.{has_failed};
@@ -9,12 +9,12 @@ ghost use Rattle.delaunay_edit.specs.delaunay_lines.Items.{item_in};
 ghost use Rattle.delaunay_edit.specs.delaunay_lines.Walk.{AreLeft, IsReady};
 ghost use Rattle.triangulate_run.specs.Answer.{MayWalk};
 ghost use Rattle.triangulate_run.specs.Engine.{stage_by, IsStageReady};
-ghost use Rattle.triangulate_run.specs.Output.{Writes, Puts};
-ghost use Rattle.triangulate_run.specs.Reply.{edge_text, item_text, line_text, next_text};
+ghost use Rattle.triangulate_run.specs.Output.{Puts, WritesSome};
+ghost use Rattle.triangulate_run.specs.Reply.{edge_text, item_text, next_text};
 ghost use Rattle.triangulate_run.specs.Stage.{position};
 
-use crate::output::{Held, Written, put_pieces, write_all};
-use crate::piece::Piece::{Index, Text};
+use crate::output::Piece::{Index, Text};
+use crate::output::{Held, Written, put_bytes, put_pieces, write_all};
 use crate::points::{SheetPoint, index_of};
 use crate::reply::{Reply, write_reply};
 use spade_delaunay::handles::DirectedEdgeHandle;
@@ -37,35 +37,21 @@ pub(crate) fn write_line<L: HintGenerator<i64>, UE, M: EdgeData<UE>, P: PlaneTes
     requires ready { IsStageReady (P.covered tests.now) (P.sites tests.now) points.now
         (stage_by M.constraints triangulation.now) }
     requires works { has_failed writer.old ≡ false }
-    ensures { (text : List ℕ)
-        × MayWalk points.now (triangulation_of position triangulation.now) (position from)
-        (position to) text
-        × Writes W.contents writer.old writer.new result text }
+    ensures { WritesSome W.contents writer.old writer.new result
+        (MayWalk points.now (triangulation_of position triangulation.now) (position from)
+        (position to)) }
 {
     if index_of(points, from).is_none() || index_of(points, to).is_none() {
         return write_reply(writer, &Reply::UnknownPoint);
     }
     let mut line = LineIntersectionIterator::new(triangulation, from, to, tests);
-    write_items(writer, &mut line)
-}
-
-/// Writes the items of a line, one space between two of them.
-fn write_items<DE, UE, F, P: PlaneTests<i64>, W: Write>(
-    writer: &mut Watched<W>,
-    line: &mut LineIntersectionIterator<'_, Point2<i64>, DE, UE, F, P>,
-) -> Written
-    requires ready { IsReady position (λ z. z) P.sites P.covered line.old }
-    requires works { has_failed writer.old ≡ false }
-    ensures { (items : List Item) → AreLeft position (λ z. z) line.old items
-        → Writes W.contents writer.old writer.new result (line_text items) }
-{
     let Some(first) = line.next() else {
         return write_all(writer, b"nothing\n");
     };
     let mut held = Held::new();
     put_item(writer, &mut held, "", &first)?;
-    put_items(writer, &mut held, line)?;
-    put_pieces(writer, &mut held, &[Text("\n")])?;
+    put_items(writer, &mut held, &mut line)?;
+    put_bytes(writer, &mut held, b"\n")?;
     write_all(writer, held.as_slice())
 }
 
@@ -99,39 +85,31 @@ fn put_item<DE, UE, F, W: Write>(
         (before.now ++ item_text (item_in item.now)) }
 {
     match item {
-        Intersection::VertexIntersection(vertex) => put_pieces(
-            writer,
-            held,
-            &[Text(before), Text("v "), Index(u64::from(vertex.index()))],
-        ),
-        Intersection::EdgeIntersection(edge) => put_met_edge(writer, held, before, "e ", *edge),
-        Intersection::EdgeOverlap(edge) => put_met_edge(writer, held, before, "o ", *edge),
+        Intersection::VertexIntersection(vertex) => {
+            let met = [Text(before), Text("v "), Index(u64::from(vertex.index()))];
+            put_pieces(writer, held, &met)
+        }
+        Intersection::EdgeIntersection(edge) => put_ends(writer, held, before, "e ", ">", *edge),
+        Intersection::EdgeOverlap(edge) => put_ends(writer, held, before, "o ", ">", *edge),
     }
 }
 
-/// Puts two texts, and behind them the ends of an edge in its direction.
-fn put_met_edge<'x, DE, UE, F, W: Write>(
+/// Puts two texts, and behind them the ends of an edge in its direction, with a text between them.
+pub(crate) fn put_ends<'x, DE, UE, F, W: Write>(
     writer: &mut Watched<W>,
     held: &mut Held,
     before: &'x str,
     name: &'x str,
+    between: &'x str,
     edge: DirectedEdgeHandle<'_, Point2<i64>, DE, UE, F>,
 ) -> Written
     requires works { has_failed writer.old ≡ false }
     ensures { let m = edge.entry.dcel.now.mesh in
         Puts W.contents writer.old writer.new held.old.items held.new.items result
-        (before.now ++ edge_text name.now (origin m edge.entry.index)
+        (before.now ++ edge_text name.now between.now (origin m edge.entry.index)
         (origin m (rev edge.entry.index))) }
 {
-    put_pieces(
-        writer,
-        held,
-        &[
-            Text(before),
-            Text(name),
-            Index(u64::from(edge.from().index())),
-            Text(">"),
-            Index(u64::from(edge.to().index())),
-        ],
-    )
+    let (i, j) = (u64::from(edge.from().index()), u64::from(edge.to().index()));
+    let text = [Text(before), Text(name), Index(i), Text(between), Index(j)];
+    put_pieces(writer, held, &text)
 }

@@ -5,11 +5,18 @@ ghost use Rattle.triangulate_watched.specs.Watched.{has_failed};
 ghost use Rattle.triangulate_run.specs.Output.{Writes, Puts};
 ghost use Rattle.triangulate_run.specs.Piece.{text_of};
 
-use crate::piece::Piece;
 use arrayvec::ArrayVec;
 use itoa::Buffer;
 use std::io::Write;
 use triangulate_watched::{Failed, Watched};
+
+/// A piece of a reply.
+#[derive(Clone, Copy)]
+pub(crate) enum Piece<'a> {
+    Text(&'a str),
+    Index(u64),
+    Signed(i64),
+}
 
 /// Text that waits to be written, so that a reply takes one call of the writer. It is written
 /// earlier where its room is used up.

@@ -4,12 +4,12 @@ ghost use Rattle.std.specs.List.{flat_map};
 ghost use Rattle.triangulate_watched.specs.Watched.{has_failed};
 ghost use Rattle.triangulate_run.specs.Output.{Writes, Puts};
 ghost use Rattle.triangulate_run.specs.Reply.{corners_text, reply_text};
-ghost use Rattle.triangulate_run.specs.declared.reply.Reply.TheVariants.{Refused, Counts};
 
 use crate::corners::Corners;
+use crate::output::Piece::{Index, Signed, Text};
 use crate::output::{Held, Written, put_bytes, put_pieces, write_all};
-use crate::piece::Piece::{Index, Signed, Text};
 use delaunay_edit::delaunay_core::math::InsertionError;
+use delaunay_edit::delaunay_core::math::InsertionError::{OutOfIndexes, OutOfMemory, TooLarge};
 use std::io::Write;
 use triangulate_watched::Watched;
 
@@ -70,33 +70,25 @@ fn put_reply<W: Write>(writer: &mut Watched<W>, held: &mut Held, reply: &Reply) 
     ensures { Puts W.contents writer.old writer.new held.old.items held.new.items
         result (reply_text reply.now) }
 {
+    let (space, end) = (Text(" "), Text("\n"));
     match reply {
         Reply::BadLine => put_bytes(writer, held, b"bad line\n"),
         Reply::UnknownPoint => put_bytes(writer, held, b"unknown point\n"),
-        Reply::Refused(error) => put_refusal(writer, held, *error),
-        Reply::Vertex(index) => {
-            put_pieces(writer, held, &[Text("vertex "), Index(*index), Text("\n")])
-        }
+        Reply::Refused(TooLarge) => put_bytes(writer, held, b"refused TooLarge\n"),
+        Reply::Refused(OutOfMemory) => put_bytes(writer, held, b"refused OutOfMemory\n"),
+        Reply::Refused(OutOfIndexes) => put_bytes(writer, held, b"refused OutOfIndexes\n"),
+        Reply::Vertex(i) => put_pieces(writer, held, &[Text("vertex "), Index(*i), end]),
         Reply::Edge(i, j) => {
-            let line = [Text("edge "), Index(*i), Text("-"), Index(*j), Text("\n")];
+            let line = [Text("edge "), Index(*i), Text("-"), Index(*j), end];
             put_pieces(writer, held, &line)
         }
         Reply::Face(corners) => put_face(writer, held, "face ", *corners),
         Reply::Outside => put_bytes(writer, held, b"outside\n"),
         Reply::NoTriangulation => put_bytes(writer, held, b"no triangulation\n"),
-        Reply::Distance(distance_2) => {
-            let line = [Text("distance "), Signed(*distance_2), Text("\n")];
-            put_pieces(writer, held, &line)
-        }
+        Reply::Distance(d) => put_pieces(writer, held, &[Text("distance "), Signed(*d), end]),
         Reply::NoNeighbor => put_bytes(writer, held, b"none\n"),
         Reply::Removed(x, y) => {
-            let line = [
-                Text("removed "),
-                Signed(*x),
-                Text(" "),
-                Signed(*y),
-                Text("\n"),
-            ];
+            let line = [Text("removed "), Signed(*x), space, Signed(*y), end];
             put_pieces(writer, held, &line)
         }
         Reply::NoVertex => put_bytes(writer, held, b"no vertex\n"),
@@ -104,50 +96,12 @@ fn put_reply<W: Write>(writer: &mut Watched<W>, held: &mut Held, reply: &Reply) 
         Reply::NotConstrained => put_bytes(writer, held, b"not constrained\n"),
         Reply::NoEdge => put_bytes(writer, held, b"no edge\n"),
         Reply::NoPath => put_bytes(writer, held, b"none\n"),
-        Reply::Counts(v, e, f, c) => put_counts(writer, held, *v, *e, *f, *c),
+        Reply::Counts(v, e, f, c) => {
+            let (v, e, f, c) = (Index(*v), Index(*e), Index(*f), Index(*c));
+            put_pieces(writer, held, &[v, space, e, space, f, space, c, end])
+        }
         Reply::Faces(faces) => put_faces(writer, held, faces.as_slice()),
     }
-}
-
-fn put_refusal<W: Write>(writer: &mut Watched<W>, held: &mut Held, error: InsertionError) -> Written
-    requires works { has_failed writer.old ≡ false }
-    ensures { Puts W.contents writer.old writer.new held.old.items held.new.items
-        result (reply_text (Refused error)) }
-{
-    let name = match error {
-        InsertionError::TooLarge => "TooLarge",
-        InsertionError::OutOfMemory => "OutOfMemory",
-        InsertionError::OutOfIndexes => "OutOfIndexes",
-    };
-    put_pieces(writer, held, &[Text("refused "), Text(name), Text("\n")])
-}
-
-fn put_counts<W: Write>(
-    writer: &mut Watched<W>,
-    held: &mut Held,
-    vertices: u64,
-    edges: u64,
-    faces: u64,
-    constraints: u64,
-) -> Written
-    requires works { has_failed writer.old ≡ false }
-    ensures { Puts W.contents writer.old writer.new held.old.items held.new.items
-        result (reply_text (Counts vertices edges faces constraints)) }
-{
-    put_pieces(
-        writer,
-        held,
-        &[
-            Index(vertices),
-            Text(" "),
-            Index(edges),
-            Text(" "),
-            Index(faces),
-            Text(" "),
-            Index(constraints),
-            Text("\n"),
-        ],
-    )
 }
 
 /// Puts a text, and behind it the corners of a face and the end of the line.
@@ -161,18 +115,16 @@ fn put_face<W: Write>(
     ensures { Puts W.contents writer.old writer.new held.old.items held.new.items
         result (before.now ++ corners_text corners) }
 {
+    let (a, b, c) = (
+        Index(corners.first),
+        Index(corners.second),
+        Index(corners.third),
+    );
+    let space = Text(" ");
     put_pieces(
         writer,
         held,
-        &[
-            Text(before),
-            Index(corners.first),
-            Text(" "),
-            Index(corners.second),
-            Text(" "),
-            Index(corners.third),
-            Text("\n"),
-        ],
+        &[Text(before), a, space, b, space, c, Text("\n")],
     )
 }
 
