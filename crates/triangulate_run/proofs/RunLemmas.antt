@@ -1,6 +1,6 @@
 -- The states of a run, one after another.
 -- Notions: IsRunning; consumes_break, kept_more, start, byte_more, line_more, line_fault,
--- end_fault, end_more.
+-- end_fault, end_more, read_fault.
 use Rattle.std.proofs.Common.{◌≡◌, ◌≢◌, ◌<◌, ◌≤◌, ◌+◌, [], ◌∷◌, ◌++◌, ◌∙◌, inl, inr}
 use Rattle.std.specs.Prelude.{Result, Ok, Err, IsOk, OnOk, OnErr, ◌↔◌}
 use Rattle.arrayvec.specs.ArrayVec.{ArrayVec}
@@ -19,7 +19,7 @@ use Rattle.triangulate_run.specs.Stage.{Stage, first_stage, Fits}
 use Rattle.triangulate_run.specs.Line.{kept}
 use Rattle.triangulate_run.specs.Output.{AppendsPart}
 use Rattle.triangulate_run.specs.Run.{Cut, IsOneLine, Answers, AnswersAll, IsAllowed, end_text}
-use Rattle.triangulate_run.specs.Run.{RanToEnd, RanInPart}
+use Rattle.triangulate_run.specs.Run.{RanToEnd, RanToFault, RanInPart}
 use Rattle.triangulate_run.proofs.OutputLemmas.{appends_more, appends_nil, part_behind}
 
 -- between two bytes: these lines were read and answered, and this much of the next
@@ -301,4 +301,26 @@ end_more s r2 w2 took end works wrote still = record {
   allowed = allowed_to_end s;
   reader_works = works;
   writer_works = still;
+}
+
+-- a run ends where the reader fails
+pub read_fault : {R W : Type 0} {remaining : R → Option (List ℕ)} {contents : W → Option (List ℕ)}
+    {r0 r1 : Watched R} {w0 w1 : Watched W} {line : List ℕ} {points : List SheetPoint}
+    {stage : Stage} (s : IsRunning points remaining contents r0 r1 w0 w1 line stage)
+    → (r2 : Watched R) → Consumes (remaining (inner_of r1)) (remaining (inner_of r2)) []
+    → has_failed r2 ≡ true → RanToFault points remaining contents r0 r2 w0 w1
+read_fault {stage = stage} s r2 took failed = record {
+  input = s.input ++ [];
+  text = s.text;
+  read = consumes_more _ _ _ s.input [] s.read took;
+  written = s.written;
+  allowed = record {
+    lines = s.lines;
+    rest = s.rest;
+    stage = stage;
+    cut = subst (λ (i : List ℕ). Cut i s.lines s.rest) (sym (append-nil s.input)) s.cut;
+    answered = s.answered;
+  };
+  reader_failed = failed;
+  writer_works = s.writer_works;
 }

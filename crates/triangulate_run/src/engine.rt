@@ -1,13 +1,13 @@
 //! The answers of a triangulation to commands.
-ghost use Rattle.std.specs.Prelude.{◌≡◌, ℕ, true, false, All, List, MatchOption};
+ghost use Rattle.std.specs.Prelude.{◌≡◌, true, false, All, MatchOption};
 ghost use Rattle.triangulate_watched.specs.Watched.{has_failed};
 ghost use Rattle.triangulate_run.specs.Stage.{position, first_stage, Fits};
 ghost use Rattle.triangulate_run.specs.Points.{place};
-ghost use Rattle.triangulate_run.specs.Output.{Writes};
+ghost use Rattle.triangulate_run.specs.Output.{WritesSome};
 ghost use Rattle.triangulate_run.specs.Engine.{stage_of, IsEngineReady};
-ghost use Rattle.triangulate_run.specs.Answer.{AreVertices, IsReplied, MayCount, MayInsert};
-ghost use Rattle.triangulate_run.specs.Answer.{MayJoin, MayList, MayLocate, MayMeasure, MayRelease};
-ghost use Rattle.triangulate_run.specs.Answer.{MayRemove, MayReply, MayWalk, point_at};
+ghost use Rattle.triangulate_run.specs.Answer.{AreVertices, IsReplied, MayAnswer, MayCount};
+ghost use Rattle.triangulate_run.specs.Answer.{MayInsert, MayJoin, MayList, MayLocate, MayMeasure};
+ghost use Rattle.triangulate_run.specs.Answer.{MayRelease, MayRemove, MayReply, MayWalk};
 
 use crate::constraints::{constrain_and_write, release, release_free};
 use crate::line::write_line;
@@ -15,7 +15,6 @@ use crate::nearest::{distance_reply, nearest_of_all, nearest_of_plain};
 use crate::output::Written;
 use crate::points::{SheetPoint, index_of};
 use crate::reply::{Reply, write_reply};
-use crate::session::Engine;
 use crate::shared::{count_reply, faces, insert, locate, remove, vertices_at};
 use spade_delaunay::handles::FixedVertexHandle;
 use spade_delaunay::{
@@ -25,7 +24,7 @@ use spade_delaunay::{
 use std::alloc::Global;
 use std::io::Write;
 use std::mem::replace;
-use triangulate_grammar::command::{Command, Coordinates};
+use triangulate_grammar::command::Command;
 use triangulate_watched::Watched;
 
 /// Vertices that are points and carry no further data.
@@ -60,27 +59,6 @@ pub(crate) struct PointEngine<'a, P, L: HintGenerator<i64>> {
     pub(crate) alloc: Global,
 }
 
-impl<P: PlaneTests<i64>, L: HintGenerator<i64>> Engine for PointEngine<'_, P, L> {
-    ghost listed = { λ e. e.points.now };
-
-    ghost stage = { λ e. stage_of e.triangulation };
-
-    ghost is_ready = { λ e. IsEngineReady P.covered P.sites e };
-
-    fn answer<W: Write>(&mut self, command: Command, writer: &mut Watched<W>) -> Written {
-        let answered = match command {
-            Command::Constrain(from, to) => self.constrain(from, to, writer),
-            Command::Line(from, to) => self.line(placed_point(from), placed_point(to), writer),
-            _ => {
-                let reply = self.reply_to(command);
-                write_reply(writer, &reply)
-            }
-        };
-        self.recall_invariant();
-        answered
-    }
-}
-
 impl<'a, P: PlaneTests<i64>, L: HintGenerator<i64>> PointEngine<'a, P, L> {
     /// An engine without vertices.
     pub(crate) fn new(alloc: Global, tests: &'a P, points: &'a [SheetPoint]) -> Self
@@ -101,6 +79,31 @@ impl<'a, P: PlaneTests<i64>, L: HintGenerator<i64>> PointEngine<'a, P, L> {
         }
     }
 
+    /// Does what a command asks for, and writes what there is to tell.
+    pub(crate) fn answer<W: Write>(&mut self, command: Command, writer: &mut Watched<W>) -> Written
+        requires ready { IsEngineReady P.covered P.sites self.old }
+        requires works { has_failed writer.old ≡ false }
+        ensures ready { IsEngineReady P.covered P.sites self.new }
+        ensures points { self.new.points ≡ self.old.points }
+        ensures fits { Fits (stage_of self.new.triangulation) }
+        ensures answered { WritesSome W.contents writer.old writer.new result
+            (λ text. MayAnswer self.old.points.now (stage_of self.old.triangulation) command text
+            (stage_of self.new.triangulation)) }
+    {
+        let answered = match command {
+            Command::Constrain(from, to) => self.constrain(from, to, writer),
+            Command::Line(p, q) => {
+                self.line(Point2 { x: p.x, y: p.y }, Point2 { x: q.x, y: q.y }, writer)
+            }
+            _ => {
+                let reply = self.reply_to(command);
+                write_reply(writer, &reply)
+            }
+        };
+        self.recall_invariant();
+        answered
+    }
+
     /// What holds of each triangulation between commands.
     fn recall_invariant(&self)
         ensures { Fits (stage_of self.now.triangulation) }
@@ -118,11 +121,11 @@ impl<'a, P: PlaneTests<i64>, L: HintGenerator<i64>> PointEngine<'a, P, L> {
             result (stage_of self.new.triangulation) }
     {
         match command {
-            Command::Insert(place) => self.insert(placed_point(place)),
+            Command::Insert(p) => self.insert(Point2 { x: p.x, y: p.y }),
             Command::Remove(index) => self.remove(index),
             Command::Release(from, to) => self.release(from, to),
-            Command::Locate(place) => self.locate(placed_point(place)),
-            Command::Nearest(place) => self.nearest(placed_point(place)),
+            Command::Locate(p) => self.locate(Point2 { x: p.x, y: p.y }),
+            Command::Nearest(p) => self.nearest(Point2 { x: p.x, y: p.y }),
             Command::Counts => self.counts(),
             Command::Faces => self.faces(),
             Command::Constrain(_, _) | Command::Line(_, _) => Reply::BadLine,
@@ -210,10 +213,9 @@ impl<'a, P: PlaneTests<i64>, L: HintGenerator<i64>> PointEngine<'a, P, L> {
         requires works { has_failed writer.old ≡ false }
         ensures ready { IsEngineReady P.covered P.sites self.new }
         ensures points { self.new.points ≡ self.old.points }
-        ensures answered { (text : List ℕ)
-            × MayJoin (stage_of self.old.triangulation) from to text
-            (stage_of self.new.triangulation)
-            × Writes W.contents writer.old writer.new result text }
+        ensures answered { WritesSome W.contents writer.old writer.new result
+            (λ text. MayJoin (stage_of self.old.triangulation) from to text
+            (stage_of self.new.triangulation)) }
     {
         let Some((from, to)) = self.vertices_at(from, to) else {
             return write_reply(writer, &Reply::NoVertex);
@@ -232,10 +234,9 @@ impl<'a, P: PlaneTests<i64>, L: HintGenerator<i64>> PointEngine<'a, P, L> {
     fn line<W: Write>(&self, from: Point2<i64>, to: Point2<i64>, writer: &mut Watched<W>) -> Written
         requires ready { IsEngineReady P.covered P.sites self.now }
         requires works { has_failed writer.old ≡ false }
-        ensures answered { (text : List ℕ)
-            × MayWalk self.now.points.now (stage_of self.now.triangulation).triangulation
-            (position from) (position to) text
-            × Writes W.contents writer.old writer.new result text }
+        ensures answered { WritesSome W.contents writer.old writer.new result
+            (MayWalk self.now.points.now (stage_of self.now.triangulation).triangulation
+            (position from) (position to)) }
     {
         on_either!(&self.triangulation, it => {
             write_line(it, self.tests, self.points, from, to, writer)
@@ -274,11 +275,4 @@ fn with_constraints<L: HintGenerator<i64>>(triangulation: Either<L>) -> Either<L
         },
         constrained => constrained,
     }
-}
-
-/// The point with these coordinates.
-fn placed_point(place: Coordinates) -> Point2<i64>
-    ensures { result ≡ point_at place }
-{
-    Point2::new(place.x, place.y)
 }

@@ -6,7 +6,6 @@ mod constraints;
 pub mod corners;
 mod engine;
 pub mod fault;
-mod input;
 pub mod law;
 mod line;
 mod nearest;

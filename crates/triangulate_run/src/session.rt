@@ -1,23 +1,21 @@
 //! Lines in, replies out.
-ghost use Rattle.std.specs.Prelude.{◌≡◌, ℕ, List, true, false, All};
+ghost use Rattle.std.specs.Prelude.{◌≡◌, true, false, All};
 ghost use Rattle.triangulate_watched.specs.Watched.{has_failed};
+ghost use Rattle.triangulate_run.specs.Input.{TakesByte};
 ghost use Rattle.triangulate_run.specs.Points.{place};
-ghost use Rattle.triangulate_run.specs.Output.{Writes};
-ghost use Rattle.triangulate_run.specs.Stage.{Stage, first_stage, Fits};
-ghost use Rattle.triangulate_run.specs.Answer.{MayAnswer};
+ghost use Rattle.triangulate_run.specs.Output.{Writes, WritesSome};
+ghost use Rattle.triangulate_run.specs.Stage.{Fits};
+ghost use Rattle.triangulate_run.specs.Engine.{stage_of, IsEngineReady};
 ghost use Rattle.triangulate_run.specs.Run.{Answers, Ran, end_text};
-ghost use Rattle.triangulate_run.specs.declared.points.SheetPoint.{SheetPoint};
 
 use crate::engine::PointEngine;
 use crate::fault::RunError;
-use crate::input::next_byte;
 use crate::output::{Written, write_all};
 use crate::points::SheetPoint;
 use arrayvec::ArrayVec;
 use spade_delaunay::{HintGenerator, PlaneTests};
 use std::alloc::Global;
 use std::io::{Read, Write};
-use triangulate_grammar::command::Command;
 use triangulate_grammar::{MAX_LINE, parse};
 use triangulate_watched::{Failed, Watched};
 
@@ -25,25 +23,18 @@ use triangulate_watched::{Failed, Watched};
 /// is kept to be none.
 const LINE_ROOM: usize = MAX_LINE + 1;
 
-/// What answers commands.
-pub(crate) trait Engine {
-    ghost listed: { Self → List SheetPoint };
-
-    ghost stage: { Self → Stage };
-
-    // what it needs to be able to answer
-    ghost is_ready: { Self → Type 0 };
-
-    /// Does what the command asks for, and writes what there is to tell.
-    fn answer<W: Write>(&mut self, command: Command, writer: &mut Watched<W>) -> Written
-        requires ready { is_ready self.old }
-        requires works { has_failed writer.old ≡ false }
-        ensures ready { is_ready self.new }
-        ensures listed { listed self.new ≡ listed self.old }
-        ensures fits { Fits (stage self.new) }
-        ensures answered { (text : List ℕ)
-            × MayAnswer (listed self.old) (stage self.old) command text (stage self.new)
-            × Writes W.contents writer.old writer.new result text };
+/// The next byte, or `None` at the end. No byte behind it is asked for.
+fn next_byte<R: Read>(reader: &mut Watched<R>) -> Result<Option<u8>, Failed>
+    requires works { has_failed reader.old ≡ false }
+    ensures { TakesByte R.remaining reader.old reader.new result }
+{
+    let mut one = [0u8; 1];
+    let count = reader.read(&mut one)?;
+    if count == 0 {
+        Ok(None)
+    } else {
+        Ok(Some(one[0]))
+    }
 }
 
 /// Writes the bytes, and has the writer pass them on.
@@ -56,16 +47,20 @@ fn send<W: Write>(writer: &mut Watched<W>, bytes: &[u8]) -> Written
 }
 
 /// Answers a line, and has the writer pass the answer on.
-fn answer<E: Engine, W: Write>(engine: &mut E, line: &[u8], writer: &mut Watched<W>) -> Written
-    requires ready { E.is_ready engine.old }
-    requires fits { Fits (E.stage engine.old) }
+fn answer<P: PlaneTests<i64>, L: HintGenerator<i64>, W: Write>(
+    engine: &mut PointEngine<'_, P, L>,
+    line: &[u8],
+    writer: &mut Watched<W>,
+) -> Written
+    requires ready { IsEngineReady P.covered P.sites engine.old }
+    requires fits { Fits (stage_of engine.old.triangulation) }
     requires works { has_failed writer.old ≡ false }
-    ensures ready { E.is_ready engine.new }
-    ensures listed { E.listed engine.new ≡ E.listed engine.old }
-    ensures fits { Fits (E.stage engine.new) }
-    ensures answered { (text : List ℕ)
-        × Answers (E.listed engine.old) (E.stage engine.old) line.now text (E.stage engine.new)
-        × Writes W.contents writer.old writer.new result text }
+    ensures ready { IsEngineReady P.covered P.sites engine.new }
+    ensures points { engine.new.points ≡ engine.old.points }
+    ensures fits { Fits (stage_of engine.new.triangulation) }
+    ensures answered { WritesSome W.contents writer.old writer.new result
+        (λ text. Answers engine.old.points.now (stage_of engine.old.triangulation) line.now text
+        (stage_of engine.new.triangulation)) }
 {
     let Some(command) = parse(line) else {
         return send(writer, b"bad line\n");
@@ -83,39 +78,6 @@ fn finish<W: Write>(line: &[u8], writer: &mut Watched<W>) -> Written
         return Ok(());
     }
     send(writer, b"bad line\n")
-}
-
-/// Has the engine answer each line of the reader to the writer, before more is read.
-pub(crate) fn converse<E: Engine, R: Read, W: Write>(
-    engine: &mut E,
-    reader: &mut Watched<R>,
-    writer: &mut Watched<W>,
-) -> Result<(), RunError>
-    requires ready { E.is_ready engine.old }
-    requires first { E.stage engine.old ≡ first_stage }
-    requires fits { Fits (E.stage engine.old) }
-    requires reader_works { has_failed reader.old ≡ false }
-    requires writer_works { has_failed writer.old ≡ false }
-    ensures { Ran (E.listed engine.old) R.remaining W.contents reader.old reader.new writer.old
-        writer.new result }
-{
-    let mut line: ArrayVec<u8, LINE_ROOM> = ArrayVec::new();
-    loop {
-        match next_byte(reader) {
-            Ok(Some(b'\n')) => match answer(engine, line.as_slice(), writer) {
-                Ok(()) => line.clear(),
-                Err(Failed) => return Err(RunError::Write),
-            },
-            Ok(Some(byte)) => {
-                let _ = line.try_push(byte);
-            }
-            Ok(None) => match finish(line.as_slice(), writer) {
-                Ok(()) => return Ok(()),
-                Err(Failed) => return Err(RunError::Write),
-            },
-            Err(Failed) => return Err(RunError::Read),
-        }
-    }
 }
 
 /// Answers each line of the reader to the writer, and passes the answer on before more is read.
@@ -142,5 +104,21 @@ pub fn run<L: HintGenerator<i64>, P: PlaneTests<i64>, R: Read, W: Write>(
         result }
 {
     let mut engine: PointEngine<'_, P, L> = PointEngine::new(alloc, tests, points);
-    converse(&mut engine, reader, writer)
+    let mut line: ArrayVec<u8, LINE_ROOM> = ArrayVec::new();
+    loop {
+        match next_byte(reader) {
+            Ok(Some(b'\n')) => match answer(&mut engine, line.as_slice(), writer) {
+                Ok(()) => line.clear(),
+                Err(Failed) => return Err(RunError::Write),
+            },
+            Ok(Some(byte)) => {
+                let _ = line.try_push(byte);
+            }
+            Ok(None) => match finish(line.as_slice(), writer) {
+                Ok(()) => return Ok(()),
+                Err(Failed) => return Err(RunError::Write),
+            },
+            Err(Failed) => return Err(RunError::Read),
+        }
+    }
 }
