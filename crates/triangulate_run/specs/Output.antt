@@ -23,7 +23,8 @@ Writes contents old new result text = MatchResult result
 -- so it was with a text for which X holds
 abbrev pub WritesSome : {W T E : Type 0} → (W → Option (List ℕ)) → Watched W → Watched W
     → Result T E → (List ℕ → Type 0) → Type 0
-WritesSome contents old new result X = (text : List ℕ) × X text × Writes contents old new result text
+WritesSome contents old new result X = (text : List ℕ) × X text
+    × Writes contents old new result text
 
 -- the text was put behind what was held, and what is not held any more was written
 pub record Sends (old new : Option (List ℕ)) (held kept text : List ℕ) : Type 0 where
