@@ -1,7 +1,7 @@
 -- Texts that are written one after another.
 -- Lemmas: appends_more, appends_keep, appends_nil, part_behind, part_longer, passes_nil,
 -- passes_more, passes_part, passes_at, part_at, part_before, puts_behind, puts_direct, writes_held,
--- writes_flushed, first_fails, second_fails.
+-- writes_flushed, first_fails, second_fails, sends_same, part_same.
 use Rattle.std.proofs.Common.{◌≡◌, [], ◌++◌, ◌∙◌, ◌∷◌, ◌<◌, ◌+◌}
 use Rattle.std.proofs.Common.{ℕ, List, Option, Some, None, sym, ap, append_assoc, append-nil, subst}
 use Rattle.std.proofs.Common.{suc, add-one, length, take, drop, get_or}
@@ -181,3 +181,12 @@ module _ {T E : Type 0} (good bad : Type 0) (a b c : Option (List ℕ)) where
     },
     fails,
   )
+
+-- what is put, where the text is said otherwise
+pub sends_same : {a b : Option (List ℕ)} {held kept s t : List ℕ} → s ≡ t → Sends a b held kept s
+    → Sends a b held kept t
+sends_same {a} {b} {held} {kept} is = subst (λ (u : List ℕ). Sends a b held kept u) is
+
+pub part_same : {a b : Option (List ℕ)} {s t : List ℕ} (held : List ℕ) → s ≡ t
+    → AppendsPart a b (held ++ s) → AppendsPart a b (held ++ t)
+part_same {a} {b} held is = subst (λ (u : List ℕ). AppendsPart a b (held ++ u)) is

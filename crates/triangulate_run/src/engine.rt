@@ -7,7 +7,7 @@ ghost use Rattle.triangulate_run.specs.Output.{WritesSome};
 ghost use Rattle.triangulate_run.specs.Engine.{stage_of, IsEngineReady};
 ghost use Rattle.triangulate_run.specs.Answer.{AreVertices, IsReplied, MayAnswer, MayCount};
 ghost use Rattle.triangulate_run.specs.Answer.{MayInsert, MayJoin, MayList, MayLocate, MayMeasure};
-ghost use Rattle.triangulate_run.specs.Answer.{MayRelease, MayRemove, MayReply, MayWalk};
+ghost use Rattle.triangulate_run.specs.Answer.{MayRelease, MayRemove, MayReply, MayWalk, point_at};
 
 use crate::constraints::{constrain_and_write, release, release_free};
 use crate::line::write_line;
@@ -24,7 +24,7 @@ use spade_delaunay::{
 use std::alloc::Global;
 use std::io::Write;
 use std::mem::replace;
-use triangulate_grammar::command::Command;
+use triangulate_grammar::command::{Command, Coordinates};
 use triangulate_watched::Watched;
 
 /// Vertices that are points and carry no further data.
@@ -92,9 +92,7 @@ impl<'a, P: PlaneTests<i64>, L: HintGenerator<i64>> PointEngine<'a, P, L> {
     {
         let answered = match command {
             Command::Constrain(from, to) => self.constrain(from, to, writer),
-            Command::Line(p, q) => {
-                self.line(Point2 { x: p.x, y: p.y }, Point2 { x: q.x, y: q.y }, writer)
-            }
+            Command::Line(from, to) => self.line(placed_point(from), placed_point(to), writer),
             _ => {
                 let reply = self.reply_to(command);
                 write_reply(writer, &reply)
@@ -121,11 +119,11 @@ impl<'a, P: PlaneTests<i64>, L: HintGenerator<i64>> PointEngine<'a, P, L> {
             result (stage_of self.new.triangulation) }
     {
         match command {
-            Command::Insert(p) => self.insert(Point2 { x: p.x, y: p.y }),
+            Command::Insert(place) => self.insert(placed_point(place)),
             Command::Remove(index) => self.remove(index),
             Command::Release(from, to) => self.release(from, to),
-            Command::Locate(p) => self.locate(Point2 { x: p.x, y: p.y }),
-            Command::Nearest(p) => self.nearest(Point2 { x: p.x, y: p.y }),
+            Command::Locate(place) => self.locate(placed_point(place)),
+            Command::Nearest(place) => self.nearest(placed_point(place)),
             Command::Counts => self.counts(),
             Command::Faces => self.faces(),
             Command::Constrain(_, _) | Command::Line(_, _) => Reply::BadLine,
@@ -275,4 +273,11 @@ fn with_constraints<L: HintGenerator<i64>>(triangulation: Either<L>) -> Either<L
         },
         constrained => constrained,
     }
+}
+
+/// The point with these coordinates.
+fn placed_point(place: Coordinates) -> Point2<i64>
+    ensures { result ≡ point_at place }
+{
+    Point2::new(place.x, place.y)
 }

@@ -4,12 +4,12 @@ ghost use Rattle.std.specs.List.{flat_map};
 ghost use Rattle.triangulate_watched.specs.Watched.{has_failed};
 ghost use Rattle.triangulate_run.specs.Output.{Writes, Puts};
 ghost use Rattle.triangulate_run.specs.Reply.{corners_text, reply_text};
+ghost use Rattle.triangulate_run.specs.declared.reply.Reply.TheVariants.{Refused};
 
 use crate::corners::Corners;
 use crate::output::Piece::{Index, Signed, Text};
 use crate::output::{Held, Written, put_bytes, put_pieces, write_all};
 use delaunay_edit::delaunay_core::math::InsertionError;
-use delaunay_edit::delaunay_core::math::InsertionError::{OutOfIndexes, OutOfMemory, TooLarge};
 use std::io::Write;
 use triangulate_watched::Watched;
 
@@ -74,9 +74,7 @@ fn put_reply<W: Write>(writer: &mut Watched<W>, held: &mut Held, reply: &Reply) 
     match reply {
         Reply::BadLine => put_bytes(writer, held, b"bad line\n"),
         Reply::UnknownPoint => put_bytes(writer, held, b"unknown point\n"),
-        Reply::Refused(TooLarge) => put_bytes(writer, held, b"refused TooLarge\n"),
-        Reply::Refused(OutOfMemory) => put_bytes(writer, held, b"refused OutOfMemory\n"),
-        Reply::Refused(OutOfIndexes) => put_bytes(writer, held, b"refused OutOfIndexes\n"),
+        Reply::Refused(error) => put_refusal(writer, held, *error),
         Reply::Vertex(i) => put_pieces(writer, held, &[Text("vertex "), Index(*i), end]),
         Reply::Edge(i, j) => {
             let line = [Text("edge "), Index(*i), Text("-"), Index(*j), end];
@@ -102,6 +100,19 @@ fn put_reply<W: Write>(writer: &mut Watched<W>, held: &mut Held, reply: &Reply) 
         }
         Reply::Faces(faces) => put_faces(writer, held, faces.as_slice()),
     }
+}
+
+fn put_refusal<W: Write>(writer: &mut Watched<W>, held: &mut Held, error: InsertionError) -> Written
+    requires works { has_failed writer.old ≡ false }
+    ensures { Puts W.contents writer.old writer.new held.old.items held.new.items
+        result (reply_text (Refused error)) }
+{
+    let name = match error {
+        InsertionError::TooLarge => "TooLarge",
+        InsertionError::OutOfMemory => "OutOfMemory",
+        InsertionError::OutOfIndexes => "OutOfIndexes",
+    };
+    put_pieces(writer, held, &[Text("refused "), Text(name), Text("\n")])
 }
 
 /// Puts a text, and behind it the corners of a face and the end of the line.

@@ -1,12 +1,12 @@
-use Rattle.std.proofs.Common.{◌∙◌, ◌++◌, ℕ, List, ap, codes, refl, subst}
+use Rattle.std.proofs.Common.{◌∙◌, ◌++◌, ap, codes, refl}
 use Rattle.std.specs.List.{flat_map}
 use Rattle.std.proofs.lemmas.List.{take_all}
 use Rattle.std.proofs.lemmas.Result.{err_from_is_err_and}
 use Rattle.triangulate_run.specs.Engine.{ends_in}
-use Rattle.triangulate_run.specs.Output.{AppendsPart, Sends}
 use Rattle.triangulate_run.specs.Reply.{piece_text}
 use Rattle.triangulate_run.proofs.OutputLemmas.{first_fails, second_fails, passes_nil, passes_at}
-use Rattle.triangulate_run.proofs.OutputLemmas.{passes_more, passes_part, part_at, writes_held}
+use Rattle.triangulate_run.proofs.OutputLemmas.{passes_more, passes_part, part_at, part_same}
+use Rattle.triangulate_run.proofs.OutputLemmas.{sends_same, writes_held}
 use Rattle.triangulate_run.proofs.Paths.{edge_piece, pieces_text, same_piece}
 use Rattle.triangulate_run.proofs.constraints.write_path.Goals as goal
 
@@ -40,7 +40,7 @@ loop-edge-preserved g c =
       kept = i.kept;
       word = i.word;
       so_far = passes_at (edge_piece m) _ _ _ c.loop-edge-test.true i.so_far
-          (subst (λ (t : List ℕ). Sends _ _ _ _ t) is put.0);
+          (sends_same is put.0);
       works = put.1;
     }
 
@@ -53,7 +53,7 @@ returns-in_err-put_ends g c =
     let put = c.in_err-put_ends.ensures in
     let i = c.loop-edge.invariant in
     let part = part_at (edge_piece m) _ _ _ c.loop-edge-test.true i.so_far
-    (subst (λ (t : List ℕ). AppendsPart _ _ (_ ++ t)) is put.0) in
+    (part_same _ is put.0) in
     let failed = err_from_is_err_and c.from_residual-in_err-put_ends.result
     c.from_residual-in_err-put_ends.ensures.1 in
     rw failed.1
