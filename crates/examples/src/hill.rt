@@ -7,16 +7,15 @@ use spade_delaunay::{
     LineIntersectionIterator, Point2, Triangulation,
 };
 
-fn survey(hill: &mut impl Triangulation<Vertex = Point2<i64>>) -> Result<(), InsertionError> {
+fn survey<T: Triangulation<Vertex = Point2<i64>>>(rt: &HostRuntime) -> Result<T, InsertionError> {
+    let mut hill = T::new(rt.alloc());
     for (x, y) in [(0, 0), (120, 35), (-80, 140), (-150, -60)] {
         hill.insert(Point2::new(x, y), &ExactTests)?;
     }
-    Ok(())
+    Ok(hill)
 }
 
-fn tell_nearest(rt: &HostRuntime) -> anyhow::Result<()> {
-    let mut hill: DelaunayTriangulation<Point2<i64>> = DelaunayTriangulation::new(rt.alloc());
-    survey(&mut hill)?;
+fn tell_nearest(rt: &HostRuntime, hill: &DelaunayTriangulation<Point2<i64>>) -> anyhow::Result<()> {
     println!(rt; "{} edges", hill.num_undirected_edges())?;
     if let Some(nearest) = hill.nearest_neighbor(Point2::new(70, 110), &ExactTests) {
         println!(rt; "nearest to the camp: vertex {}", nearest.fix().index())?;
@@ -24,13 +23,12 @@ fn tell_nearest(rt: &HostRuntime) -> anyhow::Result<()> {
     Ok(())
 }
 
-fn tell_path(rt: &HostRuntime) -> anyhow::Result<()> {
-    let mut hill: ConstrainedDelaunayTriangulation<Point2<i64>> =
-        ConstrainedDelaunayTriangulation::new(rt.alloc());
-    survey(&mut hill)?;
-    hill.add_constraint_edge(Point2::new(0, 0), Point2::new(-80, 140), &ExactTests)?;
+fn tell_path(
+    rt: &HostRuntime,
+    hill: &ConstrainedDelaunayTriangulation<Point2<i64>>,
+) -> anyhow::Result<()> {
     let (from, to) = (Point2::new(-100, 20), Point2::new(70, 110));
-    for met in LineIntersectionIterator::new(&hill, from, to, &ExactTests) {
+    for met in LineIntersectionIterator::new(hill, from, to, &ExactTests) {
         if let Some(edge) = met.as_edge_intersection() {
             let fence = edge.as_undirected().data().is_constraint_edge();
             println!(rt; "the path crosses an edge, fence: {fence}")?;
@@ -40,6 +38,8 @@ fn tell_path(rt: &HostRuntime) -> anyhow::Result<()> {
 }
 
 pub fn run(rt: &HostRuntime) -> anyhow::Result<()> {
-    tell_nearest(rt)?;
-    tell_path(rt)
+    tell_nearest(rt, &survey(rt)?)?;
+    let mut hill: ConstrainedDelaunayTriangulation<Point2<i64>> = survey(rt)?;
+    hill.add_constraint_edge(Point2::new(0, 0), Point2::new(-80, 140), &ExactTests)?;
+    tell_path(rt, &hill)
 }
