@@ -125,19 +125,22 @@ impl EdgeList {
         self.records.truncate(1);
     }
 
-    // Makes room for so many more edges.
-    pub(crate) fn reserve(&mut self, more: usize) -> Result<(), AllocError>
-        requires { more ≤ MAX_ELEMENTS }
+    // Makes room for so many edges in all.
+    pub(crate) fn reserve(&mut self, total: usize) -> Result<(), AllocError>
+        requires { total ≤ MAX_ELEMENTS }
         ensures items { self.new.items ≡ self.old.items }
-        ensures ok { OnOk result (length self.new.items + more ≤ self.new.capacity) }
+        ensures ok { OnOk result (total ≤ self.new.capacity) }
         ensures kept { self.old.capacity ≤ self.new.capacity }
-        ensures had_room { more ≤ self.old.capacity - length self.old.items → IsOk result }
+        ensures had_room { total ≤ self.old.capacity → IsOk result }
     {
-        if more == 0 || !self.records.is_empty() {
-            return self.records.reserve(more);
+        if total == 0 {
+            return Ok(());
         }
-        self.records.reserve(more + 1)?;
-        self.records.push_reserved(NO_EDGE);
+        let more = (total + 1).saturating_sub(self.records.len());
+        self.records.reserve(more)?;
+        if self.records.is_empty() {
+            self.records.push_reserved(NO_EDGE);
+        }
         Ok(())
     }
 }

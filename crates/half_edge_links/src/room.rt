@@ -68,18 +68,14 @@ impl<V> Links<V> {
             result ≡ Err ReserveError.TooMany }
     {
         let more_vertices = vertices.saturating_sub(self.vertex_count());
-        if !are_few_enough(vertices, undirected_edges, faces) {
+        let more_faces = faces.saturating_sub(self.face_edges.len() + 1);
+        if vertices > MAX_ELEMENTS || undirected_edges > MAX_ELEMENTS / 2 || faces > MAX_ELEMENTS {
             return Err(ReserveError::TooMany);
         }
-        if self.vertices.reserve(more_vertices).is_err() {
-            return Err(ReserveError::OutOfMemory);
-        }
-        let more_edges = (2 * undirected_edges).saturating_sub(self.half_edges.len());
-        if self.half_edges.reserve(more_edges).is_err() {
-            return Err(ReserveError::OutOfMemory);
-        }
-        let more_faces = faces.saturating_sub(self.face_edges.len() + 1);
-        if self.face_edges.reserve(more_faces).is_err() {
+        if self.vertices.reserve(more_vertices).is_err()
+            || self.half_edges.reserve(2 * undirected_edges).is_err()
+            || self.face_edges.reserve(more_faces).is_err()
+        {
             return Err(ReserveError::OutOfMemory);
         }
         Ok(())
