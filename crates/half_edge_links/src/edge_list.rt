@@ -10,7 +10,7 @@ ghost use Rattle.half_edge_links.specs.EdgeList.{stored_at, no_stored, shown, Ho
 
 use crate::records::StoredEdge;
 use crate::room::MAX_ELEMENTS;
-use std::alloc::{AllocError, Global};
+use std::alloc::AllocError;
 use std::marker::Model;
 
 // What stands in the free place.
@@ -25,7 +25,7 @@ const NO_EDGE: StoredEdge = StoredEdge {
 #[derive(Drop)]
 pub(crate) struct EdgeList {
     // Nothing, or the free place and then the edges.
-    records: Vec<StoredEdge>,
+    pub(crate) records: Vec<StoredEdge>,
 }
 
 impl Model for EdgeList {
@@ -41,16 +41,6 @@ impl Model for EdgeList {
 }
 
 impl EdgeList {
-    // A list without edges, which takes no memory.
-    pub(crate) fn new(alloc: Global) -> Self
-        ensures items { result.items ≡ [] }
-        ensures capacity { result.capacity ≡ 0 }
-    {
-        EdgeList {
-            records: Vec::new(alloc),
-        }
-    }
-
     #[tactic(auto, using(crate::proofs::Stored::Shown::length_shown))]
     pub(crate) fn len(&self) -> usize
         ensures kept { result ≡ length self.now.items }

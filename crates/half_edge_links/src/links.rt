@@ -64,7 +64,9 @@ impl<V> Links<V> {
     {
         Links {
             vertices: Vec::new(alloc),
-            half_edges: EdgeList::new(alloc),
+            half_edges: EdgeList {
+                records: Vec::new(alloc),
+            },
             outer_edge: None,
             face_edges: Vec::new(alloc),
         }
