@@ -33,10 +33,8 @@ next_undone m h v within = record {
   redo = (v.sound.edges h within).next_prev;
 }
 
-module _ {V D U F : Type 0} (old new : EdgeWalk V D U F) (h : ℕ) (some : 0 < old.left)
-    (dcel : new.dcel ≡ old.dcel) (same : new.next ≡ old.next) (end : new.end ≡ h)
-    (left : new.left ≡ (if old.next == h then 0 else old.left - 1))
-    (w : IsMeshWithData old.dcel.now) where
+module _ {V D U F : Type 0} (old : EdgeWalk V D U F) (k h : ℕ) (some : 0 < old.left)
+    (left : k ≡ (if old.next == h then 0 else old.left - 1)) (w : IsMeshWithData old.dcel.now) where
   next_in : old.next < length old.dcel.now.mesh.half_edges
   next_in = subst (λ n. old.next < n) w.fits.directed_fit (old.next_in_range some)
 
@@ -45,15 +43,15 @@ module _ {V D U F : Type 0} (old new : EdgeWalk V D U F) (h : ℕ) (some : 0 < o
 
   -- the edges of a vertex but the last one
   pub round_before : h ≡ next old.dcel.now.mesh (rev old.end) → IsEnding turn old
-      → EndsBefore turn old new h
+      → EndsBefore turn old k h
   unfolding turn_back
   round_before before was =
-      ends_before turn turn_back old new h _ some dcel same end left before next_in
+      ends_before turn turn_back old k h _ some left before next_in
       (turn_undone old.dcel.now.mesh old.end w.valid end_in) was
 
   -- the edges of the outer loop but the last one
   pub loop_before : h ≡ prev old.dcel.now.mesh old.end → IsEnding next old
-      → EndsBefore next old new h
+      → EndsBefore next old k h
   loop_before before was =
-      ends_before next prev old new h _ some dcel same end left before next_in
+      ends_before next prev old k h _ some left before next_in
       (next_undone old.dcel.now.mesh old.end w.valid end_in) was

@@ -1,6 +1,6 @@
 -- Walks that come back to their start.
--- Notions: Undoes, EndsBefore; map_walk_step, walk_left_is, none_left, ended, walk_goes_on,
--- less_is_left, ending_goes_on, ends_before, comes_round, walk-list.
+-- Notions: GoesOn, Undoes, EndsBefore; map_walk_step, walk_left_is, none_left, ended, none_after,
+-- one_less, goes_on, ends_before, comes_round, walk-list.
 use Rattle.std.proofs.Common.{◌≡◌, ◌≢◌, ◌+◌, ◌-◌, ◌<◌, ◌≤◌, ◌==◌, if◌then◌else◌, [], ◌∷◌, ◌++◌}
 use Rattle.std.proofs.Common.{◌∙◌, ℕ, zero, suc, true, false, List, length, map, refl, sym, ap}
 use Rattle.std.proofs.Common.{inl, inr, arith}
@@ -58,6 +58,15 @@ ended f w left some = absurd (omega (arith, left, some))
 not_equal : (a b : ℕ) → a ≢ b → a == b ≡ false
 not_equal a b apart = elim (eqb_tells a b) [ inl q ↦ absurd (apart q.1) | inr q ↦ q.0 ]
 
+-- how many edges are left of a walk after one, where it ends there and where it does not
+pub none_after : {h stop k : ℕ} (left : ℕ) → h ≡ stop → k ≡ 0
+    → k ≡ (if h == stop then 0 else left - 1)
+none_after left same none = rw (eq-eqb _ _ same) none
+
+pub one_less : {h stop k : ℕ} (left : ℕ) → h ≢ stop → k ≡ left - 1
+    → k ≡ (if h == stop then 0 else left - 1)
+one_less left apart less = rw (not_equal _ _ apart) less
+
 -- a walk comes to its end
 abbrev ComesTo : (ℕ → ℕ) → ℕ → ℕ → ℕ → Type 0
 ComesTo f stop k h = comes_to f stop k h ≡ true
@@ -90,26 +99,30 @@ comes_step f stop (suc k) h some comes =
       | inr off ↦ rw (not_equal _ _ off, down) (λ more. passed f stop k h off comes)
     ]
 
-module _ {V D U F : Type 0} (f : Mesh → ℕ → ℕ) (old new : EdgeWalk V D U F) (h : ℕ)
-    (some : 0 < old.left) (dcel : new.dcel ≡ old.dcel) (end : new.end ≡ old.end)
-    (next : new.next ≡ h) (left : new.left ≡ (if h == old.end then 0 else old.left - 1))
-    (after : h ≡ f old.dcel.now.mesh old.next) where
-  -- a walk that goes on gives the edge where it was, and then what is left of it
-  pub walk_goes_on : walk_left f old ≡ (old.dcel, old.next) ∷ walk_left f new
-  walk_goes_on =
-      rw (walk_left_is f new old.dcel old.end new.left h dcel end refl next)
-      (map_walk_step (λ i. (old.dcel, i))
-      (f old.dcel.now.mesh) old.end old.left old.next new.left h some after left)
+-- a walk that goes on after one edge gives it, and then what is left, which is less, and it comes
+-- to its end as before
+pub record GoesOn {V D U F : Type 0} (f : Mesh → ℕ → ℕ) (old : EdgeWalk V D U F)
+    (k h : ℕ) : Type 0 where
+  pub steps : walk_left f old
+      ≡ (old.dcel, old.next) ∷ each_in old.dcel (walk (f old.dcel.now.mesh) old.end k h)
+  pub less : length (each_in old.dcel (walk (f old.dcel.now.mesh) old.end k h))
+      < length (walk_left f old)
+  pub ending : 0 < k → ComesTo (f old.dcel.now.mesh) old.end k h
 
-  -- less is left then
-  pub less_is_left : length (walk_left f new) < length (walk_left f old)
-  less_is_left = rw walk_goes_on (omega arith)
-
-  -- and it comes to its end as before
-  pub ending_goes_on : IsEnding f old → IsEnding f new
-  ending_goes_on was =
-      rw (dcel, end, left, next, after)
-      (comes_step (f old.dcel.now.mesh) old.end old.left old.next some (was some))
+pub goes_on : {V D U F : Type 0} (f : Mesh → ℕ → ℕ) (old : EdgeWalk V D U F) (k h : ℕ)
+    → 0 < old.left → h ≡ f old.dcel.now.mesh old.next
+    → k ≡ (if h == old.end then 0 else old.left - 1) → IsEnding f old → GoesOn f old k h
+goes_on f old k h some after left was =
+    let steps : walk_left f old
+    ≡ (old.dcel, old.next) ∷ each_in old.dcel (walk (f old.dcel.now.mesh) old.end k h) =
+    map_walk_step (λ i. (old.dcel, i)) (f old.dcel.now.mesh) old.end old.left old.next k h some
+    after left in
+    record {
+      steps = steps;
+      less = rw steps (omega arith);
+      ending = rw (left, after)
+          (comes_step (f old.dcel.now.mesh) old.end old.left old.next some (was some));
+    }
 
 -- one function undoes another below a bound, and is undone by it at one place
 pub record Undoes (f back : ℕ → ℕ) (bound stop : ℕ) : Type 0 where
@@ -171,28 +184,31 @@ module _ (f back : ℕ → ℕ) (n stop : ℕ) (u : Undoes f back n stop) where
 
 -- a walk that ends one place before, at edge h, has all that it had but this one, so it has less,
 -- and it comes to its end as before
-pub record EndsBefore {V D U F : Type 0} (f : Mesh → ℕ → ℕ) (old new : EdgeWalk V D U F)
-    (h : ℕ) : Type 0 where
-  pub steps : walk_left f old ≡ walk_left f new ++ (old.dcel, h) ∷ []
-  pub less : length (walk_left f new) < length (walk_left f old)
-  pub ending : IsEnding f new
+pub record EndsBefore {V D U F : Type 0} (f : Mesh → ℕ → ℕ) (old : EdgeWalk V D U F)
+    (k h : ℕ) : Type 0 where
+  pub steps : walk_left f old
+      ≡ each_in old.dcel (walk (f old.dcel.now.mesh) h k old.next) ++ (old.dcel, h) ∷ []
+  pub less : length (each_in old.dcel (walk (f old.dcel.now.mesh) h k old.next))
+      < length (walk_left f old)
+  pub ending : 0 < k → ComesTo (f old.dcel.now.mesh) h k old.next
 
-pub ends_before : {V D U F : Type 0} (f back : Mesh → ℕ → ℕ) (old new : EdgeWalk V D U F) (h n : ℕ)
-    → 0 < old.left → new.dcel ≡ old.dcel → new.next ≡ old.next → new.end ≡ h
-    → new.left ≡ (if old.next == h then 0 else old.left - 1) → h ≡ back old.dcel.now.mesh old.end
-    → old.next < n → Undoes (f old.dcel.now.mesh) (back old.dcel.now.mesh) n old.end
-    → IsEnding f old → EndsBefore f old new h
-ends_before f back old new h n some dcel next end left before within u was =
+pub ends_before : {V D U F : Type 0} (f back : Mesh → ℕ → ℕ) (old : EdgeWalk V D U F) (k h n : ℕ)
+    → 0 < old.left → k ≡ (if old.next == h then 0 else old.left - 1)
+    → h ≡ back old.dcel.now.mesh old.end → old.next < n
+    → Undoes (f old.dcel.now.mesh) (back old.dcel.now.mesh) n old.end → IsEnding f old
+    → EndsBefore f old k h
+ends_before f back old k h n some left before within u was =
     let m : Mesh = old.dcel.now.mesh in
-    let steps : walk_left f old ≡ walk_left f new ++ (old.dcel, h) ∷ [] =
-    rw (walk_left_is f new old.dcel h new.left old.next dcel end refl next, left, before)
-    (ap (each_in old.dcel)
+    let steps : walk_left f old
+    ≡ each_in old.dcel (walk (f m) h k old.next) ++ (old.dcel, h) ∷ [] =
+    rw (left, before) (ap (each_in old.dcel)
     (walk_last (f m) (back m) n old.end u old.left old.next some within (was some))
     ∙ map-append (λ i. (old.dcel, i)) _ _) in
     record {
       steps = steps;
-      less = rw steps (omega (arith, length_push (walk_left f new) (old.dcel, h)));
-      ending = rw (dcel, end, left, next, before)
+      less = rw steps
+          (omega (arith, length_push (each_in old.dcel (walk (f m) h k old.next)) (old.dcel, h)));
+      ending = rw (left, before)
           (comes_back_by_one (f m) (back m) n old.end u old.left old.next some within (was some));
     }
 

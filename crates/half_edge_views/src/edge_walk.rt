@@ -1,10 +1,8 @@
 //! Walks from edge to edge, taken from both ends.
 #![tactic(auto)]
 
-ghost use Rattle.std.specs.Prelude.{◌≡◌, ◌-◌, ◌<◌, ◌==◌, ⊤};
-ghost use Rattle.std.specs.Prelude.{if◌then◌else◌, length, IfNone, IfSome};
+ghost use Rattle.std.specs.Prelude.{◌≡◌, ◌<◌, ⊤, length, IfNone, IfSome};
 
-use crate::edge::DirectedEdgeHandle;
 use half_edge_dcel::Dcel;
 use std::alloc::AllocError;
 
@@ -14,11 +12,11 @@ use std::alloc::AllocError;
 #[derive_where(Debug)]
 pub(crate) struct EdgeWalk<'a, V, DE, UE, F> {
     #[derive_where(skip)]
-    dcel: &'a Dcel<V, DE, UE, F>,
+    pub(crate) dcel: &'a Dcel<V, DE, UE, F>,
     pub(crate) next: u32,
     pub(crate) end: u32,
     // No more edges come than these.
-    left: u32,
+    pub(crate) left: u32,
     ghost next_in_range: { 0 < left → next < length dcel.now.directed },
     ghost end_in_range: { 0 < left → end < length dcel.now.directed },
 }
@@ -63,42 +61,6 @@ impl<'a, V, DE, UE, F> EdgeWalk<'a, V, DE, UE, F> {
                 end: 0,
                 left: 0,
             },
-        }
-    }
-
-    // The edge with this index, at which the walk is or before which it ends, if it has not ended.
-    pub(crate) fn edge(&self, index: u32) -> Option<DirectedEdgeHandle<'a, V, DE, UE, F>>
-        requires { 0 < self.now.left → index < length self.now.dcel.now.directed }
-        ensures none { IfNone result (self.now.left ≡ 0) }
-        ensures some { IfSome result (λ e. 0 < self.now.left) }
-        ensures dcel { IfSome result (λ e. e.dcel ≡ self.now.dcel) }
-        ensures index { IfSome result (λ e. e.index ≡ index) }
-    {
-        if self.left == 0 {
-            return None;
-        }
-        Some(DirectedEdgeHandle {
-            dcel: self.dcel,
-            index,
-        })
-    }
-
-    // Leaves out the edge at one of its ends: goes on at the edge `next`, and ends before `end`.
-    pub(crate) fn shorten(&mut self, next: u32, end: u32)
-        requires some { 0 < self.old.left }
-        requires next_within { next < length self.old.dcel.now.directed }
-        requires end_within { end < length self.old.dcel.now.directed }
-        ensures dcel { self.new.dcel ≡ self.old.dcel }
-        ensures next { self.new.next ≡ next }
-        ensures end { self.new.end ≡ end }
-        ensures left { self.new.left ≡ (if next == end then 0 else self.old.left - 1) }
-    {
-        self.next = next;
-        self.end = end;
-        if next == end {
-            self.left = 0;
-        } else {
-            self.left -= 1;
         }
     }
 }

@@ -9,6 +9,8 @@ ghost use Rattle.half_edge_views.specs.Walks.{IsEnding, IsSameWalk};
 
 use crate::edge::DirectedEdgeHandle;
 use crate::edge_walk::EdgeWalk;
+use crate::views::MeshViews;
+use half_edge_dcel::FixedDirectedEdgeHandle;
 use std::alloc::AllocError;
 use std::iter::FusedIterator;
 
@@ -42,11 +44,12 @@ impl<'a, V, DE, UE, F> Iterator for CircularIterator<'a, V, DE, UE, F> {
     ghost remaining = { item_count out_edges_left };
 
     fn next(&mut self) -> Option<DirectedEdgeHandle<'a, V, DE, UE, F>> {
-        let next = self.walk.next;
-        let end = self.walk.end;
-        let edge = self.walk.edge(next)?;
-        let after = edge.ccw().index;
-        self.walk.shorten(after, end);
+        let walk = &mut self.walk;
+        let left = walk.left.checked_sub(1)?;
+        let next = FixedDirectedEdgeHandle::from_index(walk.next);
+        let edge = walk.dcel.directed_edge(next);
+        walk.next = edge.prev().rev().index;
+        walk.left = if walk.next == walk.end { 0 } else { left };
         Some(edge)
     }
 }
@@ -57,11 +60,12 @@ impl<'a, V, DE, UE, F> DoubleEndedIterator for CircularIterator<'a, V, DE, UE, F
     ghost next_back_gives = { YieldsLastBy (λ e. (e.dcel, e.index)) out_edges_left };
 
     fn next_back(&mut self) -> Option<DirectedEdgeHandle<'a, V, DE, UE, F>> {
-        let next = self.walk.next;
-        let last = self.walk.end;
-        let end = self.walk.edge(last)?;
-        let edge = end.cw();
-        self.walk.shorten(next, edge.index);
+        let walk = &mut self.walk;
+        let left = walk.left.checked_sub(1)?;
+        let end = FixedDirectedEdgeHandle::from_index(walk.end);
+        let edge = walk.dcel.directed_edge(end).cw();
+        walk.end = edge.index;
+        walk.left = if walk.next == walk.end { 0 } else { left };
         Some(edge)
     }
 }
@@ -99,11 +103,12 @@ impl<'a, V, DE, UE, F> Iterator for HullIterator<'a, V, DE, UE, F> {
     ghost remaining = { item_count hull_left };
 
     fn next(&mut self) -> Option<DirectedEdgeHandle<'a, V, DE, UE, F>> {
-        let next = self.walk.next;
-        let end = self.walk.end;
-        let edge = self.walk.edge(next)?;
-        let after = edge.next().index;
-        self.walk.shorten(after, end);
+        let walk = &mut self.walk;
+        let left = walk.left.checked_sub(1)?;
+        let next = FixedDirectedEdgeHandle::from_index(walk.next);
+        let edge = walk.dcel.directed_edge(next);
+        walk.next = edge.next().index;
+        walk.left = if walk.next == walk.end { 0 } else { left };
         Some(edge)
     }
 }
@@ -114,11 +119,12 @@ impl<'a, V, DE, UE, F> DoubleEndedIterator for HullIterator<'a, V, DE, UE, F> {
     ghost next_back_gives = { YieldsLastBy (λ e. (e.dcel, e.index)) hull_left };
 
     fn next_back(&mut self) -> Option<DirectedEdgeHandle<'a, V, DE, UE, F>> {
-        let next = self.walk.next;
-        let last = self.walk.end;
-        let end = self.walk.edge(last)?;
-        let edge = end.prev();
-        self.walk.shorten(next, edge.index);
+        let walk = &mut self.walk;
+        let left = walk.left.checked_sub(1)?;
+        let end = FixedDirectedEdgeHandle::from_index(walk.end);
+        let edge = walk.dcel.directed_edge(end).prev();
+        walk.end = edge.index;
+        walk.left = if walk.next == walk.end { 0 } else { left };
         Some(edge)
     }
 }
