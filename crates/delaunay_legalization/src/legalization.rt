@@ -1,7 +1,7 @@
 //! Flips of edges that fail the circle test, until each edge passes but the constraints.
 ghost use Rattle.std.specs.Prelude.{◌≡◌, ◌↔◌, ◌+◌, ◌*◌, ◌/◌, ◌<◌, ◌≤◌, ◌^◌, []};
 ghost use Rattle.std.specs.Prelude.{length, map, All, Contains, IsTrue};
-ghost use Rattle.mesh_embedding.specs.half_edge_mesh.Mesh.{origin, face};
+ghost use Rattle.mesh_embedding.specs.half_edge_mesh.Mesh.{face};
 ghost use Rattle.mesh_embedding.specs.half_edge_mesh.Flip.{flipped};
 ghost use Rattle.mesh_embedding.specs.half_edge_mesh.Peel.{turn};
 ghost use Rattle.mesh_embedding.specs.Legal.{AreEdges, Gains, IsFailing};
@@ -34,19 +34,6 @@ pub fn position_of<V: HasPosition, DE, UE, F>(
     ensures listed { Contains (map V.place dcel.now.vertices) (place_of V.Scalar.whole result) }
 {
     dcel.vertex_data(vertex).position()
-}
-
-/// The position where an edge starts.
-pub fn start_of<V: HasPosition, DE, UE, F>(
-    dcel: &Dcel<V, DE, UE, F>,
-    edge: FixedDirectedEdgeHandle,
-) -> Point2<V::Scalar>
-    requires { edge < length dcel.now.directed }
-    ensures place { place_of V.Scalar.whole result ≡
-        point_at (map V.place dcel.now.vertices) (origin dcel.now.mesh edge) }
-    ensures listed { Contains (map V.place dcel.now.vertices) (place_of V.Scalar.whole result) }
-{
-    position_of(dcel, dcel.directed_edge(edge).from().fix())
 }
 
 /// The edge after an edge, against the clock round the vertex where it starts.

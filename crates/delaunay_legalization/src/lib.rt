@@ -23,9 +23,7 @@ pub use constraint_marker::{ConstraintMarker, NoConstraints};
 // For the crates of edits, and not for users.
 pub use among::legalize_list;
 pub use edge_set::EdgeSet;
-pub use legalization::{
-    ccw_edge, is_constraint_edge, is_outer, legalize, position_of, push_side, start_of,
-};
+pub use legalization::{ccw_edge, is_constraint_edge, is_outer, legalize, position_of, push_side};
 pub use marking::{free_edge, make_constraint};
 pub use placed::Placed;
 pub use predicates::{is_same_point, is_strictly_inside, is_strictly_within, turns_left};
