@@ -8,7 +8,6 @@ ghost use Rattle.std.specs.Prelude.{IfSome, IfNone};
 ghost use Rattle.triangulate_grammar.specs.Grammar.{Spells, SpellsNone, SpellsAtMostOne};
 
 pub mod command;
-mod number;
 mod words;
 
 use command::Command;

@@ -1,11 +1,15 @@
 //! The words of a line, and what they stand for.
-ghost use Rattle.std.specs.Prelude.{◌≡◌, [], ◌∷◌, MatchOption, IfSome, OnSome, drop};
-ghost use Rattle.triangulate_grammar.specs.Reading.{first_index, first_number, coordinates_of, pair_of};
+ghost use Rattle.std.specs.Prelude.{◌≡◌, ◌<◌, ◌^◌, [], ◌∷◌};
+ghost use Rattle.std.specs.Prelude.{MatchOption, IfSome, OnSome, drop};
+ghost use Rattle.triangulate_grammar.specs.Reading.{index_value, first_index, first_number};
+ghost use Rattle.triangulate_grammar.specs.Reading.{coordinates_of, pair_of};
 ghost use Rattle.triangulate_grammar.specs.Reading.{command_named, arity};
 
 use crate::command::{Command, Coordinates};
-use crate::number::{index_written, number_of};
 use std::marker::Model;
+
+/// The most digits of a number.
+const MAX_DIGITS: usize = 18;
 
 /// The words of a line that are still to be read.
 #[derive(Drop)]
@@ -49,11 +53,15 @@ impl<'a> Words<'a> {
     }
 
     /// The next word, as a number.
+    #[tactic(auto, unfolding(crate::specs::Reading::number_value, crate::specs::Reading::index_value))]
     pub fn number(&mut self) -> Option<i64>
         ensures value { result ≡ first_number self.old }
         ensures rest { self.new ≡ drop 1 self.old }
     {
-        number_of(self.next_word()?)
+        match self.next_word()? {
+            [b'-', digits @ ..] => Some(-(index_written(digits)? as i64)),
+            word => Some(index_written(word)? as i64),
+        }
     }
 
     /// The next two words, as indexes.
@@ -76,6 +84,24 @@ impl<'a> Words<'a> {
             y: self.number()?,
         })
     }
+}
+
+/// The number of an index, if the word is 1 to 18 digits.
+fn index_written(word: &[u8]) -> Option<u64>
+    ensures value { result ≡ index_value word.now }
+    ensures small { IfSome result (λ n. n < 10 ^ 18) }
+{
+    if word.is_empty() || word.len() > MAX_DIGITS {
+        return None;
+    }
+    let mut number = 0u64;
+    for digit in word {
+        if !digit.is_ascii_digit() {
+            return None;
+        }
+        number = number * 10 + u64::from(*digit - b'0');
+    }
+    Some(number)
 }
 
 /// The command of this name, with the next words.

@@ -1,10 +1,12 @@
-use Rattle.std.proofs.Common.{◌+◌, ◌*◌, get_or, arith, refl, sym, ◌∙◌, ap}
+use Rattle.std.proofs.Common.{None, ◌+◌, ◌*◌, get_or, arith, refl, sym, ◌∙◌, ap}
 use Rattle.std.proofs.lemmas.Str.Parse.{digit_at}
 use Rattle.triangulate_grammar.proofs.Digits.{value_lt, one_more, digit_in_range, in_range_digit}
-use Rattle.triangulate_grammar.proofs.number.index_written.Goals as goal
+use Rattle.std.proofs.lemmas.Grind.{common_steps}
+use Rattle.triangulate_grammar.proofs.Values.{index_value-ok, index_from}
+use Rattle.triangulate_grammar.proofs.words.index_written.Goals as goal
 
-pub returns-then-not-is_ascii_digit-clause-none : goal.returns-then-not-is_ascii_digit-clause-none
-returns-then-not-is_ascii_digit-clause-none c = λ n h.
+pub returns-then-not-is_ascii_digit-clause-value : goal.returns-then-not-is_ascii_digit-clause-value
+returns-then-not-is_ascii_digit-clause-value c = index_from _ None tt λ n h.
     let r = digit_at c.args.word.now c.loop-digit.digit-index h.digits (omega arith) in
     let yes = in_range_digit _ r in
     let is = c.is_ascii_digit.ensures.value in
@@ -37,3 +39,9 @@ pub returns-clause-small : goal.returns-clause-small
 returns-clause-small c =
     value_lt _ _ 18 _ c.loop-digit.invariant.digits (omega arith)
     (omega arith) c.loop-digit.invariant.value
+
+pub returns-clause-value : goal.returns-clause-value
+returns-clause-value c = sym (index_value-ok _ _ (grind (arith, common_steps)))
+
+pub returns-then-is_empty-clause-value : goal.returns-then-is_empty-clause-value
+returns-then-is_empty-clause-value c = index_from _ None tt (λ n h. grind (arith, common_steps))
