@@ -60,7 +60,8 @@ none_zip : (args : List (List ℕ)) → AllZip IsNumber args [] → args ≡ []
 none_zip [] h = refl
 none_zip (a ∷ args) h = absurd h
 
-drop_four : (args : List (List ℕ)) → drop 2 (drop 2 args) ≡ drop 4 args
+-- two words left out twice are four
+pub drop_four : (args : List (List ℕ)) → drop 2 (drop 2 args) ≡ drop 4 args
 drop_four [] = refl
 drop_four (a ∷ []) = refl
 drop_four (a ∷ b ∷ args) = refl

@@ -11,12 +11,13 @@ pub mod command;
 mod words;
 
 use command::Command;
-use words::{Words, command_named};
+use words::Words;
 
 /// The most bytes that a line has, the newline that ends it left out.
 pub const MAX_LINE: usize = 120;
 
 /// The command that a line spells, the newline that ends it left out. `None` if it spells none.
+#[tactic(auto, using(crate::proofs::Exact::spelled, crate::proofs::Exact::unspelled), unfolding(crate::specs::Reading::command_of, crate::specs::Reading::command_named))]
 pub fn parse(line: &[u8]) -> Option<Command>
     ensures sound { IfSome result (Spells line.now) }
     ensures complete { IfNone result (SpellsNone line.now) }
@@ -25,13 +26,25 @@ pub fn parse(line: &[u8]) -> Option<Command>
         return None;
     }
     let mut words = Words { rest: Some(line) };
-    let name = words.next_word()?;
-    let command = command_named(name, &mut words)?;
-    if words.next_word().is_none() {
-        Some(command)
-    } else {
-        None
-    }
+    let command = match words.next_word()? {
+        b"insert" => Command::Insert(words.coordinates()?),
+        b"remove" => Command::Remove(words.index()?),
+        b"constrain" => {
+            let (i, j) = words.pair()?;
+            Command::Constrain(i, j)
+        }
+        b"release" => {
+            let (i, j) = words.pair()?;
+            Command::Release(i, j)
+        }
+        b"locate" => Command::Locate(words.coordinates()?),
+        b"nearest" => Command::Nearest(words.coordinates()?),
+        b"line" => Command::Line(words.coordinates()?, words.coordinates()?),
+        b"counts" => Command::Counts,
+        b"faces" => Command::Faces,
+        _ => return None,
+    };
+    words.next_word().is_none().then_some(command)
 }
 
 /// No line spells two commands.

@@ -3,9 +3,8 @@ ghost use Rattle.std.specs.Prelude.{◌≡◌, ◌<◌, ◌^◌, [], ◌∷◌};
 ghost use Rattle.std.specs.Prelude.{MatchOption, IfSome, OnSome, drop};
 ghost use Rattle.triangulate_grammar.specs.Reading.{index_value, first_index, first_number};
 ghost use Rattle.triangulate_grammar.specs.Reading.{coordinates_of, pair_of};
-ghost use Rattle.triangulate_grammar.specs.Reading.{command_named, arity};
 
-use crate::command::{Command, Coordinates};
+use crate::command::Coordinates;
 use std::marker::Model;
 
 /// The most digits of a number.
@@ -102,35 +101,4 @@ fn index_written(word: &[u8]) -> Option<u64>
         number = number * 10 + u64::from(*digit - b'0');
     }
     Some(number)
-}
-
-/// The command of this name, with the next words.
-#[tactic(auto, unfolding(crate::specs::Reading::command_named))]
-pub fn command_named(name: &[u8], words: &mut Words<'_>) -> Option<Command>
-    ensures value { result ≡ command_named name.now words.old }
-    ensures rest { IfSome result (λ command. words.new ≡ drop (arity command) words.old) }
-{
-    if name == b"insert".as_slice() {
-        Some(Command::Insert(words.coordinates()?))
-    } else if name == b"remove".as_slice() {
-        Some(Command::Remove(words.index()?))
-    } else if name == b"constrain".as_slice() {
-        let (i, j) = words.pair()?;
-        Some(Command::Constrain(i, j))
-    } else if name == b"release".as_slice() {
-        let (i, j) = words.pair()?;
-        Some(Command::Release(i, j))
-    } else if name == b"locate".as_slice() {
-        Some(Command::Locate(words.coordinates()?))
-    } else if name == b"nearest".as_slice() {
-        Some(Command::Nearest(words.coordinates()?))
-    } else if name == b"line".as_slice() {
-        Some(Command::Line(words.coordinates()?, words.coordinates()?))
-    } else if name == b"counts".as_slice() {
-        Some(Command::Counts)
-    } else if name == b"faces".as_slice() {
-        Some(Command::Faces)
-    } else {
-        None
-    }
 }
