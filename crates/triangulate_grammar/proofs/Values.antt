@@ -1,6 +1,5 @@
 -- Numbers are read as they are spelled.
--- Lemmas: index_value-ok, index_value-is, index_from, number_value-ok, number_value-is,
--- number_from.
+-- Lemmas: index_value-ok, index_value-is, index_from, number_value-ok, number_value-is.
 use Rattle.std.proofs.Common.{◌≡◌, ◌&&◌, [], ◌∷◌}
 use Rattle.std.proofs.Common.{ℕ, Bool, true, false, ltb, leb, ℤ, pos, neg_ℤ, List, length, Option}
 use Rattle.std.proofs.Common.{Some, None, IfSome, IfNone, refl, sym, ap, arith, inl, inr, subst}
@@ -92,10 +91,3 @@ number_value-is (c ∷ cs) z e = elim (eqb_tells c 45) [
   | inr plain ↦ (let m = map_some pos (index_value (c ∷ cs)) z (rw plain.0 at e) in
       inl (m.0, index_value-is (c ∷ cs) m.0 m.1, m.2))
 ]
-
--- an answer that is the number a word writes, or none where it writes none, is what is read
-pub number_from : (word : List ℕ) (r : Option ℤ) → IfSome r (IsNumber word)
-    → IfNone r ((z : ℤ) → IsNumber word z → ⊥) → r ≡ number_value word
-number_from word None some none = same_option None (number_value word) (λ x e. cc)
-    (λ x e. absurd (none x (number_value-is word x e)))
-number_from word (Some z) some none = sym (number_value-ok word z some)

@@ -1,9 +1,5 @@
-use Rattle.std.proofs.Common.{◌≡◌, take}
-use Rattle.std.specs.Str.Parse.{AllDigits, digits_value}
+use Rattle.triangulate_grammar.proofs.Digits.{IsRead}
 use Rattle.triangulate_grammar.proofs.words.index_written.Given as goal
 
 abbrev pub invariant-loop-digit : goal.invariant-loop-digit
-invariant-loop-digit l = record {
-  digits : AllDigits 10 (take l.digit-index l.word);
-  value : l.number ≡ digits_value 10 (take l.digit-index l.word);
-}
+invariant-loop-digit l = IsRead l.word l.digit-index l.number
