@@ -17,7 +17,7 @@ use words::Words;
 pub const MAX_LINE: usize = 120;
 
 /// The command that a line spells, the newline that ends it left out. `None` if it spells none.
-#[tactic(auto, using(crate::proofs::Exact::spelled, crate::proofs::Exact::unspelled), unfolding(crate::specs::Reading::command_of, crate::specs::Reading::command_named))]
+#[tactic(auto, using(crate::proofs::Exact::unspelled), unfolding(crate::specs::Reading::command_of, crate::specs::Reading::command_named))]
 pub fn parse(line: &[u8]) -> Option<Command>
     ensures sound { IfSome result (Spells line.now) }
     ensures complete { IfNone result (SpellsNone line.now) }

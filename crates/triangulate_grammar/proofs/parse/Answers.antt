@@ -15,7 +15,8 @@ use Rattle.triangulate_grammar.proofs.parse.Goals as goal
 
 -- the command is what its name and the words behind it say, and those that it takes are gone
 read : (c : goal.After-then_some)
-    → (command_named c.in_ok-next_word.field-0.now c.next_word.new.self ≡ Some c.if-this-lt5.command)
+    → (command_named c.in_ok-next_word.field-0.now c.next_word.new.self
+    ≡ Some c.if-this-lt5.command)
     × (c.if-this-lt5.words ≡ drop (arity c.if-this-lt5.command) c.next_word.new.self)
 unfolding command_named
 read c =
@@ -38,7 +39,8 @@ read c =
       | in-constrain+in_ok-i-in-constrain w ↦
           rw (text_from_reads name (codes "constrain") (omega arith) (search rules)) (search rules)
       | in-line+in_ok-coordinates-in-line+in_ok-coordinates-in-line-2 w ↦
-          rw (text_from_reads name (codes "line") (omega arith) (search rules)) (search (rules, drop_four))
+          rw (text_from_reads name (codes "line") (omega arith) (search rules))
+          (search (rules, drop_four))
     ]
 
 whole : (c : goal.After-then_some) → c.then_some.result ≡ command_of (words_of c.args.line.now)
