@@ -1,7 +1,7 @@
 -- One constraint becomes two where a vertex is strictly within it, and else there are as many as
 -- before.
--- Lemmas: few_split, as_many, one_more_constraint, counted_split.
-use Rattle.std.proofs.Common.{◌≡◌, ◌+◌, ◌≤◌}
+-- Lemmas: as_many, one_more_constraint, counted_split.
+use Rattle.std.proofs.Common.{◌≡◌, ◌+◌}
 use Rattle.std.proofs.Common.{ℕ, suc, Bool, List, length, map, refl, ap, inl, inr, arith}
 use Rattle.delaunay_paths.specs.half_edge_mesh.Contents.{Contents}
 use Rattle.delaunay_paths.specs.half_edge_mesh.Mesh.{origin, rev}
@@ -33,14 +33,6 @@ use Rattle.delaunay_edit.specs.Location.{Locates, location_of}
 use Rattle.delaunay_edit.proofs.Constrained.{plain_with_edges}
 use Rattle.delaunay_edit.proofs.DifferentConstraints.{constraints_once}
 use Rattle.delaunay_edit.proofs.EditCounts.{free_number, split_number}
-
--- a new vertex makes at most one constraint more
-pub few_split : {U : Type 0} (constraints : List U → List ℕ) (ds : List U)
-    (answer : PositionInTriangulation) (n : ℕ) → IsSplitCount constraints ds answer n → n ≤ 1
-few_split constraints ds answer n split = elim split [
-  | inl x ↦ (let one = x.1 in omega (arith, one))
-  | inr x ↦ (let none = x.1 in omega (arith, none))
-]
 
 module _ {V D U F : Type 0} (place : V → Point) (marks : U → Bool) (constraints : List U → List ℕ)
     (marked : (ds : List U) → constraints ds ≡ marked_edges marks ds)

@@ -8,6 +8,7 @@ use Rattle.delaunay_paths.proofs.plane_delaunay.Circles.Nearest.{circles_are_emp
 use Rattle.delaunay_paths.specs.plane_edits.EmptyRound.{IsEmptyRound}
 use Rattle.delaunay_paths.specs.mesh_embedding.Drawn.{faces_of}
 use Rattle.delaunay_paths.specs.delaunay_legalization.Constraints.{marked_edges, constraints_by}
+use Rattle.delaunay_paths.specs.delaunay_legalization.Shape.{IsDelaunayTriangulation}
 use Rattle.delaunay_paths.specs.delaunay_legalization.State.{State, triangulation_of}
 use Rattle.delaunay_insertion.specs.Growth.{GainsVertex}
 use Rattle.delaunay_insertion.proofs.EmptyRound.{grown_is_empty}
@@ -24,17 +25,17 @@ none_counted place constraints s number counted none =
 -- where there was no constraint, a vertex was put in
 pub put_in_free : {V D U F : Type 0} {place : V → Point} (marks : U → Bool)
     {constraints : List U → List ℕ} → ((ds : List U) → constraints ds ≡ marked_edges marks ds)
-    → {old new : State V D U F} {value : V} {vertex number : ℕ}
-    → IsCounted place constraints old number → GainsVertex place value old new vertex → number ≡ 0
+    → {old new : State V D U F} {value : V} {vertex : ℕ}
+    → IsDelaunayTriangulation place constraints old → constraints_by constraints old ≡ []
+    → GainsVertex place value old new vertex
     → IsEmptyRound (map place new.vertices) (faces_of new.mesh) vertex
-put_in_free {place = place} marks {constraints = constraints} marked {old = old} {new = new}
-    {value = value} {vertex = vertex} {number = number} counted takes none =
+put_in_free {place = place} marks {constraints = constraints} marked {old = old}
+    {new = new} {value = value} {vertex = vertex} legal none takes =
     subst (IsEmptyRound (map place new.vertices) (faces_of new.mesh)) (sym takes.is)
-    (grown_is_empty place value old new vertex counted.legal.kept takes
+    (grown_is_empty place value old new vertex legal.kept takes
     (λ i j k n f h. circles_are_empty (triangulation_of place old) free i j k n f
     (rw length-map h)))
   where
     free : IsConstrainedDelaunay (triangulation_of place old) []
     free = subst (λ (cs : List (ℕ × ℕ)). IsConstrainedDelaunay (triangulation_of place old) cs)
-        (none_counted place constraints old number counted none)
-        (marked_constrained_delaunay place marks constraints marked old counted.legal)
+        none (marked_constrained_delaunay place marks constraints marked old legal)

@@ -1,11 +1,13 @@
 -- Each way in which an insertion ends.
--- Lemmas: refused_far, overwritten, appended_or_refused, splits_legalized.
-use Rattle.std.proofs.Common.{◌≡◌, ◌<◌}
-use Rattle.std.proofs.Common.{ℕ, List, length, map, refl, sym, ap, subst, inl, slice_set, Result}
-use Rattle.std.proofs.Common.{Ok, Err}
+-- Lemmas: refused_far, overwritten, appended, refused, puts_beside, appends.
+use Rattle.std.proofs.Common.{◌≡◌, ◌∙◌, ◌+◌, ◌*◌, ◌<◌}
+use Rattle.std.proofs.Common.{ℕ, Bool, false, List, length, map, refl, sym, ap, subst, inl, inr}
+use Rattle.std.proofs.Common.{slice_set, Result, Ok, Err}
 use Rattle.std.specs.Prelude.{◌↔◌, IsErrOf, IsOk}
 use Rattle.std.proofs.lemmas.Bool.{false≢true}
 use Rattle.std.proofs.lemmas.List.{length-map}
+use Rattle.delaunay_paths.specs.half_edge_links.declared.room.TheConstants.{MAX_ELEMENTS}
+use Rattle.delaunay_paths.specs.half_edge_mesh.Contents.{Contents, edges}
 use Rattle.delaunay_paths.specs.plane.Fraction.{Point}
 use Rattle.delaunay_paths.specs.plane.Pairs.{Joins}
 use Rattle.delaunay_paths.specs.plane.Plain.{Replaces}
@@ -13,18 +15,25 @@ use Rattle.delaunay_paths.specs.plane.Tests.{InRange}
 use Rattle.delaunay_paths.specs.delaunay_core.declared.math.InsertionError.{InsertionError}
 use Rattle.delaunay_paths.specs.delaunay_core.declared.math.InsertionError.TheVariants.{TooLarge}
 use Rattle.delaunay_paths.specs.delaunay_core.declared.math.InsertionError.TheVariants.{OutOfIndexes}
-use Rattle.delaunay_paths.specs.delaunay_legalization.Constraints.{constraints_by}
+use Rattle.delaunay_paths.specs.delaunay_legalization.Constraints.{marked_edges}
 use Rattle.delaunay_paths.specs.delaunay_legalization.Constraints.{points_and_constraints_by}
 use Rattle.delaunay_paths.specs.delaunay_legalization.Known.{IsKnown, point_at}
+use Rattle.delaunay_paths.specs.delaunay_legalization.Legalized.{Legalizes}
 use Rattle.delaunay_paths.specs.delaunay_legalization.Shape.{IsTriangulated}
-use Rattle.delaunay_paths.specs.delaunay_legalization.State.{State}
+use Rattle.delaunay_paths.specs.delaunay_legalization.State.{State, state_of}
+use Rattle.delaunay_paths.specs.delaunay_location.declared.position_in_triangulation.PositionInTriangulation.{PositionInTriangulation}
+use Rattle.delaunay_edit.specs.Counting.{IsOnConstraint, IsSplitCount}
 use Rattle.delaunay_edit.specs.Edits.{AppendsVertex, InsertsVertex}
-use Rattle.delaunay_edit.specs.Location.{IsApart}
+use Rattle.delaunay_edit.specs.Location.{IsApart, Locates}
+use Rattle.delaunay_edit.proofs.CountingSplits.{counted_split}
 use Rattle.delaunay_insertion.specs.Constraints.{SplitsConstraints}
+use Rattle.delaunay_insertion.specs.Edges.{AddsOnly}
+use Rattle.delaunay_insertion.specs.Growth.{GainsVertex}
 use Rattle.delaunay_insertion.proofs.Appending.{inserted}
-use Rattle.delaunay_insertion.proofs.DataKept.{overwritten_keeps}
+use Rattle.delaunay_insertion.proofs.DataKept.{appended_keeps, overwritten_keeps}
+use Rattle.delaunay_insertion.proofs.SplitConstraints.{adding_splits_none}
 
-ok_is_no_error : {E : Type 0} (i : ℕ) (e : E) → ¬ (Ok i ≡ Err e)
+ok_is_no_error : {T E : Type 0} (i : T) (e : E) → ¬ (Ok i ≡ Err e)
 ok_is_no_error i e h = cc
 
 abbrev error_or : {T E : Type 0} → E → Result T E → E
@@ -75,35 +84,94 @@ module _ {V D U F : Type 0} (place : V → Point) (constraints : List U → List
         err = tt;
       }
 
-  -- a vertex is appended, or there is no room for it
-  pub appended_or_refused : (new : State V D U F) (result : Result ℕ InsertionError)
-      → InRange (place value) → IsApart (map place old.vertices) (place value)
-      → AppendsVertex place constraints value result old new
-      → InsertsVertex place constraints value result old new
-  appended_or_refused new result near apart appends =
-      let unknown : ¬ IsKnown (map place old.vertices) (place value) =
-      λ known. apart.apart known.index known.below known.here in
-      record {
-        too_large = ((λ e. absurd (appends.not_too_large e)), (λ far. absurd (far near)));
-        known = λ _ known. absurd (unknown known);
-        full = ((λ e. (near, unknown, appends.full.0 e)), (λ h. appends.full.1 h.2));
-        ok = inserted place constraints old new value apart result appends.vertex appends.vertices
-            appends.splits;
-        replaced = λ known. absurd (unknown known);
-        outer = appends.outer;
-        «data» = appends.«data»;
-        err = appends.err;
-      }
+  is_unknown : IsApart (map place old.vertices) (place value)
+      → ¬ IsKnown (map place old.vertices) (place value)
+  is_unknown apart known = apart.apart known.index known.below known.here
 
--- room was made, a vertex was put in, and edges were turned
-pub splits_legalized : {V D U F : Type 0} (place : V → Point) (constraints : List U → List ℕ)
-    (value : V) (ready old mid new : State V D U F)
-    → SplitsConstraints place constraints ready mid value → ready ≡ old
-    → constraints_by constraints new ≡ constraints_by constraints mid
-    → SplitsConstraints place constraints old new value
-splits_legalized place constraints value ready old mid new splits same stays =
-    subst (λ s. SplitsConstraints place constraints s new value) same
-    (λ i j. (
-      (λ h. (splits i j).0 (subst (λ (ps : List (ℕ × ℕ)). Joins ps i j) stays h)),
-      (λ x. subst (λ (ps : List (ℕ × ℕ)). Joins ps i j) (sym stays) ((splits i j).1 x)),
-    ))
+  -- a vertex is appended, for which there was room
+  pub appended : {R : Type 0} {new : State V D U F} {index more : ℕ} {room : R}
+      → InRange (place value) → IsApart (map place old.vertices) (place value)
+      → (IsErrOf {T = R} {E = InsertionError} (Ok room) OutOfIndexes
+      ↔ (MAX_ELEMENTS < 6 * (length old.vertices + 1)))
+      → AppendsVertex place constraints value index more old new
+      → InsertsVertex place constraints value (Ok index) old new
+  appended {new = new} {index = index} {room = room} near apart full appends = record {
+    too_large = ((λ e. absurd (ok_is_no_error index TooLarge e)), (λ far. absurd (far near)));
+    known = λ _ _. refl;
+    full = (
+      (λ e. absurd (ok_is_no_error index OutOfIndexes e)),
+      (λ h. absurd (ok_is_no_error room OutOfIndexes (full.1 h.2))),
+    );
+    ok = inserted place constraints old new value apart {E = InsertionError} (Ok index) appends.is appends.vertices
+        appends.splits;
+    replaced = λ known. absurd (is_unknown apart known);
+    outer = appends.«data».outer;
+    «data» = appends.«data»;
+    err = tt;
+  }
+
+  -- there was none
+  pub refused : {R : Type 0} {new : State V D U F} (e : InsertionError) → InRange (place value)
+      → IsApart (map place old.vertices) (place value)
+      → (IsErrOf {T = R} {E = InsertionError} (Err e) OutOfIndexes
+      ↔ (MAX_ELEMENTS < 6 * (length old.vertices + 1)))
+      → ¬ IsErrOf {T = R} {E = InsertionError} (Err e) TooLarge → new ≡ old
+      → InsertsVertex place constraints value (Err e) old new
+  refused e near apart full near_enough same = record {
+    too_large =
+        ((λ h. absurd (near_enough (ap Err (same_error e TooLarge h)))), (λ far. absurd (far near)));
+    known = λ _ known. absurd (is_unknown apart known);
+    full = (
+      (λ h. (near, is_unknown apart, full.0 (ap Err (same_error e OutOfIndexes h)))),
+      (λ h. ap Err (same_error e OutOfIndexes (full.1 h.2))),
+    );
+    ok = tt;
+    replaced = λ known. absurd (is_unknown apart known);
+    outer = ap (λ s. s.outer) same;
+    «data» = tt;
+    err = same;
+  }
+
+-- a vertex was put in, and so many constraints more are where it is
+pub record PutsIn {V D U F : Type 0} (place : V → Point) (constraints : List U → List ℕ)
+    (value : V) (location : PositionInTriangulation) (old new : Contents V D U F)
+    (index more : ℕ) : Type 0 where
+  pub takes : GainsVertex place value (state_of old) (state_of new) index
+  pub splits : SplitsConstraints place constraints (state_of old) (state_of new) value
+  pub split : IsSplitCount constraints old.undirected location more
+
+module _ {V D U F : Type 0} {place : V → Point} (marks : U → Bool) {constraints : List U → List ℕ}
+    (marked : (ds : List U) → constraints ds ≡ marked_edges marks ds) {value : V}
+    {location : PositionInTriangulation} {old mid : Contents V D U F} {index : ℕ}
+    (kept : IsTriangulated place (state_of old)) where
+  -- no constraint was split
+  pub puts_beside : {P : U → Type 0} → ((d : U) → P d → marks d ≡ false)
+      → ¬ IsOnConstraint constraints old.undirected location
+      → GainsVertex place value (state_of old) (state_of mid) index
+      → AddsOnly P (edges old) (edges mid)
+      → PutsIn place constraints value location old mid index 0
+  puts_beside free off takes adds = record {
+    takes = takes;
+    splits = adding_splits_none _ _ old mid kept takes.kept takes.vertices _ _ marked _ free adds;
+    split = inr (off, refl);
+  }
+
+  -- then edges were turned
+  pub appends : {new : Contents V D U F} {more before after : ℕ}
+      → Locates (map place old.vertices) old.mesh (place value) location
+      → PutsIn place constraints value location old mid index more
+      → Legalizes place constraints mid new before after
+      → AppendsVertex place constraints value index more (state_of old) (state_of new)
+  appends {new = new} {more = more} located put turned = record {
+    is = put.takes.is;
+    vertices = ap (λ c. c.vertices) turned.contents ∙ put.takes.vertices;
+    «data» = appended_keeps old mid new kept put.takes turned.contents turned.indexes turned.legal.kept;
+    splits = λ i j. (
+      (λ h. (put.splits i j).0 (subst (λ (ps : List (ℕ × ℕ)). Joins ps i j) turned.constraints h)),
+      (λ x. subst (λ (ps : List (ℕ × ℕ)). Joins ps i j) (sym turned.constraints)
+          ((put.splits i j).1 x)),
+    );
+    counted = λ number before. counted_split _ _ _ marked old (state_of mid) kept put.takes.kept
+        value location located put.splits number more (state_of new) before put.split turned.legal
+        turned.constraints;
+  }

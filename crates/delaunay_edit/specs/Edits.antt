@@ -1,7 +1,8 @@
 -- What each edit makes of a triangulation.
 use Rattle.std.specs.Prelude.{◌≡◌, ◌↔◌, ◌+◌, ◌*◌, ◌<◌, ◌++◌, ◌∷◌, []}
-use Rattle.std.specs.Prelude.{ℕ, List, length, map, Option, None, Some, Result, Ok, IsOk, IsErrOf}
-use Rattle.std.specs.Prelude.{IfOk, OnOk, OnErr, MatchOption, slice_get, slice_set}
+use Rattle.std.specs.Prelude.{ℕ, Bool, List, length, map, All, IsTrue, Option, None, Some, Result}
+use Rattle.std.specs.Prelude.{Ok, IsOk, IsErrOf, IfOk, OnOk, OnErr, MatchOption}
+use Rattle.std.specs.Prelude.{slice_get, slice_set}
 use Rattle.delaunay_paths.specs.half_edge_links.declared.room.TheConstants.{MAX_ELEMENTS}
 use Rattle.delaunay_paths.specs.plane.Fraction.{Point}
 use Rattle.delaunay_paths.specs.plane.Plain.{Inserts, Removes}
@@ -10,12 +11,17 @@ use Rattle.delaunay_paths.specs.delaunay_core.declared.math.InsertionError.{Inse
 use Rattle.delaunay_paths.specs.delaunay_core.declared.math.InsertionError.TheVariants.{TooLarge}
 use Rattle.delaunay_paths.specs.delaunay_core.declared.math.InsertionError.TheVariants.{OutOfIndexes}
 use Rattle.delaunay_insertion.specs.Constraints.{SplitsConstraints}
+use Rattle.delaunay_paths.specs.delaunay_legalization.Constraints.{constraints_by}
 use Rattle.delaunay_paths.specs.delaunay_legalization.Constraints.{points_and_constraints_by}
 use Rattle.delaunay_paths.specs.delaunay_legalization.Known.{IsKnown}
+use Rattle.delaunay_paths.specs.delaunay_legalization.Shape.{IsDelaunayTriangulation}
 use Rattle.delaunay_paths.specs.delaunay_legalization.State.{State}
+use Rattle.delaunay_paths.specs.delaunay_location.declared.position_in_triangulation.PositionInTriangulation.{PositionInTriangulation}
 use Rattle.delaunay_removal.specs.Data.{KeepsDataOfOthers}
+use Rattle.delaunay_edit.specs.Counting.{IsCounted}
 use Rattle.delaunay_edit.specs.Data.{KeepsData}
 use Rattle.delaunay_edit.specs.Headline.{AreSites}
+use Rattle.delaunay_edit.specs.Location.{IsApart, Locates}
 use Rattle.delaunay_edit.specs.Removal.{RemovesAt}
 
 module _ {V : Type 0} (place : V → Point) (IsSite : Point → Type 0) where
@@ -25,18 +31,27 @@ module _ {V : Type 0} (place : V → Point) (IsSite : Point → Type 0) where
     pub new_site : InRange (place value) → IsSite (place value)
 
 module _ {V D U F : Type 0} (place : V → Point) (constraints : List U → List ℕ) where
-  -- an insertion of a value whose position no vertex has gave this result: the index of the new
-  -- last vertex, or a refusal
-  pub record AppendsVertex (value : V) (result : Result ℕ InsertionError)
-      (old new : State V D U F) : Type 0 where
-    pub full : IsErrOf result OutOfIndexes ↔ (MAX_ELEMENTS < 6 * (length old.vertices + 1))
-    pub not_too_large : ¬ IsErrOf result TooLarge
-    pub vertex : IfOk result (λ i. i ≡ length old.vertices)
-    pub vertices : OnOk result (new.vertices ≡ old.vertices ++ value ∷ [])
-    pub outer : new.outer ≡ old.outer
-    pub «data» : OnOk result (KeepsData old new)
-    pub splits : OnOk result (SplitsConstraints place constraints old new value)
-    pub err : OnErr result (new ≡ old)
+  -- a value whose position, a site at this location, no vertex has can be appended to a legal
+  -- triangulation, which has no constraint where is_free says so
+  pub record CanAppend (IsSite : Point → Type 0) (value : V) (location : PositionInTriangulation)
+      (is_free : Bool) (s : State V D U F) : Type 0 where
+    pub legal : IsDelaunayTriangulation place constraints s
+    pub sites : All IsSite (map place s.vertices)
+    pub new_site : IsSite (place value)
+    pub in_range : InRange (place value)
+    pub apart : IsApart (map place s.vertices) (place value)
+    pub located : Locates (map place s.vertices) s.mesh (place value) location
+    pub free : IsTrue is_free → constraints_by constraints s ≡ []
+
+  -- the value is the new last vertex, at this index, and what is there before and after keeps its
+  -- data. The constraint that it is strictly within becomes two, so that there are so many more
+  pub record AppendsVertex (value : V) (index more : ℕ) (old new : State V D U F) : Type 0 where
+    pub is : index ≡ length old.vertices
+    pub vertices : new.vertices ≡ old.vertices ++ value ∷ []
+    pub «data» : KeepsData old new
+    pub splits : SplitsConstraints place constraints old new value
+    pub counted : (number : ℕ) → IsCounted place constraints old number
+        → IsCounted place constraints new (number + more)
 
   -- an insertion of a value gave this result. A vertex of its position is overwritten, and all else
   -- stays; other edits of the plain state are as in `Inserts`. What is there before and after keeps

@@ -1,20 +1,20 @@
 //! A new vertex at any position that no vertex has.
-ghost use Rattle.std.specs.Prelude.{◌+◌, ◌*◌, length, map, All};
+ghost use Rattle.std.specs.Prelude.{◌+◌, ◌*◌, ◌≤◌, length, IsFalse};
 ghost use Rattle.delaunay_paths.specs.half_edge_mesh.Room.{HasRoomFor};
-ghost use Rattle.delaunay_insertion.specs.Constraints.{SplitsConstraints};
-ghost use Rattle.delaunay_insertion.specs.Growth.{CanTake, GainsVertex};
-ghost use Rattle.delaunay_edit.specs.Counting.{IsSplitCount};
-ghost use Rattle.delaunay_edit.specs.Location.{IsVacant};
+ghost use Rattle.delaunay_edit.specs.Edits.{AppendsVertex, CanAppend};
+ghost use Rattle.delaunay_paths.specs.delaunay_legalization.Flips.{CountsFlips, FlipsFit};
 ghost use Rattle.delaunay_paths.specs.delaunay_legalization.State.{state_of};
 
-use delaunay_insertion::{FreeByDefault, insert_outside, insert_within_edge, insert_without_edges};
+use delaunay_insertion::{FreeByDefault, insert_outside, insert_within_edge};
 use delaunay_paths::delaunay_core::math::PlaneTests;
 use delaunay_paths::delaunay_core::point::HasPosition;
+use delaunay_paths::delaunay_legalization::{EdgeSet, legalize_vertex};
 use delaunay_paths::delaunay_location::PositionInTriangulation;
 use delaunay_paths::half_edge_mesh::{Dcel, FixedVertexHandle};
 
-/// The new last vertex at a position that no vertex has, and how many constraints more there are:
-/// one that the position is strictly within becomes two.
+/// The new last vertex at a position that no vertex has, round which the edges that fail are
+/// flipped, and how many constraints more there are: one that the position is strictly within
+/// becomes two. `is_free` may say that there was none; `work` has room for a legalization else.
 pub fn insert_at<
     M: FreeByDefault<UE>,
     V: HasPosition,
@@ -26,21 +26,22 @@ pub fn insert_at<
     dcel: &mut Dcel<V, DE, UE, F>,
     location: PositionInTriangulation,
     value: V,
+    is_free: bool,
     tests: &P,
+    work: &mut EdgeSet,
+    flips: &mut u64,
 ) -> (FixedVertexHandle, usize)
-    requires can { CanTake V.place value (state_of dcel.old) }
-    requires sites { All (P.sites tests.now) (map V.place dcel.old.vertices) }
-    requires new_site { P.sites tests.now (V.place value) }
-    requires vacant { IsVacant (map V.place dcel.old.vertices) dcel.old.mesh (V.place value)
-        location }
+    requires can { CanAppend V.place M.constraints (P.sites tests.now) value location is_free
+        (state_of dcel.old) }
     requires room { HasRoomFor dcel.old.room (length dcel.old.vertices + 1)
         (3 * (length dcel.old.vertices + 1)) (2 * (length dcel.old.vertices + 1)) }
-    ensures takes { GainsVertex V.place value (state_of dcel.old) (state_of dcel.new) result.0 }
-    ensures constraints { SplitsConstraints V.place M.constraints (state_of dcel.old)
-        (state_of dcel.new) value }
-    ensures more { IsSplitCount M.constraints dcel.old.undirected location result.1 }
+    requires work { IsFalse is_free → 3 * (length dcel.old.vertices + 1) ≤ work.old.room }
+    requires fits { FlipsFit (length dcel.old.vertices + 1) flips.old }
+    ensures appends { AppendsVertex V.place M.constraints value result.0 result.1
+        (state_of dcel.old) (state_of dcel.new) }
+    ensures counted { CountsFlips (length dcel.new.vertices) flips.old flips.new }
 {
-    match location {
+    let (vertex, more) = match location {
         PositionInTriangulation::OnFace(face) => (dcel.insert_into_triangle(value, face), 0),
         PositionInTriangulation::OnEdge(edge) => {
             insert_within_edge::<M, _, _, _, _>(dcel, edge, value)
@@ -48,7 +49,15 @@ pub fn insert_at<
         PositionInTriangulation::OutsideOfConvexHull(edge) => {
             (insert_outside(dcel, edge, value, tests), 0)
         }
-        PositionInTriangulation::NoTriangulation => (insert_without_edges(dcel, value), 0),
+        PositionInTriangulation::NoTriangulation => {
+            let vertex = dcel.append_unconnected_vertex(value);
+            if vertex.index() > 0 {
+                dcel.setup_initial_two_vertices(FixedVertexHandle::from_index(0), vertex);
+            }
+            return (vertex, 0);
+        }
         PositionInTriangulation::OnVertex(_) => unreachable!(),
-    }
+    };
+    legalize_vertex::<M, _, _, _, _, _>(dcel, vertex, is_free, tests, work, flips);
+    (vertex, more)
 }

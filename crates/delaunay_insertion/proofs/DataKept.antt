@@ -21,6 +21,7 @@ use Rattle.delaunay_legalization.proofs.mesh_embedding.MeshLegal.{own_indexes}
 use Rattle.delaunay_insertion.proofs.NewVertex.{place_stays, place_last, is_vertex, not_within}
 use Rattle.delaunay_insertion.proofs.NewVertex.{source_in, target_in}
 use Rattle.delaunay_insertion.specs.Data.{KeepsData, KeepsEdge, GrowsAround, IsInCorners}
+use Rattle.delaunay_insertion.specs.Growth.{GainsVertex}
 use Rattle.delaunay_legalization.specs.Shape.{IsTriangulated}
 use Rattle.delaunay_legalization.specs.State.{State, state_of}
 use Rattle.delaunay_legalization.proofs.mesh_embedding.EdgePairs.{edge_joins}
@@ -160,15 +161,13 @@ pub overwritten_keeps :
 overwritten_keeps at old new vertices kept same = data_same at old new kept
     (same ∙ ap (λ vs. record old { vertices = vs }) (sym (ap (λ s. s.vertices) same)))
 
--- room was made for a vertex, it was put in, and edges were turned
-pub appended_keeps : {V D U F : Type 0} (at : V → Point) (v : V) (old : State V D U F)
-    (ready mid new : Contents V D U F) → IsTriangulated at old → state_of ready ≡ old
-    → mid.vertices ≡ ready.vertices ++ v ∷ [] → IsTriangulated at (state_of mid)
-    → GrowsAround (map at ready.vertices) (at v) (state_of ready) (state_of mid)
-    → new ≡ record mid { mesh = new.mesh } → KeepsIndexes mid.mesh new.mesh
-    → IsTriangulated at (state_of new) → KeepsData old (state_of new)
-appended_keeps at v old ready mid new was same vertices kept grows contents indexes now =
-    data_kept at v old (state_of mid) (state_of new) was now (ap (λ c. c.vertices) contents
-    ∙ vertices ∙ ap (λ s. s.vertices ++ v ∷ []) same) kept.fits.directed_fit
-    (subst (λ s. GrowsAround (map at s.vertices) (at v) s (state_of mid)) same grows)
+-- a vertex was put in, and edges were turned
+pub appended_keeps : {V D U F : Type 0} {at : V → Point} {v : V} {vertex : ℕ}
+    (old mid new : Contents V D U F) → IsTriangulated at (state_of old)
+    → GainsVertex at v (state_of old) (state_of mid) vertex → new ≡ record mid { mesh = new.mesh }
+    → KeepsIndexes mid.mesh new.mesh → IsTriangulated at (state_of new)
+    → KeepsData (state_of old) (state_of new)
+appended_keeps old mid new was takes contents indexes now =
+    data_kept _ _ (state_of old) (state_of mid) (state_of new) was now
+    (ap (λ c. c.vertices) contents ∙ takes.vertices) takes.kept.fits.directed_fit takes.grows
     (ap state_of contents) indexes

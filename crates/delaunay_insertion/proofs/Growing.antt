@@ -1,6 +1,6 @@
 -- What a triangulation keeps where it gets one more vertex.
--- Lemmas: sides_at_most, edges_and_faces, gains, first_shape, second_shape, extended_shape,
--- split_shape.
+-- Lemmas: sides_at_most, edges_and_faces, gains, first_shape, few_on_line, second_shape,
+-- extended_shape, split_shape.
 use Rattle.std.proofs.Common.{◌≡◌, ◌≢◌, ◌⊎◌, ◌+◌, ◌*◌, ◌<◌, ◌≤◌, [], ◌∷◌, ◌++◌, ◌∙◌}
 use Rattle.std.proofs.Common.{ℕ, List, length, map, refl, sym, ap, subst, inl, inr, arith}
 use Rattle.std.proofs.Common.{length-append}
@@ -171,7 +171,7 @@ bare_line points m bare (inl l) = absurd (l.some_face (empty_list (faces_of m)
 bare_line points m bare (inr l) = l
 
 -- two points are on a line
-few_on_line : (points : List Point) (faces : List Face) (outer : List (ℕ × ℕ)) → length points ≤ 2
+pub few_on_line : (points : List Point) (faces : List Face) (outer : List (ℕ × ℕ)) → length points ≤ 2
     → IsMesh points faces outer → (faces ≡ []) × LineMesh points outer
 few_on_line points faces outer few (inl m) =
     let s = by_signs points faces outer m in

@@ -18,9 +18,10 @@ use Rattle.delaunay_legalization.proofs.mesh_embedding.MeshStars.{edge_of_face}
 use Rattle.delaunay_legalization.specs.Constraints.{marked_edges, constraints_by}
 use Rattle.delaunay_legalization.specs.Shape.{IsTriangulated, IsDelaunayTriangulation}
 use Rattle.delaunay_legalization.specs.Star.{MakesFacesAt, AllPassBeside}
-use Rattle.delaunay_legalization.specs.State.{State, state_of}
+use Rattle.delaunay_legalization.specs.State.{state_of}
 use Rattle.delaunay_legalization.proofs.Stars.{made_at_leaves}
 use Rattle.delaunay_insertion.specs.Constraints.{SplitsConstraints}
+use Rattle.delaunay_insertion.specs.Growth.{GainsVertex}
 use Rattle.delaunay_insertion.proofs.MarkedEdges.{JoinsWithMark, own_ends, joins_with_mark}
 use Rattle.delaunay_insertion.proofs.NewVertex.{not_within, source_in, target_in}
 use Rattle.delaunay_insertion.proofs.SplitConstraints.{whole_mesh}
@@ -88,24 +89,20 @@ module _ {V D U F : Type 0} (at : V → Point) (marks : U → Bool) (constraints
     ]
 
   -- where each edge but constraints passed before
-  pub passes_beside : (old : State V D U F) (ready mid : Contents V D U F) (v : V) (k n : ℕ)
-      → IsDelaunayTriangulation at constraints old → state_of ready ≡ old
-      → mid.vertices ≡ ready.vertices ++ v ∷ [] → k ≡ n
-      → MakesFacesAt n (faces_of ready.mesh) (outer_of ready.mesh) (faces_of mid.mesh)
-      → IsTriangulated at (state_of mid)
-      → SplitsConstraints at constraints (state_of ready) (state_of mid) v → AllPassBeside
-      (map at mid.vertices) (faces_of mid.mesh) (constraints_by constraints (state_of mid)) k
-  passes_beside old ready mid v k n legal same vertices is made kept splits =
-      let here : IsDelaunayTriangulation at constraints (state_of ready) =
-      subst (IsDelaunayTriangulation at constraints) (sym same) legal in
-      subst (λ (ps : List Point). AllPassBeside ps (faces_of mid.mesh)
-      (constraints_by constraints (state_of mid)) k)
-      (sym (ap (map at) vertices ∙ map-append at ready.vertices (v ∷ [])))
-      (made_at_leaves (map at ready.vertices) (at v) (faces_of ready.mesh) (faces_of mid.mesh)
-      (outer_of ready.mesh)
-      (constraints_by constraints (state_of ready))
-      (constraints_by constraints (state_of mid)) k here.kept.shape
-      (λ a b c d f g free _. here.passing a b c d f g free)
-      (subst (λ (x : ℕ). MakesFacesAt x (faces_of ready.mesh) (outer_of ready.mesh)
-      (faces_of mid.mesh)) (sym is) made)
-      (marks_leave v ready mid here.kept kept vertices splits))
+  pub passes_beside : (old new : Contents V D U F) {v : V} {k : ℕ}
+      → IsDelaunayTriangulation at constraints (state_of old)
+      → GainsVertex at v (state_of old) (state_of new) k
+      → SplitsConstraints at constraints (state_of old) (state_of new) v → AllPassBeside
+      (map at new.vertices) (faces_of new.mesh) (constraints_by constraints (state_of new)) k
+  passes_beside old new {v = v} {k = k} legal takes splits =
+      subst (λ (ps : List Point). AllPassBeside ps (faces_of new.mesh)
+      (constraints_by constraints (state_of new)) k)
+      (sym (ap (map at) takes.vertices ∙ map-append at old.vertices (v ∷ [])))
+      (made_at_leaves (map at old.vertices) (at v) (faces_of old.mesh) (faces_of new.mesh)
+      (outer_of old.mesh)
+      (constraints_by constraints (state_of old))
+      (constraints_by constraints (state_of new)) k legal.kept.shape
+      (λ a b c d f g free _. legal.passing a b c d f g free)
+      (subst (λ (x : ℕ). MakesFacesAt x (faces_of old.mesh) (outer_of old.mesh)
+      (faces_of new.mesh)) (sym takes.is) takes.made)
+      (marks_leave v old new legal.kept takes.kept takes.vertices splits))

@@ -1,6 +1,7 @@
 -- What a mesh and a triangulation keep where they get one more vertex.
 pub mod Growing
 pub mod InsertionCases
+pub mod FirstVertices
 pub mod Appending
 pub mod NewVertex
 pub mod MadeFaces

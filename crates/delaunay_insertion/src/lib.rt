@@ -1,12 +1,11 @@
-//! Growth of a triangulated mesh by one vertex: within an edge, outside the hull or into a mesh
-//! without edges. Inside a face `insert_into_triangle` of the mesh does it.
+//! Growth of a triangulated mesh by one vertex, within an edge or outside the hull. Inside a face
+//! `insert_into_triangle` of the mesh does it.
 #![tactic(auto)]
 
 mod free_by_default;
 mod outside;
 mod room;
 mod within_edge;
-mod without_edges;
 
 pub use free_by_default::FreeByDefault;
 
@@ -14,4 +13,3 @@ pub use free_by_default::FreeByDefault;
 pub use outside::insert_outside;
 pub use room::reserve_for_vertices;
 pub use within_edge::insert_within_edge;
-pub use without_edges::insert_without_edges;

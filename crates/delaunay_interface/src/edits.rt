@@ -1,26 +1,19 @@
-//! The triangulation to begin with, and insertions, of which the hint generator is told.
-ghost use Rattle.std.specs.Prelude.{◌≡◌, ◌+◌, ◌≤◌, length};
+//! Insertions, of which the hint generator is told.
+ghost use Rattle.std.specs.Prelude.{◌+◌, ◌≤◌, length};
 ghost use Rattle.delaunay_edit.specs.half_edge_links.declared.room.TheConstants.{MAX_ELEMENTS};
 ghost use Rattle.delaunay_edit.specs.plane.Tests.{InRange};
 ghost use Rattle.delaunay_edit.specs.delaunay_legalization.Flips.{CountsFlips, FlipsFit};
-ghost use Rattle.delaunay_edit.specs.delaunay_legalization.State.{state_of};
 ghost use Rattle.delaunay_edit.specs.Edits.{AreSitesWith, InsertsVertex};
 ghost use Rattle.delaunay_edit.specs.Headline.{AreSites, IsDelaunay};
-ghost use Rattle.delaunay_edit.specs.Storage.{IsEmptyState};
 
 use crate::triangulation_core::TriangulationCore;
 use delaunay_edit::delaunay_core::HintGenerator;
 use delaunay_edit::delaunay_core::math::{InsertionError, PlaneTests, validate_vertex};
 use delaunay_edit::delaunay_core::point::HasPosition;
 use delaunay_edit::delaunay_insertion::{FreeByDefault, reserve_for_vertices};
-use delaunay_edit::delaunay_legalization::{EdgeSet, legalize_vertex};
 use delaunay_edit::delaunay_location::{PositionInTriangulation, locate_with_hint};
-use delaunay_edit::delaunay_paths::CrossingLists;
-use delaunay_edit::delaunay_removal::RemovalLists;
-use delaunay_edit::half_edge_mesh::{Dcel, FixedVertexHandle};
+use delaunay_edit::half_edge_mesh::FixedVertexHandle;
 use delaunay_edit::{EdgeData, insert_at};
-use std::alloc::Global;
-use std::marker::PhantomData;
 
 impl<
     V: HasPosition + Drop,
@@ -30,24 +23,6 @@ impl<
     L: HintGenerator<V::Scalar>,
     M: EdgeData<UE> + FreeByDefault<UE>,
 > TriangulationCore<V, DE, UE, F, L, M> {
-    // The triangulation of a mesh with nothing but its outer face.
-    pub(crate) fn of_empty(dcel: Dcel<V, DE, UE, F>, alloc: Global) -> Self
-        requires { IsEmptyState F.is_default (state_of dcel) }
-        ensures state { result ≡ state_of dcel }
-        ensures headline { IsDelaunay V.place M.constraints result }
-    {
-        TriangulationCore {
-            dcel,
-            work: EdgeSet::new(alloc),
-            lists: RemovalLists::new(alloc),
-            crossing: CrossingLists::new(alloc),
-            num_constraints: 0,
-            hint_generator: L::new(alloc),
-            alloc,
-            marks: PhantomData,
-        }
-    }
-
     /// Does what `insert` does, and adds the number of flips to `flips`. A count below 2^63 has
     /// room for them, as `flips_fit` says, a lemma of `spade_delaunay`; so has what one insertion
     /// counted from 0, by `first_count_is_small`. `counted_flips` is both:
@@ -111,9 +86,10 @@ impl<
                 let is_free = self.num_constraints == 0;
                 reserve_for_vertices(&mut self.dcel, &mut self.work, 1, is_free)?;
                 let dcel = &mut self.dcel;
-                let (vertex, more) = insert_at::<M, _, _, _, _, _>(dcel, location, value, tests);
                 let work = &mut self.work;
-                legalize_vertex::<M, _, _, _, _, _>(dcel, vertex, is_free, tests, work, flips);
+                let (vertex, more) = insert_at::<M, _, _, _, _, _>(
+                    dcel, location, value, is_free, tests, work, flips,
+                );
                 self.num_constraints += more;
                 self.hint_generator
                     .notify_vertex_inserted(vertex, position, tests);

@@ -10,13 +10,16 @@ use delaunay_edit::delaunay_core::HintGenerator;
 use delaunay_edit::delaunay_core::math::{InsertionError, PlaneTests};
 use delaunay_edit::delaunay_core::point::HasPosition;
 use delaunay_edit::delaunay_insertion::{FreeByDefault, reserve_for_vertices};
-use delaunay_edit::delaunay_removal::remove_vertex;
+use delaunay_edit::delaunay_legalization::EdgeSet;
+use delaunay_edit::delaunay_paths::CrossingLists;
+use delaunay_edit::delaunay_removal::{RemovalLists, remove_vertex};
 use delaunay_edit::half_edge_mesh::{
     Dcel, FixedDirectedEdgeHandle, FixedFaceHandle, FixedUndirectedEdgeHandle, FixedVertexHandle,
     MAX_ELEMENTS, ReserveError,
 };
 use delaunay_edit::{EdgeData, reserve_to_join, settle};
 use std::alloc::{AllocError, Global};
+use std::marker::PhantomData;
 
 impl<V: HasPosition, DE, UE, F, L: HintGenerator<V::Scalar>, M: EdgeData<UE>> sealed::Sealed
     for TriangulationCore<V, DE, UE, F, L, M> {}
@@ -72,7 +75,16 @@ impl<
     }
 
     fn new(alloc: Global) -> Self {
-        TriangulationCore::of_empty(Dcel::new(alloc), alloc)
+        TriangulationCore {
+            dcel: Dcel::new(alloc),
+            work: EdgeSet::new(alloc),
+            lists: RemovalLists::new(alloc),
+            crossing: CrossingLists::new(alloc),
+            num_constraints: 0,
+            hint_generator: L::new(alloc),
+            alloc,
+            marks: PhantomData,
+        }
     }
 
     fn with_capacity(
@@ -81,8 +93,10 @@ impl<
         undirected_edges: usize,
         faces: usize,
     ) -> Result<Self, InsertionError> {
-        match Dcel::with_capacity(alloc, vertices, undirected_edges, faces) {
-            Ok(dcel) => Ok(TriangulationCore::of_empty(dcel, alloc)),
+        let mut made = Self::new(alloc);
+        let dcel = &mut made.dcel;
+        match dcel.reserve_capacity(vertices, undirected_edges, faces) {
+            Ok(()) => Ok(made),
             Err(ReserveError::TooMany) => Err(InsertionError::OutOfIndexes),
             Err(ReserveError::OutOfMemory) => Err(InsertionError::OutOfMemory),
         }
