@@ -11,7 +11,6 @@ pub use Rattle.delaunay_legalization.proofs as delaunay_legalization_lemmas
 -- What answers to tests say.
 pub mod Distances
 pub mod Questions
-pub mod Searches
 pub mod Sides
 -- Where a position is: the walk from face to face, and points on one line.
 pub mod Walking

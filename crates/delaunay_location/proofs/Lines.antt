@@ -106,6 +106,14 @@ module _ (n : ℕ) (p : ℕ → Point) (outer : List (ℕ × ℕ)) (m : SignLine
         (on_line end near.first) (on_line k h) behind (less_if_not_same (spot end) (spot k)
         (none_behind k h) (λ e. differ (sym (places.same end k near.first h e))))
 
+-- each edge of a line has the outer face on its left
+pub all_outer : {V D U F : Type 0} {at : V → Point} {s : State V D U F} → IsTriangulated at s
+    → length s.faces ≡ 0 → (e : ℕ) → e < length s.directed → face s.mesh e ≡ 0
+all_outer {at = at} {s = s} kept bare e w =
+    let inside = (kept.valid.sound.edges e (mesh_edge at s kept e w).within).face_in in
+    let fit = kept.fits.faces_fit in
+    omega (arith, inside, fit, bare)
+
 module _ {V D U F : Type 0} {at : V → Point} {s : State V D U F} (kept : IsTriangulated at s)
     (p : Point) (bare : length s.faces ≡ 0) where
   abbrev points : List Point
@@ -118,13 +126,6 @@ module _ {V D U F : Type 0} {at : V → Point} {s : State V D U F} (kept : IsTri
   no_face = nil_from_length (faces_of m) (length-map (triangles m) corners_of
       ∙ length-map m.face_edges (triangle_at m) ∙ sym kept.fits.faces_fit ∙ bare)
 
-  -- each edge of a line has the outer face on its left
-  pub all_outer : (e : ℕ) → e < length s.directed → face m e ≡ 0
-  all_outer e w =
-      let inside = (kept.valid.sound.edges e (mesh_edge at s kept e w).within).face_in in
-      let fit = kept.fits.faces_fit in
-      omega (arith, inside, fit, bare)
-
   -- a position found strictly on the right of an edge is located outside, by its other direction
   pub located_right : {S : Type 0} {number : S → ℤ} {IsCovered : Point → Type 0} {stop : Stop S}
       {found : Side} {back : ℕ} → IsStop number IsCovered points m (length s.directed) stop
@@ -135,7 +136,7 @@ module _ {V D U F : Type 0} {at : V → Point} {s : State V D U F} (kept : IsTri
       subst (λ k. Locates points m p (OutsideOfConvexHull k)) (sym same) (located_left points m p
       (place_of number stop.to) (place_of number stop.from) (rev stop.edge) turned.from turned.to
       (mesh_edge at s kept (rev stop.edge) turned.within)
-      (all_outer (rev stop.edge) turned.within)
+      (all_outer kept bare (rev stop.edge) turned.within)
       (side_swapped (whole (place_of number stop.from)) (whole (place_of number stop.to)) (whole p)
       ∙ ap opposite (sym is ∙ at_right)))
 
@@ -157,7 +158,7 @@ module _ {V D U F : Type 0} {at : V → Point} {s : State V D U F} (kept : IsTri
     here : IsOuterEdge m e (origin m e) (origin m (rev e))
     here = record {
       within = own.within;
-      outer = all_outer e w;
+      outer = all_outer kept bare e w;
       source = refl;
       target = refl;
     }
@@ -183,6 +184,6 @@ module _ {V D U F : Type 0} {at : V → Point} {s : State V D U F} (kept : IsTri
     -- a position beyond the start of the only edge there is located past this end of the line
     pub located_past : Locates points m p (OutsideOfConvexHull e)
     located_past = record {
-      handle = (own.within, all_outer e w);
-      location = ((own.joined, own.bare (all_outer e w)), inr past);
+      handle = (own.within, all_outer kept bare e w);
+      location = ((own.joined, own.bare (all_outer kept bare e w)), inr past);
     }

@@ -49,11 +49,13 @@ module _ (points : List Point) (m : Mesh) (p a b c : Point) (f : ℕ) where
   inside_face first second third =
       ((λ w. rw (← first, ← second, ← third) w), (λ w. rw (first, second, third) w))
 
-  -- the corners of a face of the mesh turn left
-  pub turns_as_face : IsMeshFace points m f → a ≡ point_at points (origin m h)
-      → b ≡ point_at points (origin m (next m h)) → c ≡ point_at points (origin m (prev m h))
-      → TurnsLeft (whole a) (whole b) (whole c)
-  turns_as_face s first second third = rw (first, second, third) s.turning
+-- the corners of a face of the mesh turn left
+pub turns_as_face : {points : List Point} {m : Mesh} {a b c : Point} {f : ℕ}
+    → IsMeshFace points m f → a ≡ point_at points (origin m (face_edge m f))
+    → b ≡ point_at points (origin m (next m (face_edge m f)))
+    → c ≡ point_at points (origin m (prev m (face_edge m f)))
+    → TurnsLeft (whole a) (whole b) (whole c)
+turns_as_face s first second third = rw (first, second, third) s.turning
 
 -- what holds of each face up to i, and of the next one
 pub next_face : (P : ℕ → Type 0) (i : ℕ) → ((f : ℕ) → 0 < f → f ≤ i → P f) → P (i + 1) → (f : ℕ)

@@ -10,7 +10,6 @@ pub use Rattle.delaunay_legalization.specs.delaunay_core as delaunay_core
 pub use Rattle.delaunay_legalization.specs.mesh_embedding as mesh_embedding
 pub use Rattle.delaunay_legalization.specs as delaunay_legalization
 pub mod Location
-pub mod Seeking
-pub mod Search
+pub mod Distances
 pub mod Stop
 pub mod Candidate

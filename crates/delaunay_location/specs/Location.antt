@@ -1,5 +1,5 @@
 -- What an answer to a location says: vertices in place of handles.
-use Rattle.std.specs.Prelude.{◌≡◌, ℕ, ◌<◌, ◌≤ℤ◌, List, length}
+use Rattle.std.specs.Prelude.{◌≡◌, ℕ, ℤ, ◌<◌, ◌≤◌, ◌≤ℤ◌, List, length, map, Option, Some, None}
 use Rattle.delaunay_legalization.specs.half_edge_mesh.Mesh.{Mesh, origin, face, face_edge, rev}
 use Rattle.delaunay_legalization.specs.half_edge_mesh.Mesh.{IsInner}
 use Rattle.delaunay_legalization.specs.half_edge_mesh.Triangles.{triangle_at}
@@ -15,7 +15,10 @@ use Rattle.delaunay_location.specs.declared.position_in_triangulation.PositionIn
 use Rattle.delaunay_location.specs.declared.position_in_triangulation.PositionInTriangulation.TheVariants.{OnFace}
 use Rattle.delaunay_location.specs.declared.position_in_triangulation.PositionInTriangulation.TheVariants.{OutsideOfConvexHull}
 use Rattle.delaunay_location.specs.declared.position_in_triangulation.PositionInTriangulation.TheVariants.{NoTriangulation}
-use Rattle.delaunay_legalization.specs.Parts.{IsWithinEdge}
+use Rattle.delaunay_legalization.specs.delaunay_core.Place.{place_of}
+use Rattle.delaunay_legalization.specs.delaunay_core.declared.point.Point2.{Point2}
+use Rattle.delaunay_legalization.specs.Parts.{IsApart, IsInsideFaceOf, IsWithinEdge}
+use Rattle.delaunay_legalization.specs.Placed.{Reading}
 use Rattle.delaunay_legalization.specs.mesh_embedding.Drawn.{drawn}
 
 -- the location that an answer says, by the vertices of the part that it names
@@ -62,3 +65,34 @@ abbrev pub IsLeftOfPlace : List Point → Mesh → Point → PositionInTriangula
 IsLeftOfPlace points m p (OutsideOfConvexHull e) =
     TurnsLeft (place points (origin m e)) (place points (origin m (rev e))) (whole p)
 IsLeftOfPlace points m p _ = ⊥
+
+-- the same of a position in a mesh with its points
+module _ {V D U F P S : Type 0} (at : V → Point) (number : S → ℤ) (s : Reading V D U F P)
+    (point : Point2 S) where
+  -- the answer is where the position is
+  abbrev pub IsPlaceOf : PositionInTriangulation → Type 0
+  IsPlaceOf = Locates (map at s.dcel.vertices) s.dcel.mesh (place_of number point)
+
+  -- no vertex has it
+  abbrev pub IsAtNoVertex : Type 0
+  IsAtNoVertex = IsApart (map at s.dcel.vertices) (place_of number point)
+
+  -- it is neither within directed edge e nor outside and on the left of e
+  abbrev pub IsClear : ℕ → Type 0
+  IsClear = IsClearOfEdge (map at s.dcel.vertices) s.dcel.mesh (place_of number point)
+
+  -- the answer is where it is, or it is clear of each directed edge
+  abbrev pub IsPlaceAtEdge : Option PositionInTriangulation → Type 0
+  IsPlaceAtEdge (Some answer) = IsPlaceOf answer
+  IsPlaceAtEdge None = (e : ℕ) → e < length s.dcel.directed → IsClear e
+
+  -- it is strictly inside inner face f
+  abbrev pub IsInFace : ℕ → Type 0
+  IsInFace f =
+      let m = s.dcel.mesh in
+      IsInsideFaceOf (map at s.dcel.vertices) m (place_of number point) (face_edge m f)
+
+  -- it is strictly inside this inner face, or inside none
+  abbrev pub IsFaceAround : Option ℕ → Type 0
+  IsFaceAround (Some f) = (0 < f) × (f ≤ length s.dcel.faces) × IsInFace f
+  IsFaceAround None = (f : ℕ) → 0 < f → f ≤ length s.dcel.faces → ¬ IsInFace f

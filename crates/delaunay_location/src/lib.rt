@@ -10,7 +10,6 @@ mod location;
 mod nearest_walk;
 mod position_in_triangulation;
 mod samples;
-mod search;
 mod steps;
 mod vertex_distance;
 mod walk;

@@ -14,7 +14,7 @@ ghost use Rattle.delaunay_legalization.specs.Shape.{IsTriangulated};
 ghost use Rattle.delaunay_legalization.specs.State.{state_of, triangulation_of};
 ghost use Rattle.delaunay_location.specs.Candidate.{EndsNoNearer, HasNoNearerNeighbor, IsCandidate};
 ghost use Rattle.delaunay_location.specs.Candidate.{IsMoveCount, IsNearerCandidate, IsReached};
-ghost use Rattle.delaunay_location.specs.Seeking.{CanMeasure};
+ghost use Rattle.delaunay_location.specs.Distances.{CanMeasure};
 
 use crate::samples::nearer_sample;
 use crate::vertex_distance::distance_2_to;

@@ -5,7 +5,7 @@ ghost use Rattle.delaunay_legalization.specs.plane.Circle.{IsNearer};
 ghost use Rattle.delaunay_legalization.specs.plane.Tiling.{vertex};
 ghost use Rattle.delaunay_legalization.specs.delaunay_core.Place.{place_of};
 ghost use Rattle.delaunay_legalization.specs.State.{state_of, triangulation_of};
-ghost use Rattle.delaunay_location.specs.Seeking.{CanMeasure};
+ghost use Rattle.delaunay_location.specs.Distances.{CanMeasure};
 
 use crate::vertex_distance::is_nearer;
 use delaunay_legalization::delaunay_core::point::{HasPosition, Point2};

@@ -4,7 +4,7 @@ ghost use Rattle.delaunay_legalization.specs.plane.Fraction.{whole as fraction};
 ghost use Rattle.delaunay_legalization.specs.plane.Circle.{gap};
 ghost use Rattle.delaunay_legalization.specs.plane.Pairs.{place};
 ghost use Rattle.delaunay_legalization.specs.delaunay_core.Place.{place_of};
-ghost use Rattle.delaunay_location.specs.Seeking.{CanMeasure};
+ghost use Rattle.delaunay_location.specs.Distances.{CanMeasure};
 
 use delaunay_legalization::delaunay_core::point::{HasPosition, Point2};
 use delaunay_legalization::half_edge_mesh::{Dcel, FixedVertexHandle};

@@ -3,21 +3,21 @@ ghost use Rattle.std.specs.Prelude.{◌<◌, length, map, All, IfSome};
 ghost use Rattle.delaunay_legalization.specs.delaunay_core.Place.{place_of};
 ghost use Rattle.delaunay_legalization.specs.Shape.{IsTriangulated};
 ghost use Rattle.delaunay_legalization.specs.State.{state_of};
-ghost use Rattle.delaunay_location.specs.Location.{Locates};
-ghost use Rattle.delaunay_location.specs.Search.{IsPlaceOf};
-ghost use Rattle.delaunay_location.specs.Seeking.{CanMeasure};
+ghost use Rattle.delaunay_location.specs.Distances.{CanMeasure};
+ghost use Rattle.delaunay_location.specs.Location.{IsPlaceOf, Locates};
 ghost use Rattle.delaunay_location.specs.Stop.{IsWalkOf};
 
+use crate::line::place_on_line;
+use crate::location::place_by_scan;
 use crate::position_in_triangulation::PositionInTriangulation;
 use crate::samples::nearer_sample;
-use crate::search::Search;
-use crate::steps::{Step, Stop};
+use crate::steps::{Step, Stop, ends_of, way_near_hull, way_through};
 use delaunay_legalization::delaunay_core::math::PlaneTests;
 use delaunay_legalization::delaunay_core::point::{HasPosition, Point2};
 use delaunay_legalization::half_edge_mesh::{
     Dcel, FixedDirectedEdgeHandle, FixedVertexHandle, MeshViews,
 };
-use delaunay_legalization::{is_same_point, is_strictly_within};
+use delaunay_legalization::{Placed, is_same_point, is_strictly_within};
 
 // After so many steps a walk looks for a nearer vertex anywhere in the mesh.
 pub(crate) const FEW_STEPS: usize = 16;
@@ -30,91 +30,97 @@ pub(crate) enum Walked {
     Reached(FixedDirectedEdgeHandle),
 }
 
-impl<'a, V: HasPosition, DE, UE, F, P: PlaneTests<V::Scalar>> Search<'a, V, DE, UE, F, P> {
-    // The location of a position on an edge: at one of its ends, or within it.
-    #[inline(never)]
-    pub(crate) fn place_on_edge(
-        &self,
-        edge: FixedDirectedEdgeHandle,
-    ) -> Option<PositionInTriangulation>
-        requires { edge < length self.now.dcel.directed }
-        ensures { IfSome result (IsPlaceOf V.place self.now) }
-    {
-        let (from, to) = self.ends_of(edge);
-        let here = self.dcel.directed_edge(edge);
-        if is_same_point(from, self.point) {
-            return Some(PositionInTriangulation::OnVertex(here.from().fix()));
-        }
-        if is_same_point(to, self.point) {
-            return Some(PositionInTriangulation::OnVertex(here.to().fix()));
-        }
-        if is_strictly_within(from, to, self.point, self.tests) {
-            return Some(PositionInTriangulation::OnEdge(edge));
-        }
-        None
+// The location of a position on an edge: at one of its ends, or within it.
+#[inline(never)]
+pub(crate) fn place_on_edge<V: HasPosition, DE, UE, F, P: PlaneTests<V::Scalar>>(
+    placed: &Placed<'_, V, DE, UE, F, P>,
+    point: Point2<V::Scalar>,
+    edge: FixedDirectedEdgeHandle,
+) -> Option<PositionInTriangulation>
+    requires within { edge < length placed.now.dcel.directed }
+    requires covered { P.covered placed.now.tests (place_of V.Scalar.whole point) }
+    ensures { IfSome result (IsPlaceOf V.place V.Scalar.whole placed.now point) }
+{
+    let (from, to) = ends_of(placed, edge);
+    let here = placed.dcel.directed_edge(edge);
+    if is_same_point(from, point) {
+        return Some(PositionInTriangulation::OnVertex(here.from().fix()));
     }
+    if is_same_point(to, point) {
+        return Some(PositionInTriangulation::OnVertex(here.to().fix()));
+    }
+    if is_strictly_within(from, to, point, placed.tests) {
+        return Some(PositionInTriangulation::OnEdge(edge));
+    }
+    None
+}
 
-    // Where a walk from an edge ends, or is after a number of steps, each from the face on the left
-    // of an edge.
-    //
-    // A face near the hull is told apart before it is known which side leads on. So the records of
-    // both sides are asked for while the corner between them is on its way from memory, and the
-    // next step does not wait for its own.
-    fn walk_on(&self, edge: FixedDirectedEdgeHandle, steps: usize) -> Walked
-        requires { edge < length self.now.dcel.directed }
-        ensures { IsWalkOf V.place self.now result }
-    {
-        let (from, to) = self.ends_of(edge);
-        let mut stop = Stop { edge, from, to };
-        for _ in 0..steps {
-            let here = self.dcel.directed_edge(stop.edge);
-            let step = if here.is_outer_edge()
-                || here.prev().rev().is_outer_edge()
-                || here.next().rev().is_outer_edge()
-            {
-                self.way_near_hull(stop)
-            } else {
-                self.way_through(stop)
-            };
-            match step {
-                Step::Beyond(side) => {
-                    stop = Stop {
-                        edge: side.edge.rev(),
-                        from: side.to,
-                        to: side.from,
-                    };
-                }
-                Step::Found(place) => return Walked::Ended(Some(place)),
-                Step::OnSide(side) => return Walked::Ended(self.place_on_edge(side)),
+// Where a walk from an edge ends, or is after a number of steps, each from the face on the left
+// of an edge.
+//
+// A face near the hull is told apart before it is known which side leads on. So the records of
+// both sides are asked for while the corner between them is on its way from memory, and the
+// next step does not wait for its own.
+fn walk_on<V: HasPosition, DE, UE, F, P: PlaneTests<V::Scalar>>(
+    placed: &Placed<'_, V, DE, UE, F, P>,
+    point: Point2<V::Scalar>,
+    edge: FixedDirectedEdgeHandle,
+    steps: usize,
+) -> Walked
+    requires within { edge < length placed.now.dcel.directed }
+    requires covered { P.covered placed.now.tests (place_of V.Scalar.whole point) }
+    ensures { IsWalkOf V.place V.Scalar.whole placed.now point result }
+{
+    let (from, to) = ends_of(placed, edge);
+    let mut stop = Stop { edge, from, to };
+    for _ in 0..steps {
+        let here = placed.dcel.directed_edge(stop.edge);
+        let step = if here.is_outer_edge()
+            || here.prev().rev().is_outer_edge()
+            || here.next().rev().is_outer_edge()
+        {
+            way_near_hull(placed, point, stop)
+        } else {
+            way_through(placed, point, stop)
+        };
+        match step {
+            Step::Beyond(side) => {
+                stop = Stop {
+                    edge: side.edge.rev(),
+                    from: side.to,
+                    to: side.from,
+                };
             }
+            Step::Found(place) => return Walked::Ended(Some(place)),
+            Step::OnSide(side) => return Walked::Ended(place_on_edge(placed, point, side)),
         }
-        Walked::Reached(stop.edge)
     }
+    Walked::Reached(stop.edge)
+}
 
-    // Where a position is, by a walk from a vertex, or from vertex 0 where there is no such vertex.
-    // There is no answer where there are no edges, and where the walk has not ended after as many
-    // steps as there are directed edges: it goes round in a circle then. Among faces that pass the
-    // circle test it ends earlier. A long walk goes on at a vertex all over the mesh, if one of
-    // those looked at is nearer.
-    fn walk_from(&self, hint: FixedVertexHandle) -> Option<PositionInTriangulation>
-        ensures { IfSome result (IsPlaceOf V.place self.now) }
-    {
-        let vertex = match self.dcel.get_vertex(hint) {
-            Some(vertex) => vertex,
-            None => self.dcel.get_vertex(FixedVertexHandle::from_index(0))?,
-        };
-        let start = vertex.out_edge()?.fix();
-        if self.dcel.num_inner_faces() == 0 {
-            return self.place_on_line(start);
-        }
-        let edge = match self.walk_on(start, FEW_STEPS) {
-            Walked::Ended(place) => return place,
-            Walked::Reached(edge) => nearer_edge(self.dcel, edge, self.point),
-        };
-        match self.walk_on(edge, self.dcel.num_directed_edges()) {
-            Walked::Ended(place) => place,
-            Walked::Reached(_) => None,
-        }
+// Where a position is, by a walk from an edge. There is no answer where the walk has not ended after
+// as many steps as there are directed edges: it goes round in a circle then. Among faces that pass
+// the circle test it ends earlier. A long walk goes on at a vertex all over the mesh, if one of
+// those looked at is nearer.
+fn walk_from<V: HasPosition, DE, UE, F, P: PlaneTests<V::Scalar>>(
+    placed: &Placed<'_, V, DE, UE, F, P>,
+    point: Point2<V::Scalar>,
+    start: FixedDirectedEdgeHandle,
+) -> Option<PositionInTriangulation>
+    requires within { start < length placed.now.dcel.directed }
+    requires covered { P.covered placed.now.tests (place_of V.Scalar.whole point) }
+    ensures { IfSome result (IsPlaceOf V.place V.Scalar.whole placed.now point) }
+{
+    if placed.dcel.num_inner_faces() == 0 {
+        return place_on_line(placed, point, start);
+    }
+    let edge = match walk_on(placed, point, start, FEW_STEPS) {
+        Walked::Ended(place) => return place,
+        Walked::Reached(edge) => nearer_edge(placed.dcel, edge, point),
+    };
+    match walk_on(placed, point, edge, placed.dcel.num_directed_edges()) {
+        Walked::Ended(place) => place,
+        Walked::Reached(_) => None,
     }
 }
 
@@ -154,9 +160,19 @@ pub fn locate_with_hint<V: HasPosition, DE, UE, F, P: PlaneTests<V::Scalar>>(
     ensures { Locates (map V.place dcel.now.vertices) dcel.now.mesh (place_of V.Scalar.whole point)
         result }
 {
-    let search = Search { dcel, point, tests };
-    match search.walk_from(hint) {
+    let vertex = match dcel.get_vertex(hint) {
+        Some(vertex) => vertex,
+        None => match dcel.get_vertex(FixedVertexHandle::from_index(0)) {
+            Some(vertex) => vertex,
+            None => return PositionInTriangulation::NoTriangulation,
+        },
+    };
+    let placed = Placed { dcel, tests };
+    let Some(start) = vertex.out_edge() else {
+        return place_by_scan(&placed, point);
+    };
+    match walk_from(&placed, point, start.fix()) {
         Some(place) => place,
-        None => search.place_by_scan(),
+        None => place_by_scan(&placed, point),
     }
 }

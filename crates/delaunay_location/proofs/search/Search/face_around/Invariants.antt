@@ -1,8 +1,0 @@
-use Rattle.std.proofs.Common.{◌<◌, ◌≤◌, ℕ}
-use Rattle.delaunay_location.specs.Search.{IsInFace}
-use Rattle.delaunay_location.proofs.search.Search.face_around.Given as goal
-
-abbrev pub invariant-loop-index : goal.invariant-loop-index
-invariant-loop-index g l =
-    (f : ℕ) → 0 < f → f ≤ l.index
-    → ¬ IsInFace g.V.HasPosition.place l.self f

@@ -1,7 +1,0 @@
-use Rattle.std.proofs.Common.{◌<◌, ℕ}
-use Rattle.delaunay_location.specs.Search.{IsClear}
-use Rattle.delaunay_location.proofs.search.Search.place_at_edges.Given as goal
-
-abbrev pub invariant-loop-index : goal.invariant-loop-index
-invariant-loop-index g l =
-    (h : ℕ) → h < l.index → IsClear g.V.HasPosition.place l.self h

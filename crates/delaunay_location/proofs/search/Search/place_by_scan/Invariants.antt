@@ -1,8 +1,0 @@
-use Rattle.std.proofs.Common.{◌≡◌, ◌<◌, ℕ, map}
-use Rattle.delaunay_legalization.specs.Known.{point_at}
-use Rattle.delaunay_location.proofs.search.Search.place_by_scan.Given as goal
-
-abbrev pub invariant-loop-index : goal.invariant-loop-index
-invariant-loop-index g l =
-    (k : ℕ) → k < l.index
-    → ¬ (point_at (map g.V.HasPosition.place l.self.dcel.vertices) k ≡ l.self.point)
