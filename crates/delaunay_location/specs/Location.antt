@@ -60,12 +60,6 @@ pub record StartsNearest (points : List Point) (m : Mesh) (p : Point) (n e : ℕ
   pub nearest : (h : ℕ) → h < n →
       gap (whole p) (place points (origin m e)) ≤ℤ gap (whole p) (place points (origin m h))
 
--- the edge that the answer names has p strictly on its left
-abbrev pub IsLeftOfPlace : List Point → Mesh → Point → PositionInTriangulation → Type 0
-IsLeftOfPlace points m p (OutsideOfConvexHull e) =
-    TurnsLeft (place points (origin m e)) (place points (origin m (rev e))) (whole p)
-IsLeftOfPlace points m p _ = ⊥
-
 -- the same of a position in a mesh with its points
 module _ {V D U F P S : Type 0} (at : V → Point) (number : S → ℤ) (s : Reading V D U F P)
     (point : Point2 S) where

@@ -98,10 +98,10 @@ fn walk_on<V: HasPosition, DE, UE, F, P: PlaneTests<V::Scalar>>(
     Walked::Reached(stop.edge)
 }
 
-// Where a position is, by a walk from an edge. There is no answer where the walk has not ended after
-// as many steps as there are directed edges: it goes round in a circle then. Among faces that pass
-// the circle test it ends earlier. A long walk goes on at a vertex all over the mesh, if one of
-// those looked at is nearer.
+// Where a position is, by a walk from an edge. There is no answer where the walk has not ended
+// after as many steps as there are directed edges: it goes round in a circle then. Among faces that
+// pass the circle test it ends earlier. A long walk goes on at a vertex all over the mesh, if one
+// of those looked at is nearer.
 fn walk_from<V: HasPosition, DE, UE, F, P: PlaneTests<V::Scalar>>(
     placed: &Placed<'_, V, DE, UE, F, P>,
     point: Point2<V::Scalar>,

@@ -33,9 +33,10 @@ pub loop-index-preserved : goal.loop-index-preserved
 loop-index-preserved g c =
     let d = c.args.placed.now.dcel in
     let corners = c.corners_of.ensures in
-    next_face _ _ c.loop-index.invariant (λ i. both_ways _ (c.is_strictly_inside.ensures.1
-    ((inside_face (map g.V.HasPosition.place d.vertices) d.mesh _ _ _ _ _ corners.first
-    corners.second corners.third).1 (rw c.from_index-face.ensures i))) c.if-is_strictly_inside.false)
+    next_face _ _ c.loop-index.invariant (λ i. both_ways _
+    (c.is_strictly_inside.ensures.1 ((inside_face (map g.V.HasPosition.place d.vertices) d.mesh
+    _ _ _ _ _ corners.first corners.second corners.third).1 (rw c.from_index-face.ensures i)))
+    c.if-is_strictly_inside.false)
 
 pub returns : goal.returns
 returns g c f positive h =

@@ -16,10 +16,9 @@ returns-then-is_on_left_side-3 g c =
     let here = c.directed_edge-here.ensures in
     let given = rw (← c.placed.view_is) at c.requires in
     let corner = rw (← c.placed.view_is) at c.start_before-across.ensures in
-    rw (← c.placed.view_is) (located_inside c.placed.invariant.kept _ given.stop.within given.inner _
-    (c.fix-then-is_on_left_side-3.ensures.value
-    ∙ rw (here.dcel, here.index) at c.face.ensures.index)
-    given.stop.from given.stop.to corner.place
+    rw (← c.placed.view_is) (located_inside c.placed.invariant.kept _ given.stop.within
+    given.inner _ (c.fix-then-is_on_left_side-3.ensures.value
+    ∙ rw (here.dcel, here.index) at c.face.ensures.index) given.stop.from given.stop.to corner.place
     (sym c.side-at_stop.ensures
     ∙ c.is_on_left_side-then-is_on_left_side-2.ensures.0 c.if-is_on_left_side-3.true)
     (sym c.side-at_behind.ensures ∙ c.is_on_left_side.ensures.0 c.if-is_on_left_side.true)

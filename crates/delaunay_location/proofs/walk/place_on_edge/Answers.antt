@@ -37,14 +37,14 @@ returns-then-is_same_point-2 g c =
 
 pub returns-then-is_strictly_within : goal.returns-then-is_strictly_within
 returns-then-is_strictly_within g c =
-    let d = c.placed.inside.dcel.now in
-    let ends = rw (← c.placed.view_is) at c.ends_of.ensures in
+    let d = c.args.placed.now.dcel in
+    let ends = c.ends_of.ensures in
     let within = within_edge (map g.V.HasPosition.place d.vertices) d.mesh _ _ _ c.args.edge
     ends.stop.from ends.stop.to in
-    rw (← c.placed.view_is) (record {
+    record {
       handle = ends.edge.within;
       location = (
         ends.edge.joined,
         within.0 (c.is_strictly_within.ensures.0 c.if-is_strictly_within.true),
       );
-    })
+    }
