@@ -13,8 +13,8 @@ use delaunay_legalization::delaunay_core::point::{HasPosition, Point2};
 use delaunay_legalization::half_edge_mesh::{FixedDirectedEdgeHandle, MeshViews};
 use delaunay_legalization::{Placed, is_same_point, is_strictly_within};
 
-// The location of a position near the start of an edge of the line: on one of its edges, or
-// past this vertex, where it has no other. An edge is told by the first of its directions.
+// The location of a position near the start of an edge of the line: on one of its edges, or past
+// this vertex, where it has no other. An edge is told by the first of its directions.
 fn place_near<V: HasPosition, DE, UE, F, P: PlaneTests<V::Scalar>>(
     placed: &Placed<'_, V, DE, UE, F, P>,
     point: Point2<V::Scalar>,
@@ -56,8 +56,8 @@ fn ends_nearer<V: HasPosition, DE, UE, F, P: PlaneTests<V::Scalar>>(
 }
 
 // Where a walk along the line from the start of an edge ends, or is after a number of steps. It
-// begins by this edge, or by the other one there, where this one leads away from the position.
-// Past the end of the line it turns round, and ends there.
+// begins by this edge, or by the other one there, where this one leads away from the position. Past
+// the end of the line it turns round, and ends there.
 fn walk_along<V: HasPosition, DE, UE, F, P: PlaneTests<V::Scalar>>(
     placed: &Placed<'_, V, DE, UE, F, P>,
     point: Point2<V::Scalar>,

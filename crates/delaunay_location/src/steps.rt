@@ -45,9 +45,9 @@ pub(crate) fn ends_of<V: HasPosition, DE, UE, F, P: PlaneTests<V::Scalar>>(
     (placed.start_of(edge), placed.start_of(to))
 }
 
-// The step from the inner face on the left of an edge: across a side that has the position
-// strictly on its right, of which the edge itself is looked at last; else the face, where the
-// position is strictly inside, or the side that it is on.
+// The step from the inner face on the left of an edge: across a side that has the position strictly
+// on its right, of which the edge itself is looked at last; else the face, where the position is
+// strictly inside, or the side that it is on.
 #[inline(always)]
 pub(crate) fn way_through<V: HasPosition, DE, UE, F, P: PlaneTests<V::Scalar>>(
     placed: &Placed<'_, V, DE, UE, F, P>,

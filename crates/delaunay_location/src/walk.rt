@@ -55,12 +55,12 @@ pub(crate) fn place_on_edge<V: HasPosition, DE, UE, F, P: PlaneTests<V::Scalar>>
     None
 }
 
-// Where a walk from an edge ends, or is after a number of steps, each from the face on the left
-// of an edge.
+// Where a walk from an edge ends, or is after a number of steps, each from the face on the left of
+// an edge.
 //
-// A face near the hull is told apart before it is known which side leads on. So the records of
-// both sides are asked for while the corner between them is on its way from memory, and the
-// next step does not wait for its own.
+// A face near the hull is told apart before it is known which side leads on. So the records of both
+// sides are asked for while the corner between them is on its way from memory, and the next step
+// does not wait for its own.
 fn walk_on<V: HasPosition, DE, UE, F, P: PlaneTests<V::Scalar>>(
     placed: &Placed<'_, V, DE, UE, F, P>,
     point: Point2<V::Scalar>,
