@@ -160,12 +160,12 @@ pub fn locate_with_hint<V: HasPosition, DE, UE, F, P: PlaneTests<V::Scalar>>(
     ensures { Locates (map V.place dcel.now.vertices) dcel.now.mesh (place_of V.Scalar.whole point)
         result }
 {
-    let vertex = match dcel.get_vertex(hint) {
-        Some(vertex) => vertex,
-        None => match dcel.get_vertex(FixedVertexHandle::from_index(0)) {
-            Some(vertex) => vertex,
-            None => return PositionInTriangulation::NoTriangulation,
-        },
+    let vertex = if (hint.index() as usize) < dcel.num_vertices() {
+        dcel.vertex(hint)
+    } else if dcel.num_vertices() > 0 {
+        dcel.vertex(FixedVertexHandle::from_index(0))
+    } else {
+        return PositionInTriangulation::NoTriangulation;
     };
     let placed = Placed { dcel, tests };
     let Some(start) = vertex.out_edge() else {
