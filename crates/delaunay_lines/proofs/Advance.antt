@@ -24,16 +24,18 @@ use Rattle.delaunay_location.proofs.delaunay_legalization_lemmas.ElementCounts.{
 use Rattle.delaunay_location.specs.delaunay_core.Place.{place_of}
 use Rattle.delaunay_location.specs.delaunay_legalization.Known.{point_at}
 use Rattle.delaunay_location.specs.delaunay_legalization.State.{state_of}
+use Rattle.delaunay_location.specs.delaunay_legalization.Placed.{IsPlaced}
 use Rattle.delaunay_lines.specs.declared.iterator.LineIntersectionIterator.{LineIntersectionIterator}
 use Rattle.delaunay_lines.specs.declared.intersection.FixedIntersection.{FixedIntersection}
 use Rattle.delaunay_lines.specs.declared.intersection.FixedIntersection.TheVariants.{Vertex}
 use Rattle.delaunay_lines.specs.Items.{item_of, IsHandleOf}
-use Rattle.delaunay_lines.specs.Steps.{IsOverMesh, IsNext}
-use Rattle.delaunay_lines.specs.Walk.{ComeAfter, AreFrom, IsReady, Starts, WalksLine}
+use Rattle.delaunay_lines.specs.Steps.{IsNext}
+use Rattle.delaunay_lines.specs.Walk.{ComeAfter, AreFrom, IsOverMesh, IsReady, Starts}
+use Rattle.delaunay_lines.specs.Walk.{WalksLine}
 use Rattle.delaunay_lines.proofs.MeshSteps.{laid}
 
-module _ {V D U F : Type 0} {at : V → Point} {IsSite IsCovered : Point → Type 0}
-    {c : Contents V D U F} {p q : Point} (over : IsOverMesh at IsSite IsCovered c p q)
+module _ {V D U F P : Type 0} {at : V → Point} {IsSite : P → Point → Type 0}
+    {c : Contents V D U F} {tests : P} (placed : IsPlaced at IsSite c tests) (p q : Point)
     (i : FixedIntersection) (items : List Item) (left : AreFrom at c p q (Some i) items) where
   -- the others are left after the current one
   abbrev pub Others : Option FixedIntersection → Type 0
@@ -49,13 +51,13 @@ module _ {V D U F : Type 0} {at : V → Point} {IsSite IsCovered : Point → Typ
   one_further apart None last = (
     left.1.0,
     left.1.1,
-    (rest_falls (drawn (map at c.vertices) c.mesh) (laid over)
+    (rest_falls (drawn (map at c.vertices) c.mesh) (laid placed)
         (whole p) (whole q) (λ e. apart (one_point p q e))).2 (item_of c.mesh i) left.1.0
         (left.1.2.goes_on apart)
         last,
   )
   one_further apart (Some n) next =
-      let f = (rest_falls (drawn (map at c.vertices) c.mesh) (laid over)
+      let f = (rest_falls (drawn (map at c.vertices) c.mesh) (laid placed)
       (whole p) (whole q)
       (λ e. apart (one_point p q e))).1 (item_of c.mesh i) (item_of c.mesh n) left.1.0
       (left.1.2.goes_on apart)
@@ -155,17 +157,17 @@ begins_at_vertex t p q laid (inl same) v is at = record {
 }
 
 -- ---- the same of a mesh
-module _ {V D U F : Type 0} {at : V → Point} {IsSite IsCovered : Point → Type 0}
-    {c : Contents V D U F} {p q : Point} (over : IsOverMesh at IsSite IsCovered c p q) where
+module _ {V D U F P : Type 0} {at : V → Point} {IsSite : P → Point → Type 0}
+    {c : Contents V D U F} {tests : P} (placed : IsPlaced at IsSite c tests) where
   few_in : (n : ℕ) → n ≤ length (map at c.vertices) + length (edges_of c.mesh) →
       n ≤ length c.vertices + length c.undirected
   few_in n h =
       let e = length-map c.vertices at in
-      let f = edges_counted c over.mesh in
+      let f = edges_counted c (record { valid = placed.kept.valid; fits = placed.kept.fits }) in
       omega (arith, h, e, f)
 
   -- an item that begins the line list, by a handle of the mesh, is where the walk starts
-  pub starts_with : (i : FixedIntersection) → IsHandleOf c i →
+  pub starts_with : {p q : Point} (i : FixedIntersection) → IsHandleOf c i →
       IsFirstOf (drawn (map at c.vertices) c.mesh) p q (item_of c.mesh i) → Starts at c p q (Some i)
   starts_with i here b = record {
     items = item_of c.mesh i ∷ b.others;
@@ -175,10 +177,10 @@ module _ {V D U F : Type 0} {at : V → Point} {IsSite IsCovered : Point → Typ
   }
 
   -- where p is a vertex, the walk starts at it
-  pub starts_at_vertex : (v : ℕ) → v < length c.vertices → p ≡ point_at (map at c.vertices) v →
+  pub starts_at_vertex : {p q : Point} (v : ℕ) → v < length c.vertices → p ≡ point_at (map at c.vertices) v →
       Starts at c p q (Some (Vertex v))
-  starts_at_vertex v here is = starts_with (Vertex v) here
-      (begins_at_vertex (drawn (map at c.vertices) c.mesh) p q (laid over)
+  starts_at_vertex {p = p} {q = q} v here is = starts_with (Vertex v) here
+      (begins_at_vertex (drawn (map at c.vertices) c.mesh) p q (laid placed)
       (decide_point p q)
       v
       (subst (λ (n : ℕ). v < n) (sym (length-map c.vertices at)) here)
@@ -200,8 +202,8 @@ module _ {V D U F P S : Type 0} {at : V → Point} {number : S → ℤ}
 
   -- and is ready, if it counts each item
   pub is_ready : {IsSite IsCovered : P → Point → Type 0}
-      → IsOverMesh at (IsSite it.tests.now) (IsCovered it.tests.now) it.dcel.now
-      (place_of number it.from) (place_of number it.to)
+      → IsOverMesh at IsSite IsCovered it.dcel.now it.tests.now (place_of number it.from)
+      (place_of number it.to)
       → length it.dcel.now.vertices + length it.dcel.now.undirected ≤ it.left
       → IsReady at number IsSite IsCovered it
   is_ready over counted = record {

@@ -14,6 +14,7 @@ use Rattle.delaunay_location.specs.plane.Pairs.{EachPairOnce}
 use Rattle.delaunay_location.specs.plane.Line.{Item, at_vertex, across, along}
 use Rattle.delaunay_location.proofs.plane_tiling.Totals.{Contains-none}
 use Rattle.delaunay_location.specs.mesh_embedding.Drawn.{edges_of}
+use Rattle.delaunay_location.specs.delaunay_legalization.Placed.{IsPlaced}
 use Rattle.delaunay_location.proofs.mesh_embedding.Entries.{one_value}
 use Rattle.delaunay_location.proofs.mesh_embedding.MeshStays.{one_way}
 use Rattle.delaunay_lines.specs.declared.intersection.Intersection.{Intersection}
@@ -23,7 +24,6 @@ use Rattle.delaunay_lines.specs.declared.intersection.Intersection.TheVariants.{
 use Rattle.delaunay_lines.specs.declared.iterator.LineIntersectionIterator.{LineIntersectionIterator}
 use Rattle.delaunay_lines.specs.Conflicts.{IsConflict, IsConflictOf, HasNoConflict, GivesConflict}
 use Rattle.delaunay_lines.specs.Items.{crossed_edge, item_in, mesh_of}
-use Rattle.delaunay_lines.specs.Steps.{IsOverMesh}
 use Rattle.delaunay_lines.specs.Walk.{AreLeft, GivesNext, IsReady}
 use Rattle.delaunay_lines.proofs.MeshSteps.{laid, in_mesh}
 
@@ -49,12 +49,12 @@ some_none x e = cc
 none_some : {X : Type 0} (x : X) → ¬ (None ≡ Some x)
 none_some x e = cc
 
-module _ {V D U F : Type 0} {at : V → Point} {IsSite IsCovered : Point → Type 0}
-    {c : Contents V D U F} {p q : Point} (over : IsOverMesh at IsSite IsCovered c p q)
+module _ {V D U F P : Type 0} {at : V → Point} {IsSite : P → Point → Type 0}
+    {c : Contents V D U F} {tests : P} (placed : IsPlaced at IsSite c tests)
     (constraints : List U → List ℕ) where
   -- no two edges of the mesh have the same ends
   once : EachPairOnce (edges_of c.mesh)
-  once = elim (laid over) [
+  once = elim (laid placed) [
     | inl tiles ↦ tiles.once
     | inr l ↦ l.0.once
   ]
@@ -66,8 +66,8 @@ module _ {V D U F : Type 0} {at : V → Point} {IsSite IsCovered : Point → Typ
       off (subst (λ (x : ℕ). Contains (constraints c.undirected) (x / 2)) same k.3)
     where
       same : k.0 ≡ e
-      same = one_way c.mesh over.mesh.valid once e k.0
-          (in_mesh over e within) (in_mesh over k.0 k.1)
+      same = one_way c.mesh placed.kept.valid once e k.0
+          (in_mesh placed e within) (in_mesh placed k.0 k.1)
           (sym (ap first_end k.2), sym (ap second_end k.2))
 
 -- one more item, which is no conflict
@@ -119,7 +119,7 @@ module _ {V D U F P S : Type 0} {at : V → Point} {number : S → ℤ}
         → ¬ Contains (constraints e.dcel.now.undirected) (e.index / 2)
         → ¬ IsConflict constraints start.dcel.now (item_in x)
     unmarked_item (EdgeIntersection y) e is mesh off k =
-        unmarked searching.ready.over constraints y.index
+        unmarked searching.ready.over.placed constraints y.index
         (subst (λ (d : Bor (Contents V D U F)). y.index < length d.now.directed) mesh y.in_range)
         (λ z. off
         (subst (λ (h : DirectedEdgeHandle V D U F). Contains (constraints h.dcel.now.undirected)

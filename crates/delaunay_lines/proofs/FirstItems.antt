@@ -27,6 +27,7 @@ use Rattle.plane_segments.proofs.First.LineStarts.{equal_ends}
 use Rattle.plane_segments.proofs.Walking.WalkSteps.{line_list_is_the_walk}
 use Rattle.delaunay_location.specs.mesh_embedding.Drawn.{drawn}
 use Rattle.delaunay_location.specs.delaunay_legalization.Known.{point_at}
+use Rattle.delaunay_location.specs.delaunay_legalization.Placed.{IsPlaced}
 use Rattle.delaunay_lines.specs.declared.intersection.FixedIntersection.{FixedIntersection}
 use Rattle.delaunay_lines.specs.declared.intersection.FixedIntersection.TheVariants.{
   Edge,
@@ -34,7 +35,7 @@ use Rattle.delaunay_lines.specs.declared.intersection.FixedIntersection.TheVaria
   Overlap,
 }
 use Rattle.delaunay_lines.specs.Items.{item_of, IsHandleOf}
-use Rattle.delaunay_lines.specs.Steps.{IsOverMesh, IsLeftOf}
+use Rattle.delaunay_lines.specs.Steps.{IsLeftOf}
 use Rattle.delaunay_lines.specs.Starts.{StartsWithin, StartsInside, GoesOver}
 use Rattle.delaunay_lines.specs.Walk.{Starts}
 use Rattle.delaunay_lines.proofs.Advance.{first_of, starts_with}
@@ -42,8 +43,8 @@ use Rattle.delaunay_lines.proofs.MeshSteps.{laid, in_mesh, of_mesh, joined, tile
 use Rattle.delaunay_lines.proofs.MeshSteps.{twin_of_prev, twin_of_next, start_in, not_same}
 use Rattle.delaunay_lines.proofs.MeshSteps.{start_known, twin_within}
 
-module _ {V D U F : Type 0} {at : V → Point} {IsSite IsCovered : Point → Type 0}
-    {c : Contents V D U F} {p q : Point} (over : IsOverMesh at IsSite IsCovered c p q) where
+module _ {V D U F P : Type 0} {at : V → Point} {IsSite : P → Point → Type 0}
+    {c : Contents V D U F} {tests : P} (placed : IsPlaced at IsSite c tests) where
   abbrev m : Mesh
   m = c.mesh
 
@@ -57,34 +58,35 @@ module _ {V D U F : Type 0} {at : V → Point} {IsSite IsCovered : Point → Typ
   start h = place points (origin m h)
 
   -- from p to another point q the walk starts at the item that the segment meets first
-  pub starts_first : p ≢ q → (i : FixedIntersection) → IsHandleOf c i
+  pub starts_first : {p q : Point} → p ≢ q → (i : FixedIntersection) → IsHandleOf c i
       → IsFirst t (whole p) (whole q) (item_of m i) → Starts at c p q (Some i)
-  starts_first apart i here first = starts_with over i here
-      (first_of t p q (laid over) apart (item_of m i) first)
+  starts_first {p = p} {q = q} apart i here first = starts_with placed i here
+      (first_of t p q (laid placed) apart (item_of m i) first)
 
   -- without items on the line list it starts nowhere
-  pub nothing : IsLineList t (whole p) (whole q) [] → Starts at c p q None
+  pub nothing : {p q : Point} → IsLineList t (whole p) (whole q) [] → Starts at c p q None
   nothing l = record { items = []; line_list = l; are_from = refl; few = omega arith }
 
   -- without items that the segment from p to another point meets it starts nowhere
-  pub nothing_met : p ≢ q → IsWalk t (whole p) (whole q) [] → Starts at c p q None
-  nothing_met apart w =
-      nothing ((line_list_is_the_walk t (laid over) (whole p) (whole q)
+  pub nothing_met : {p q : Point} → p ≢ q → IsWalk t (whole p) (whole q) [] → Starts at c p q None
+  nothing_met {p = p} {q = q} apart w =
+      nothing ((line_list_is_the_walk t (laid placed) (whole p) (whole q)
       (not_same p q apart) []).1 w)
 
   -- equal ends are at the same place
-  pub same_ends : p ≡ q → IsSame (whole p) (whole q)
-  same_ends e = subst (λ (z : Point). IsSame (whole p) (whole z)) e (same-refl (whole p))
+  pub same_ends : {p q : Point} → p ≡ q → IsSame (whole p) (whole q)
+  same_ends {p = p} {q = q} e = subst (λ (z : Point). IsSame (whole p) (whole z)) e (same-refl (whole p))
 
   -- ---- strictly within an edge
-  module _ (h : ℕ) (within : h < length c.directed) (here : StartsWithin points m p h) where
+  module _ {p q : Point} (h : ℕ) (within : h < length c.directed)
+      (here : StartsWithin points m p h) where
     -- from p to itself the walk starts with an overlap of the edge
     pub alone_on_edge : p ≡ q → Starts at c p q (Some (Overlap h))
     alone_on_edge e = record {
       items = along (origin m h) (origin m (rev h)) ∷ [];
       line_list = (equal_ends t (whole p) (whole q) (same_ends e)).1 (origin m h) (origin m (rev h))
-          (joined over h
-          (in_mesh over h within)) here;
+          (joined placed h
+          (in_mesh placed h within)) here;
       are_from = (
         within,
         (
@@ -93,8 +95,8 @@ module _ {V D U F : Type 0} {at : V → Point} {IsSite IsCovered : Point → Typ
           record { met = λ n. absurd (n e); goes_on = λ n. absurd (n e); alone = λ _. refl },
         ),
       );
-      few = let some = start_in over h
-          (in_mesh over h within) in
+      few = let some = start_in placed h
+          (in_mesh placed h within) in
           let count = length-map c.vertices at in omega (arith, some, count);
     }
 
@@ -108,19 +110,19 @@ module _ {V D U F : Type 0} {at : V → Point} {IsSite IsCovered : Point → Typ
           (whole q) → IsFirst t (whole p) (whole q) (along (origin m h) (origin m (rev h))))
           × (side (start h) (start (rev h)) (whole q) ≡ on
           → IsAhead (whole p) (start (rev h)) (whole q) ⊎ IsAhead (whole p) (start h) (whole q))
-      law = first_from_an_edge t (laid over) (whole p) (whole q)
+      law = first_from_an_edge t (laid placed) (whole p) (whole q)
           (not_same p q apart)
-          (origin m h) (origin m (rev h)) (joined over h
-          (in_mesh over h within)) here
+          (origin m h) (origin m (rev h)) (joined placed h
+          (in_mesh placed h within)) here
 
       -- where q is ahead the other way along the edge, the overlap in that direction comes first
       back : side (start (rev h)) (start h) (whole q) ≡ on → IsAhead (whole p) (start h) (whole q) →
           IsFirst t (whole p) (whole q) (along (origin m (rev h)) (origin m h))
-      back = (first_from_an_edge t (laid over) (whole p) (whole q)
+      back = (first_from_an_edge t (laid placed) (whole p) (whole q)
           (not_same p q apart)
           (origin m (rev h)) (origin m h) (edge_flipped t (origin m h) (origin m (rev h))
-          (joined over h
-          (in_mesh over h within)))
+          (joined placed h
+          (in_mesh placed h within)))
           (turned_within (start h) (start (rev h)) (whole p) here)).2
 
       twice : origin m h ≡ origin m (rev (rev h))
@@ -134,7 +136,7 @@ module _ {V D U F : Type 0} {at : V → Point} {IsSite IsCovered : Point → Typ
       -- with q on its right it starts by crossing its twin
       pub over_twin : side (start h) (start (rev h)) (whole q) ≡ right
           → Starts at c p q (Some (Edge (rev h)))
-      over_twin s = starts_first apart (Edge (rev h)) (twin_within over h within)
+      over_twin s = starts_first apart (Edge (rev h)) (twin_within placed h within)
           (subst (λ (x : ℕ). IsFirst t (whole p) (whole q) (across (origin m (rev h)) x))
           twice (law.1 s))
 
@@ -149,7 +151,7 @@ module _ {V D U F : Type 0} {at : V → Point} {IsSite IsCovered : Point → Typ
       pub along_twin : {end : Point} → end ≡ point_at points (origin m (rev h))
           → side (start h) (start (rev h)) (whole q) ≡ on →
           ¬ IsAhead (whole p) (whole end) (whole q) → Starts at c p q (Some (Overlap (rev h)))
-      along_twin is s n = starts_first apart (Overlap (rev h)) (twin_within over h within)
+      along_twin is s n = starts_first apart (Overlap (rev h)) (twin_within placed h within)
           (subst (λ (x : ℕ). IsFirst t (whole p) (whole q) (along (origin m (rev h)) x)) twice
           (back (side_swapped (start h) (start (rev h)) (whole q) ∙ ap opposite s) (go (law.3 s))))
         where
@@ -161,51 +163,52 @@ module _ {V D U F : Type 0} {at : V → Point} {IsSite IsCovered : Point → Typ
 
   -- ---- strictly inside a face
   -- the same face from its next edge on
-  pub inside_after : (h : ℕ) → h < length c.directed → StartsInside points m p h
+  pub inside_after : {p : Point} (h : ℕ) → h < length c.directed → StartsInside points m p h
       → StartsInside points m p (next m h)
-  inside_after h within i =
-      let w = in_mesh over h within in
-      let r = T.triangle_at m h over.mesh.valid.sound w i.inner in record {
+  inside_after {p = p} h within i =
+      let w = in_mesh placed h within in
+      let r = T.triangle_at m h placed.kept.valid.sound w i.inner in record {
         inner = subst (λ (x : ℕ). 0 < x) (sym r.face_next) i.inner;
         inside =
             subst (λ (x : ℕ × ℕ × ℕ). InsideTriangle (place points x.0) (place points x.1)
             (place points x.2) (whole p))
             (λ k. (
-              sym (over.mesh.valid.sound.edges h w).starts k,
-              sym (twin_of_next over h w i.inner) k,
+              sym (placed.kept.valid.sound.edges h w).starts k,
+              sym (twin_of_next placed h w i.inner) k,
               ap (origin m) (sym r.prev_next) k,
             ))
             (turned_inside (start h) (start (rev h)) (start (prev m h)) (whole p) i.inside);
       }
 
   -- and from the edge before it
-  pub inside_before : (h : ℕ) → h < length c.directed → StartsInside points m p h
+  pub inside_before : {p : Point} (h : ℕ) → h < length c.directed → StartsInside points m p h
       → StartsInside points m p (prev m h)
-  inside_before h within i =
-      let r = T.triangle_at m h over.mesh.valid.sound
-      (in_mesh over h within) i.inner in
+  inside_before {p = p} h within i =
+      let r = T.triangle_at m h placed.kept.valid.sound
+      (in_mesh placed h within) i.inner in
       subst (StartsInside points m p) r.next_next (inside_after (next m h)
-      (of_mesh over (next m h) r.next_in) (inside_after h within i))
+      (of_mesh placed (next m h) r.next_in) (inside_after h within i))
 
-  module _ (h : ℕ) (within : h < length c.directed) (i : StartsInside points m p h) where
+  module _ {p : Point} (h : ℕ) (within : h < length c.directed)
+      (i : StartsInside points m p h) where
     -- edge h is one of the mesh
     w : h < length m.half_edges
-    w = in_mesh over h within
+    w = in_mesh placed h within
 
     is_face : IsFace t (origin m h) (origin m (rev h)) (origin m (prev m h))
-    is_face = face_at over h w i.inner
+    is_face = face_at placed h w i.inner
 
     tiles : TilesHull t
-    tiles = tiles_with over (origin m h) (origin m (rev h))
+    tiles = tiles_with placed (origin m h) (origin m (rev h))
         (origin m (prev m h)) is_face
 
     -- from p to itself the walk meets nothing
-    pub alone_inside : p ≡ q → Starts at c p q None
-    alone_inside e = nothing
+    pub alone_inside : {q : Point} → p ≡ q → Starts at c p q None
+    alone_inside {q = q} e = nothing
         ((equal_ends t (whole p) (whole q) (same_ends e)).2 tiles (origin m h) (origin m (rev h))
         (origin m (prev m h)) is_face i.inside)
 
-    module _ (apart : p ≢ q) where
+    module _ {q : Point} (apart : p ≢ q) where
       abbrev A : Fraction
       A = start h
 
@@ -239,14 +242,14 @@ module _ {V D U F : Type 0} {at : V → Point} {IsSite IsCovered : Point → Typ
           go (inl x) = absurd (first x)
           go (inr (inl x)) = absurd (second (
             subst (λ (k : ℕ). side (whole p) (whole q) (place points k) ≢ left)
-                (sym (over.mesh.valid.sound.edges h w).starts) x.0,
+                (sym (placed.kept.valid.sound.edges h w).starts) x.0,
             subst (λ (k : ℕ). side (whole p) (whole q) (place points k) ≡ left)
-                (sym (twin_of_next over h w i.inner)) x.1,
+                (sym (twin_of_next placed h w i.inner)) x.1,
           ))
           go (inr (inr x)) = (
             x.0,
             subst (λ (k : ℕ). side (whole p) (whole q) (place points k) ≡ left)
-                (sym (twin_of_prev over h w i.inner)) x.1,
+                (sym (twin_of_prev placed h w i.inner)) x.1,
           )
 
       module _ (o : GoesOver points m p q h) where
@@ -257,13 +260,13 @@ module _ {V D U F : Type 0} {at : V → Point} {IsSite IsCovered : Point → Typ
         -- with q beyond it, and its start on the way, the walk starts at this vertex
         pub through_start : ¬ IsLeftOf points m q h → side (whole p) (whole q) A ≡ on
             → Starts at c p q (Some (Vertex (origin m h)))
-        through_start n s = starts_first apart (Vertex (origin m h)) (start_known over h within)
+        through_start n s = starts_first apart (Vertex (origin m h)) (start_known placed h within)
             ((face_law.0 o.1).1 s n)
 
         -- with q beyond it, and its start off the way, the walk starts by crossing its twin
         pub through_side : ¬ IsLeftOf points m q h
             → side (whole p) (whole q) A ≢ on → Starts at c p q (Some (Edge (rev h)))
-        through_side n s = starts_first apart (Edge (rev h)) (twin_within over h within)
+        through_side n s = starts_first apart (Edge (rev h)) (twin_within placed h within)
             (subst (λ (x : ℕ). IsFirst t (whole p) (whole q) (across (origin m (rev h)) x))
             (ap (origin m) (sym (rev-rev h)))
             ((face_law.0 o.1).2 (below (side (whole p) (whole q) A) o.0 s) n))

@@ -89,10 +89,10 @@ module _ {V D U F P S : Type 0} (at : V → Point) (number : S → ℤ) (IsSite 
 
     -- an edge of a constraint, in this direction or the other
     edge_in : (h : ℕ) → Contains ks (h / 2) → h < length c.directed
-    edge_in h listed = subst (λ (n : ℕ). h < n) (sym ready.over.mesh.fits.directed_fit)
+    edge_in h listed = subst (λ (n : ℕ). h < n) (sym ready.over.placed.kept.fits.directed_fit)
         (below h (length c.undirected) (length m.half_edges)
         (fixed_within marks constraints marked c.undirected (h / 2) listed)
-        ready.over.mesh.fits.undirected_fit)
+        ready.over.placed.kept.fits.undirected_fit)
 
     is_conflict : (i j h : ℕ) → IsListedEdge m ks i j h → IsConflict constraints c (across i j)
     is_conflict i j h e =
@@ -123,13 +123,13 @@ module _ {V D U F P S : Type 0} (at : V → Point) (number : S → ℤ) (IsSite 
 
         edge : IsEdge t x.from x.to
         edge = subst (λ (y : ℕ × ℕ). IsEdge t y.0 y.1) (λ k. (there.1.start k, there.1.end k))
-            (joined ready.over there.0 (in_mesh ready.over there.0 h_in))
+            (joined ready.over.placed there.0 (in_mesh ready.over.placed there.0 h_in))
 
         place_at : ℕ → Point
         place_at k = point_at (map at c.vertices) k
 
         two : place_at x.from ≢ place_at x.to
-        two = ends_apart ready.over there.0 h_in (place_at x.from) (place_at x.to)
+        two = ends_apart ready.over.placed there.0 h_in (place_at x.from) (place_at x.to)
             (ap place_at (sym there.1.start)) (ap place_at (sym there.1.end))
 
         ways : Meets t (whole p) (whole q) (across x.from x.to)

@@ -1,5 +1,5 @@
 -- From an item that a segment meets to the next, by the links of a mesh.
--- Notions: IsExit; over_value, not_same, positive, at_ends, side_at, laid, in_mesh, of_mesh,
+-- Notions: IsExit; placed_value, not_same, positive, at_ends, side_at, laid, in_mesh, of_mesh,
 -- joined, tiles_with, bare, face_at, start_in, start_known, twin_within, next_spoke, ends_apart,
 -- ends_not_within, twin_of_prev, twin_of_next, last_at_edge, ends_inside, at_corner, through_exit,
 -- last_within_overlap, end_of_overlap, last_at_end, last_if_none_leads, along_ahead, last_in_face,
@@ -36,22 +36,20 @@ use Rattle.delaunay_location.proofs.mesh_embedding.MeshLegal.{no_outer_face, lin
 use Rattle.delaunay_location.proofs.mesh_embedding.MeshStars.{edge_of_face}
 use Rattle.delaunay_location.proofs.mesh_embedding.OwnEdges.{own_edges}
 use Rattle.delaunay_location.specs.delaunay_legalization.Known.{point_at}
+use Rattle.delaunay_location.specs.delaunay_legalization.Placed.{IsPlaced, Reading}
 use Rattle.delaunay_location.proofs.delaunay_legalization_lemmas.Rounds.{IsGoingRound, next_within}
 use Rattle.delaunay_location.proofs.delaunay_legalization_lemmas.Rounds.{next_starts}
 use Rattle.delaunay_lines.specs.declared.intersection.FixedIntersection.TheVariants.{Edge, Vertex}
-use Rattle.delaunay_lines.specs.Over.{Spanning}
-use Rattle.delaunay_lines.specs.Steps.{IsOverMesh, IsNext, IsLeftOf, IsEdgeAhead}
+use Rattle.delaunay_lines.specs.Steps.{IsNext, IsLeftOf, IsEdgeAhead}
 use Rattle.delaunay_lines.specs.Steps.{IsInCone, LeadsOn}
 use Rattle.delaunay_lines.proofs.SegmentTests.{differs_if_within}
 
--- what holds of a segment by its fields holds of its value
-pub over_value : {V D U F P : Type 0} {at : V → Point} {IsSite IsCovered : Point → Type 0}
-    {fields value : Spanning V D U F P} → fields ≡ value
-    → IsOverMesh at IsSite IsCovered fields.dcel fields.from fields.to
-    → IsOverMesh at IsSite IsCovered value.dcel value.from value.to
-over_value {V = V} {D = D} {U = U} {F = F} {P = P} {at = at} {IsSite = IsSite}
-    {IsCovered = IsCovered} same over = subst (λ (s : Spanning V D U F P).
-    IsOverMesh at IsSite IsCovered s.dcel s.from s.to) same over
+-- what holds of a mesh and tests by their fields holds of their value
+pub placed_value : {V D U F P : Type 0} {at : V → Point} {IsSite : P → Point → Type 0}
+    {fields value : Reading V D U F P} → fields ≡ value
+    → IsPlaced at IsSite fields.dcel fields.tests → IsPlaced at IsSite value.dcel value.tests
+placed_value {V = V} {D = D} {U = U} {F = F} {P = P} {at = at} {IsSite = IsSite} same placed =
+    subst (λ (s : Reading V D U F P). IsPlaced at IsSite s.dcel s.tests) same placed
 
 -- different points are not at the same place of the plane
 pub not_same : (p q : Point) → p ≢ q → ¬ IsSame (whole p) (whole q)
@@ -77,8 +75,8 @@ side_at p q e is = e ∙ ap (λ (x : Point). side p q (whole x)) is
 abbrev pub IsExit : Mesh → ℕ → Side → ℕ → Type 0
 IsExit m h z x = ((z ≡ right) × (x ≡ prev m h)) ⊎ ((z ≢ right) × (x ≡ next m h))
 
-module _ {V D U F : Type 0} {at : V → Point} {IsSite IsCovered : Point → Type 0}
-    {c : Contents V D U F} {p q : Point} (over : IsOverMesh at IsSite IsCovered c p q) where
+module _ {V D U F P : Type 0} {at : V → Point} {IsSite : P → Point → Type 0}
+    {c : Contents V D U F} {tests : P} (placed : IsPlaced at IsSite c tests) where
   abbrev m : Mesh
   m = c.mesh
 
@@ -90,7 +88,7 @@ module _ {V D U F : Type 0} {at : V → Point} {IsSite IsCovered : Point → Typ
 
   -- the mesh is valid
   s : IsValidMesh m
-  s = over.mesh.valid
+  s = placed.kept.valid
 
   -- where directed edge h starts
   abbrev start : ℕ → Fraction
@@ -98,15 +96,15 @@ module _ {V D U F : Type 0} {at : V → Point} {IsSite IsCovered : Point → Typ
 
   -- the faces tile the hull, or all vertices are on one line
   pub laid : IsLaid t
-  laid = meshes_are_laid points (faces_of m) (outer_of m) (edges_of m) over.shape (own_edges m s)
+  laid = meshes_are_laid points (faces_of m) (outer_of m) (edges_of m) placed.kept.shape (own_edges m s)
 
   -- each directed edge with data is one of the mesh
   pub in_mesh : (h : ℕ) → h < length c.directed → h < length m.half_edges
-  in_mesh h w = subst (λ (n : ℕ). h < n) over.mesh.fits.directed_fit w
+  in_mesh h w = subst (λ (n : ℕ). h < n) placed.kept.fits.directed_fit w
 
   -- and each one of the mesh has data
   pub of_mesh : (h : ℕ) → h < length m.half_edges → h < length c.directed
-  of_mesh h w = subst (λ (n : ℕ). h < n) (sym over.mesh.fits.directed_fit) w
+  of_mesh h w = subst (λ (n : ℕ). h < n) (sym placed.kept.fits.directed_fit) w
 
   -- the two ends of a directed edge are joined by an edge
   pub joined : (h : ℕ) → h < length m.half_edges → IsEdge t (origin m h) (origin m (rev h))
@@ -122,7 +120,7 @@ module _ {V D U F : Type 0} {at : V → Point} {IsSite IsCovered : Point → Typ
   -- no face is where the outer one is
   pub bare : (h : ℕ) → h < length m.half_edges → face m h ≡ 0
       → ¬ HasFace t (origin m h) (origin m (rev h))
-  bare h w o f = elim over.shape as (λ _. ⊥) [
+  bare h w o f = elim placed.kept.shape as (λ _. ⊥) [
     | inl l ↦ no_outer_face points m s l h w o f.0 f.1
     | inr l ↦ line_has_none m (origin m h) (origin m (rev h)) f.0 l.0 f.1
   ]
@@ -137,7 +135,7 @@ module _ {V D U F : Type 0} {at : V → Point} {IsSite IsCovered : Point → Typ
   -- the ends of an edge are at two positions
   pub start_in : (h : ℕ) → h < length m.half_edges → origin m h < length points
   start_in h w = starts_within m s.sound (length points)
-      (length-map c.vertices at ∙ over.mesh.fits.vertices_fit) h w
+      (length-map c.vertices at ∙ placed.kept.fits.vertices_fit) h w
 
   -- an edge starts at a vertex
   pub start_known : (h : ℕ) → h < length c.directed → origin m h < length c.vertices
@@ -166,7 +164,7 @@ module _ {V D U F : Type 0} {at : V → Point} {IsSite IsCovered : Point → Typ
 
       distinct : place points (origin m h) ≢ place points (origin m (rev h))
       distinct =
-          elim over.shape as (λ _. place points (origin m h) ≢ place points (origin m (rev h))) [
+          elim placed.kept.shape as (λ _. place points (origin m h) ≢ place points (origin m (rev h))) [
             | inl l ↦ l.distinct (origin m h) (origin m (rev h)) (start_in h w)
                 (start_in (rev h) (rev_within h (length m.half_edges) s.sound.even w)) (s.apart h w)
             | inr l ↦ l.1.distinct (origin m h) (origin m (rev h)) (start_in h w)
@@ -201,7 +199,7 @@ module _ {V D U F : Type 0} {at : V → Point} {IsSite IsCovered : Point → Typ
       let r = T.triangle_at m h s.sound w inner in
       sym (s.sound.edges (next m h) r.next_in).starts ∙ ap (origin m) r.next_next
 
-  module _ (apart : p ≢ q) where
+  module _ {p q : Point} (apart : p ≢ q) where
     ways_apart : ¬ IsSame (whole p) (whole q)
     ways_apart e = apart (one_point p q e)
 

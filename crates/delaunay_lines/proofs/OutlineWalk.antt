@@ -6,7 +6,7 @@
 use Rattle.std.proofs.Common.{◌≡◌, ◌≢◌, ◌⊎◌, ◌<◌, ◌∙◌, ℕ, List, [], length, map, Option, Some, None}
 use Rattle.std.proofs.Common.{refl, sym, ap, subst, inl, inr, arith}
 use lib.IntN.{neg_ℤ}
-use Rattle.std.specs.Prelude.{IfSome, IfNone, MatchOption}
+use Rattle.std.specs.Prelude.{IfSome, IfNone}
 use Rattle.std.specs.Prelude.{ℤ, pos, ◌<ℤ◌, ◌≤ℤ◌, ◌+ℤ◌, ◌-ℤ◌, ◌*ℤ◌, Contains}
 use Rattle.std.proofs.lemmas.Bool.{cases_eq}
 use Rattle.std.proofs.lemmas.Int.{ints}
@@ -49,14 +49,15 @@ use Rattle.delaunay_location.proofs.plane_tiling.Line.{SignLine, Adjoin, next_tu
 use Rattle.delaunay_location.proofs.plane_tiling.LineMeshes.{line_by_signs}
 use Rattle.delaunay_location.proofs.plane_edits.Insertion.Hull.{start_supports, end_supports}
 use Rattle.delaunay_location.specs.mesh_embedding.Drawn.{drawn, faces_of, outer_of}
+use Rattle.delaunay_location.specs.delaunay_legalization.Placed.{IsPlaced}
 use Rattle.delaunay_location.proofs.mesh_embedding.MeshLegal.{line_has_none, none_or_some}
 use Rattle.delaunay_location.proofs.mesh_embedding.OuterEdges.{listed, real, one_edge}
 use Rattle.delaunay_location.specs.Location.{Locates}
 use Rattle.delaunay_location.specs.declared.position_in_triangulation.PositionInTriangulation.TheVariants.{OutsideOfConvexHull}
 use Rattle.delaunay_lines.specs.declared.intersection.FixedIntersection.TheVariants.{Edge, Vertex}
-use Rattle.delaunay_lines.specs.Steps.{IsOverMesh, IsLeftOf}
+use Rattle.delaunay_lines.specs.Steps.{IsLeftOf}
 use Rattle.delaunay_lines.specs.Starts.{StartsOutside}
-use Rattle.delaunay_lines.specs.Outline.{IsSeenOuter, IsTurningPoint}
+use Rattle.delaunay_lines.specs.Outline.{IsIfSeen, IsSeenOuter, IsTurningPoint}
 use Rattle.delaunay_lines.specs.Walk.{Starts}
 use Rattle.delaunay_lines.proofs.LineOutline.{end_supported, start_supported, seen_after}
 use Rattle.delaunay_lines.proofs.LineOutline.{seen_before}
@@ -265,8 +266,8 @@ swapped_right on n f = cc
 swapped_right right n f = cc
 
 -- ---- over a mesh
-module _ {V D U F : Type 0} {at : V → Point} {IsSite IsCovered : Point → Type 0}
-    {c : Contents V D U F} {p q : Point} (over : IsOverMesh at IsSite IsCovered c p q) where
+module _ {V D U F P : Type 0} {at : V → Point} {IsSite : P → Point → Type 0}
+    {c : Contents V D U F} {tests : P} (placed : IsPlaced at IsSite c tests) where
   abbrev m : Mesh
   m = c.mesh
 
@@ -277,86 +278,82 @@ module _ {V D U F : Type 0} {at : V → Point} {IsSite IsCovered : Point → Typ
   t = drawn points m
 
   t_laid : IsLaid t
-  t_laid = laid over
+  t_laid = laid placed
 
   -- located beyond an outer edge with p on its left, p sees this edge
-  pub seen_from : (e : ℕ) → Locates points m p (OutsideOfConvexHull e) → (r : Option ℕ)
-      → MatchOption r (¬ IsLeftOf points m p e) (λ k. (k ≡ e) × IsLeftOf points m p e)
+  pub seen_from : {p : Point} (e : ℕ) → Locates points m p (OutsideOfConvexHull e) → (r : Option ℕ)
+      → IsIfSeen points m p e r
       → IfSome r (IsSeenOuter at c p)
   seen_from e l None x = tt
-  seen_from e l (Some k) x = subst (IsSeenOuter at c p) (sym x.0) (record {
-    within = of_mesh over e l.handle.0;
+  seen_from {p = p} e l (Some k) x = subst (IsSeenOuter at c p) (sym x.0) (record {
+    within = of_mesh placed e l.handle.0;
     outer = l.handle.1;
     seen = x.1;
   })
 
   -- the edges before and after an outer edge are outer edges
-  sees_after : (h : ℕ) → h < length c.directed → face m h ≡ 0
+  sees_after : {p : Point} (h : ℕ) → h < length c.directed → face m h ≡ 0
       → IsLeftOf points m p (next m h) → IsSeenOuter at c p (next m h)
   sees_after h within o l =
-      let here = over.mesh.valid.sound.edges h (in_mesh over h within) in
+      let here = placed.kept.valid.sound.edges h (in_mesh placed h within) in
       record {
-        within = of_mesh over (next m h) here.next_in;
+        within = of_mesh placed (next m h) here.next_in;
         outer = here.same_face ∙ o;
         seen = l;
       }
 
   outer_before : (h : ℕ) → h < length m.half_edges → face m h ≡ 0 → face m (prev m h) ≡ 0
   outer_before h w o =
-      let here = over.mesh.valid.sound.edges h w in
-      sym (over.mesh.valid.sound.edges (prev m h) here.prev_in).same_face
+      let here = placed.kept.valid.sound.edges h w in
+      sym (placed.kept.valid.sound.edges (prev m h) here.prev_in).same_face
       ∙ ap (face m) here.next_prev ∙ o
 
-  sees_before : (h : ℕ) → h < length c.directed → face m h ≡ 0
+  sees_before : {p : Point} (h : ℕ) → h < length c.directed → face m h ≡ 0
       → IsLeftOf points m p (prev m h) → IsSeenOuter at c p (prev m h)
   sees_before h within o l =
-      let w = in_mesh over h within in
+      let w = in_mesh placed h within in
       record {
-        within = of_mesh over (prev m h)
-            (over.mesh.valid.sound.edges h w).prev_in;
+        within = of_mesh placed (prev m h)
+            (placed.kept.valid.sound.edges h w).prev_in;
         outer = outer_before h w o;
         seen = l;
       }
 
   -- ---- a neighbour of outer edge h
-  module _ (h : ℕ) (within : h < length c.directed) (o : face m h ≡ 0) where
-    -- edge g, if p is on its left
-    abbrev IfSeen : Option ℕ → ℕ → Type 0
-    IfSeen r g = MatchOption r (¬ IsLeftOf points m p g) (λ e. (e ≡ g) × IsLeftOf points m p g)
-
-    pub neighbour_after : (r : Option ℕ) (g : ℕ) → g ≡ next m h → IfSeen r g
+  module _ (p : Point) (h : ℕ) (within : h < length c.directed) (o : face m h ≡ 0) where
+    pub neighbour_after : (r : Option ℕ) (g : ℕ) → g ≡ next m h → IsIfSeen points m p g r
         → IfSome r (IsSeenOuter at c p)
     neighbour_after None g e x = tt
     neighbour_after (Some k) g e x = subst (IsSeenOuter at c p) (sym (x.0 ∙ e))
         (sees_after h within o (subst (IsLeftOf points m p) e x.1))
 
-    pub neighbour_before : (r : Option ℕ) (g : ℕ) → g ≡ prev m h → IfSeen r g
+    pub neighbour_before : (r : Option ℕ) (g : ℕ) → g ≡ prev m h → IsIfSeen points m p g r
         → IfSome r (IsSeenOuter at c p)
     neighbour_before None g e x = tt
     neighbour_before (Some k) g e x = subst (IsSeenOuter at c p) (sym (x.0 ∙ e))
         (sees_before h within o (subst (IsLeftOf points m p) e x.1))
 
     -- the segment's line passes the edge on one side, and p does not see the neighbour there
-    pub stops_after : (r : Option ℕ) (g : ℕ) → g ≡ next m h → IfSeen r g
+    pub stops_after : (q : Point) (r : Option ℕ) (g : ℕ) → g ≡ next m h → IsIfSeen points m p g r
         → side (whole p) (whole q) (place points (origin m (rev h))) ≡ right
         → IfNone r (IsTurningPoint at c p q h)
-    stops_after None g e x past = record {
+    stops_after q None g e x past = record {
       after = λ _. subst (λ (k : ℕ). ¬ IsLeftOf points m p k) e x;
       before = λ n _. absurd (n past);
     }
-    stops_after (Some k) g e x past = tt
+    stops_after q (Some k) g e x past = tt
 
-    pub stops_before : (r : Option ℕ) (g : ℕ) → g ≡ prev m h → IfSeen r g
+    pub stops_before : (q : Point) (r : Option ℕ) (g : ℕ) → g ≡ prev m h → IsIfSeen points m p g r
         → ¬ (side (whole p) (whole q) (place points (origin m (rev h))) ≡ right)
         → IfNone r (IsTurningPoint at c p q h)
-    stops_before None g e x short = record {
+    stops_before q None g e x short = record {
       after = λ past. absurd (short past);
       before = λ _ _. subst (λ (k : ℕ). ¬ IsLeftOf points m p k) e x;
     }
-    stops_before (Some k) g e x short = tt
+    stops_before q (Some k) g e x short = tt
 
   -- ---- from the left of outer edge h
-  module _ (apart : p ≢ q) (h : ℕ) (s : IsSeenOuter at c p h) where
+  module _ {p q : Point} (apart : p ≢ q) (h : ℕ) (s : IsSeenOuter at c p h) where
     abbrev X : Fraction
     X = place points (origin m h)
 
@@ -367,15 +364,15 @@ module _ {V D U F : Type 0} {at : V → Point} {IsSite IsCovered : Point → Typ
     ways_apart = not_same p q apart
 
     w : h < length m.half_edges
-    w = in_mesh over h s.within
+    w = in_mesh placed h s.within
 
     r_in : rev h < length m.half_edges
-    r_in = rev_within h (length m.half_edges) over.mesh.valid.sound.even w
+    r_in = rev_within h (length m.half_edges) placed.kept.valid.sound.even w
 
     outer : IsOuter t (origin m h) (origin m (rev h))
     outer = (
-      joined over h w,
-      bare over h w s.outer,
+      joined placed h w,
+      bare placed h w s.outer,
     )
 
     seen : pos 0 <ℤ bracket X Y (whole p)
@@ -383,7 +380,7 @@ module _ {V D U F : Type 0} {at : V → Point} {IsSite IsCovered : Point → Typ
 
     -- to its left it meets nothing
     pub nothing_on_its_left : IsLeftOf points m q h → Starts at c p q None
-    nothing_on_its_left l = nothing_met over apart
+    nothing_on_its_left l = nothing_met placed apart
         (nothing_on_left t t_laid (whole p) (whole q) ways_apart (origin m h) (origin m (rev h))
         outer seen (above_if_left _ _ _ l))
 
@@ -402,7 +399,7 @@ module _ {V D U F : Type 0} {at : V → Point} {IsSite IsCovered : Point → Typ
     own = record { within = w; outer = s.outer; source = refl; target = refl }
 
     after : IsOuterEdge m (next m h) (origin m (rev h)) far
-    after = let here = over.mesh.valid.sound.edges h w in record {
+    after = let here = placed.kept.valid.sound.edges h w in record {
       within = here.next_in;
       outer = here.same_face ∙ s.outer;
       source = here.starts;
@@ -410,11 +407,11 @@ module _ {V D U F : Type 0} {at : V → Point} {IsSite IsCovered : Point → Typ
     }
 
     before : IsOuterEdge m (prev m h) early (origin m h)
-    before = let here = over.mesh.valid.sound.edges h w in record {
+    before = let here = placed.kept.valid.sound.edges h w in record {
       within = here.prev_in;
       outer = outer_before h w s.outer;
       source = refl;
-      target = sym (over.mesh.valid.sound.edges (prev m h) here.prev_in).starts
+      target = sym (placed.kept.valid.sound.edges (prev m h) here.prev_in).starts
           ∙ ap (origin m) here.next_prev;
     }
 
@@ -465,7 +462,7 @@ module _ {V D U F : Type 0} {at : V → Point} {IsSite IsCovered : Point → Typ
           | inl o ↦ o
           | inr inner ↦ absurd (line_has_none m (origin m (rev h)) (origin m (rev (rev h)))
               (origin m (prev m (rev h))) flat
-              (face_at over (rev h) r_in inner))
+              (face_at placed (rev h) r_in inner))
         ];
         source = refl;
         target = ap (origin m) (rev-rev h);
@@ -475,15 +472,15 @@ module _ {V D U F : Type 0} {at : V → Point} {IsSite IsCovered : Point → Typ
           → j ≡ origin m h
       only_after back j l =
           let g = real m (origin m (rev h)) j l in
-          sym g.1.target ∙ ap (λ k. origin m (rev k)) (alone_at m (rev h) over.mesh.valid r_in
+          sym g.1.target ∙ ap (λ k. origin m (rev k)) (alone_at m (rev h) placed.kept.valid r_in
           (ap (next m) (rev-rev h) ∙ back) g.0 g.1.within g.1.source) ∙ ap (origin m) (rev-rev h)
 
       only_before : prev m h ≡ rev h → (j : ℕ) → Contains (outer_of m) (origin m h, j)
           → j ≡ origin m (rev h)
       only_before back j l =
           let g = real m (origin m h) j l in
-          sym g.1.target ∙ ap (λ k. origin m (rev k)) (alone_at m h over.mesh.valid w
-          (ap (next m) (sym back) ∙ (over.mesh.valid.sound.edges h w).next_prev)
+          sym g.1.target ∙ ap (λ k. origin m (rev k)) (alone_at m h placed.kept.valid w
+          (ap (next m) (sym back) ∙ (placed.kept.valid.sound.edges h w).next_prev)
           g.0 g.1.within g.1.source)
 
       end_of_line : ¬ IsLeftOf points m p (next m h) → (k : ℕ) → IsVertex t k
@@ -523,14 +520,14 @@ module _ {V D U F : Type 0} {at : V → Point} {IsSite IsCovered : Point → Typ
 
     end_side : ¬ IsLeftOf points m p (next m h) → (k : ℕ) → IsVertex t k
         → bracket (whole p) Y (vertex t k) ≤ℤ pos 0
-    end_side = elim over.shape [
+    end_side = elim placed.kept.shape [
       | inl l ↦ end_of_hull (by_signs points (faces_of m) (outer_of m) l)
       | inr l ↦ end_of_line l.0 l.1
     ]
 
     start_side : ¬ IsLeftOf points m p (prev m h) → (k : ℕ) → IsVertex t k
         → bracket X (whole p) (vertex t k) ≤ℤ pos 0
-    start_side = elim over.shape [
+    start_side = elim placed.kept.shape [
       | inl l ↦ start_of_hull (by_signs points (faces_of m) (outer_of m) l)
       | inr l ↦ start_of_line l.0 l.1
     ]
@@ -538,7 +535,7 @@ module _ {V D U F : Type 0} {at : V → Point} {IsSite IsCovered : Point → Typ
     -- past the last edge that p sees it meets nothing
     pub nothing_past_end : side (whole p) (whole q) Y ≡ right → ¬ IsLeftOf points m p (next m h)
         → Starts at c p q None
-    nothing_past_end e blind = nothing_met over apart
+    nothing_past_end e blind = nothing_met placed apart
         (nothing_beyond t t_laid (whole p) (whole q) ways_apart (origin m h) (origin m (rev h))
         outer seen (whole p) Y (end_side blind) (bracket-first (whole p) Y)
         (opposite_of_negative (bracket (whole p) Y (whole q)) (bracket (whole p) (whole q) Y)
@@ -548,7 +545,7 @@ module _ {V D U F : Type 0} {at : V → Point} {IsSite IsCovered : Point → Typ
     -- nor before the first one
     pub nothing_past_start : side (whole p) (whole q) X ≡ left → ¬ IsLeftOf points m p (prev m h)
         → Starts at c p q None
-    nothing_past_start e blind = nothing_met over apart
+    nothing_past_start e blind = nothing_met placed apart
         (nothing_beyond t t_laid (whole p) (whole q) ways_apart (origin m h) (origin m (rev h))
         outer seen X (whole p) (start_side blind) (bracket-second X (whole p))
         (subst (λ z. pos 0 <ℤ z) (bracket-turned X (whole p) (whole q))
@@ -573,27 +570,27 @@ module _ {V D U F : Type 0} {at : V → Point} {IsSite IsCovered : Point → Typ
       -- the end of the edge
       pub end_met : side (whole p) (whole q) Y ≡ on → ¬ (side (whole p) (whole q) X ≡ left)
           → Starts at c p q (Some (Vertex (origin m (rev h))))
-      end_met e n = starts_first over apart (Vertex (origin m (rev h)))
-          (start_known over (rev h) (of_mesh over (rev h) r_in))
+      end_met e n = starts_first placed apart (Vertex (origin m (rev h)))
+          (start_known placed (rev h) (of_mesh placed (rev h) r_in))
           (end_first t t_laid (whole p) (whole q) ways_apart (origin m h) (origin m (rev h)) outer
-          seen not_above (start_in over (rev h) r_in)
+          seen not_above (start_in placed (rev h) r_in)
           (none_if_on (whole p) (whole q) Y e)
           (start_below e n))
 
       -- the start of the edge
       pub start_met : side (whole p) (whole q) X ≡ on → side (whole p) (whole q) Y ≡ left
           → Starts at c p q (Some (Vertex (origin m h)))
-      start_met e l = starts_first over apart (Vertex (origin m h)) (start_known over h s.within)
+      start_met e l = starts_first placed apart (Vertex (origin m h)) (start_known placed h s.within)
           (start_first t t_laid (whole p) (whole q) ways_apart (origin m h) (origin m (rev h))
-          outer seen not_above (start_in over h w)
+          outer seen not_above (start_in placed h w)
           (none_if_on (whole p) (whole q) X e)
           (above_if_left (whole p) (whole q) Y l))
 
       -- the edge itself
       pub edge_met : StartsOutside t p → side (whole p) (whole q) X ≡ right
           → side (whole p) (whole q) Y ≡ left → Starts at c p q (Some (Edge (rev h)))
-      edge_met outside r l = enters over outside apart (rev h)
-          (of_mesh over (rev h) r_in) (
+      edge_met outside r l = enters placed outside apart (rev h)
+          (of_mesh placed (rev h) r_in) (
             subst (λ (k : ℕ). face m k ≡ 0) twice s.outer,
             (
               (

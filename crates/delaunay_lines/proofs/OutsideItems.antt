@@ -1,5 +1,5 @@
 -- What a segment meets first from outside a mesh.
--- Lemmas: better_keeps, no_better_itself, no_better_if, found_within, along_weakened,
+-- Lemmas: better_found, found_better, found_within, along_weakened,
 -- none_entered, hull_begins, twin_along, alone_outside, enters, nearest_is_first, none_is_first,
 -- alone_elsewhere.
 use Rattle.std.proofs.Common.{◌≡◌, ◌≢◌, ◌⊎◌, ◌<◌, ◌∙◌, [], ◌∷◌}
@@ -33,6 +33,7 @@ use Rattle.plane_segments.proofs.First.OutlineStarts.{IsOnOutline, nearest_of_ou
 use Rattle.plane_segments.proofs.First.LineStarts.{equal_ends, first_on_line}
 use Rattle.plane_segments.proofs.Items.Begins.{edge_flipped}
 use Rattle.delaunay_location.specs.mesh_embedding.Drawn.{drawn}
+use Rattle.delaunay_location.specs.delaunay_legalization.Placed.{IsPlaced}
 use Rattle.delaunay_location.proofs.mesh_embedding.EdgePairs.{joins_edge}
 use Rattle.delaunay_location.proofs.mesh_embedding.OutlineGiven.{IsGoingAlong, along_begins, along_ends}
 use Rattle.delaunay_location.proofs.mesh_embedding.OutlineGiven.{along_next, indexes}
@@ -48,9 +49,8 @@ use Rattle.delaunay_location.specs.declared.position_in_triangulation.PositionIn
 }
 use Rattle.delaunay_location.specs.Location.{Locates}
 use Rattle.delaunay_lines.specs.declared.intersection.FixedIntersection.TheVariants.{Edge, Vertex}
-use Rattle.delaunay_lines.specs.Steps.{IsOverMesh}
-use Rattle.delaunay_lines.specs.Starts.{IsCrossed, IsEntered, IsNearestOf, IsBetter, StartsOutside}
-use Rattle.delaunay_lines.specs.Starts.{IsNoBetter, IsOnSegment}
+use Rattle.delaunay_lines.specs.Starts.{IsCrossed, IsEntered, IsNearestOf, IsBetter, IsBetterOf}
+use Rattle.delaunay_lines.specs.Starts.{IsNoBetter, IsOnSegment, StartsOutside}
 use Rattle.delaunay_lines.specs.Walk.{Starts}
 use Rattle.delaunay_lines.proofs.MeshSteps.{laid, in_mesh, of_mesh, joined, bare, face_at, not_same}
 use Rattle.delaunay_lines.proofs.FirstItems.{alone_inside, starts_first, nothing, nothing_met}
@@ -83,7 +83,7 @@ module _ (points : List Point) (p q : Point) where
 
   -- a vertex that is better than the one before it is on the segment, and no other is better that
   -- was not before
-  pub better_keeps : (r : Option ℕ) (v : ℕ) → IsBetter points p q v r → (k : ℕ)
+  better_keeps : (r : Option ℕ) (v : ℕ) → IsBetter points p q v r → (k : ℕ)
       → IsNoBetter points p q r k → IsNoBetter points p q (Some v) k
   better_keeps None v better k before on h = before on
   better_keeps (Some o) v better k before on h = before on (record {
@@ -92,13 +92,30 @@ module _ (points : List Point) (p q : Point) where
   })
 
   -- a vertex is no better than itself
-  pub no_better_itself : (v : ℕ) → IsNoBetter points p q (Some v) v
+  no_better_itself : (v : ℕ) → IsNoBetter points p q (Some v) v
   no_better_itself v on h = itself (d v) (nearer_of v v h)
 
   -- one that is not better is no better
-  pub no_better_if : (r : Option ℕ) (v : ℕ) → ¬ IsBetter points p q v r → IsNoBetter points p q r v
+  no_better_if : (r : Option ℕ) (v : ℕ) → ¬ IsBetter points p q v r → IsNoBetter points p q r v
   no_better_if None v worse = λ on. worse (on, tt)
   no_better_if (Some o) v worse = λ on h. worse (on, nearer_of v o h)
+
+  -- either way what is kept is the better one
+  pub better_found : (r : Option ℕ) (v : ℕ) → v < length points → IsBetter points p q v r
+      → IsBetterOf points p q v r (Some v)
+  better_found r v within better = record {
+    found = (within, better.0);
+    kept = better_keeps r v better;
+    here = no_better_itself v;
+  }
+
+  pub found_better : (r : Option ℕ) (v : ℕ) → IsOnSegment points p q r → ¬ IsBetter points p q v r
+      → IsBetterOf points p q v r r
+  found_better r v found worse = record {
+    found = found;
+    kept = λ k before. before;
+    here = no_better_if r v worse;
+  }
 
 -- what is found on a segment is a vertex
 pub found_within : (points : List Point) (p q : Point) (n : ℕ) → length points ≡ n → (r : Option ℕ)
@@ -115,44 +132,44 @@ along_weakened weaker going = record {
 }
 
 -- a segment enters by no edge where the search along the outline has seen none that it crosses
-pub none_entered : {V D U F C : Type 0} {at : V → Point} {IsSite IsCovered : Point → Type 0}
-    {c : Contents V D U F} {p q : Point} {given : List (Bor C × ℕ)}
-    → IsOverMesh at IsSite IsCovered c p q → IsGoingAlong c.mesh
+pub none_entered : {V D U F C P : Type 0} {at : V → Point} {IsSite : P → Point → Type 0}
+    {c : Contents V D U F} {tests : P} (p q : Point) {given : List (Bor C × ℕ)}
+    → IsPlaced at IsSite c tests → IsGoingAlong c.mesh
     (λ (h : ℕ). ¬ IsCrossed (map at c.vertices) c.mesh p q (rev h)) (indexes given) → given ≡ []
     → (h : ℕ) → h < length c.directed → ¬ IsEntered (map at c.vertices) c.mesh p q h
-none_entered {c = c} {given = given} over going none h within entered =
+none_entered {c = c} p q {given = given} placed going none h within entered =
     along_ends c.mesh _ given going none (rev h) (
-      rev_within h (length c.mesh.half_edges) over.mesh.valid.sound.even (in_mesh over h within),
+      rev_within h (length c.mesh.half_edges) placed.kept.valid.sound.even (in_mesh placed h within),
       entered.0,
     ) (rw (rev-rev h) entered.1)
 
 -- the outer edges are left before the search along the outline begins
-pub hull_begins : {V D U F : Type 0} {at : V → Point} {IsSite IsCovered : Point → Type 0}
-    {d : Bor (Contents V D U F)} {p q : Point} {Seen : ℕ → Type 0} {it items : HullIterator V D U F}
-    → IsOverMesh at IsSite IsCovered d.now p q → GivesOuterLoop d (hull_left items) → it ≡ items
+pub hull_begins : {V D U F P : Type 0} {at : V → Point} {IsSite : P → Point → Type 0}
+    {d : Bor (Contents V D U F)} {tests : P} {Seen : ℕ → Type 0} {it items : HullIterator V D U F}
+    → IsPlaced at IsSite d.now tests → GivesOuterLoop d (hull_left items) → it ≡ items
     → IsGoingAlong d.now.mesh Seen (indexes (hull_left it))
-hull_begins {d = d} {Seen = Seen} {items = items} over gives is =
+hull_begins {d = d} {Seen = Seen} {items = items} placed gives is =
     subst (λ i. IsGoingAlong d.now.mesh Seen (indexes (hull_left i))) (sym is)
-    (along_begins d (hull_left items) Seen over.mesh.valid
-    (one_outline _ _ over.mesh.valid over.shape) gives)
+    (along_begins d (hull_left items) Seen placed.kept.valid
+    (one_outline _ _ placed.kept.valid placed.kept.shape) gives)
 
 -- where an edge is given along the outline, its other direction has the outer face on its right
-pub twin_along : {V D U F C : Type 0} {at : V → Point} {IsSite IsCovered : Point → Type 0}
-    {c : Contents V D U F} {p q : Point} {Seen : ℕ → Type 0} {given others : List (Bor C × ℕ)}
-    {x : Bor C × ℕ} {h : ℕ} → IsOverMesh at IsSite IsCovered c p q
+pub twin_along : {V D U F C P : Type 0} {at : V → Point} {IsSite : P → Point → Type 0}
+    {c : Contents V D U F} {tests : P} {Seen : ℕ → Type 0} {given others : List (Bor C × ℕ)}
+    {x : Bor C × ℕ} {h : ℕ} → IsPlaced at IsSite c tests
     → IsGoingAlong c.mesh Seen (indexes given) → given ≡ x ∷ others → h ≡ rev x.1
     → (h < length c.directed) × (face c.mesh (rev h) ≡ 0)
-twin_along {c = c} {Seen = Seen} {given = given} {others = others} {x = x} over going gives is =
+twin_along {c = c} {Seen = Seen} {given = given} {others = others} {x = x} placed going gives is =
     let o = along_next c.mesh Seen given going x others gives in
     rw (is, rev-rev x.1) (
-      of_mesh over (rev x.1) (rev_within x.1 _ over.mesh.valid.sound.even o.0),
+      of_mesh placed (rev x.1) (rev_within x.1 _ placed.kept.valid.sound.even o.0),
       o.1,
     )
 
 -- ---- the first item
-module _ {V D U F : Type 0} {at : V → Point} {IsSite IsCovered : Point → Type 0}
-    {c : Contents V D U F} {p q : Point} (over : IsOverMesh at IsSite IsCovered c p q)
-    (outside : StartsOutside (drawn (map at c.vertices) c.mesh) p) where
+module _ {V D U F P : Type 0} {at : V → Point} {IsSite : P → Point → Type 0}
+    {c : Contents V D U F} {tests : P} (placed : IsPlaced at IsSite c tests)
+    {p : Point} (outside : StartsOutside (drawn (map at c.vertices) c.mesh) p) where
   abbrev m : Mesh
   m = c.mesh
 
@@ -163,21 +180,21 @@ module _ {V D U F : Type 0} {at : V → Point} {IsSite IsCovered : Point → Typ
   t = drawn points m
 
   t_laid : IsLaid t
-  t_laid = laid over
+  t_laid = laid placed
 
   -- from p to itself the walk meets nothing
-  pub alone_outside : p ≡ q → Starts at c p q None
-  alone_outside e = nothing over (elim t_laid [
+  pub alone_outside : {q : Point} → p ≡ q → Starts at c p q None
+  alone_outside {q = q} e = nothing placed (elim t_laid [
     | inl tiles ↦ (let l = outside.left_of tiles in
-        (equal_ends t (whole p) (whole q) (same_ends over e)).3 tiles
+        (equal_ends t (whole p) (whole q) (same_ends placed e)).3 tiles
         l.0 l.1 l.2 l.3)
     | inr line ↦
-        (equal_ends t (whole p) (whole q) (same_ends over e)).4 line.0
+        (equal_ends t (whole p) (whole q) (same_ends placed e)).4 line.0
         outside.no_vertex (λ i j edge w. outside.no_edge i j edge
         (on_of_within (vertex t i) (vertex t j) (whole p) w))
   ])
 
-  module _ (apart : p ≢ q) where
+  module _ {q : Point} (apart : p ≢ q) where
     ways_apart : ¬ IsSame (whole p) (whole q)
     ways_apart = not_same p q apart
 
@@ -186,10 +203,10 @@ module _ {V D U F : Type 0} {at : V → Point} {IsSite IsCovered : Point → Typ
     met_if h w x = elim t_laid [
       | inl tiles ↦
           (crossing_by_sides t tiles (whole p) (whole q) ways_apart (origin m h) (origin m (rev h))
-          (joined over h w)).1 (x.0.0, x.0.1, x.1.0, x.1.1)
+          (joined placed h w)).1 (x.0.0, x.0.1, x.1.0, x.1.1)
       | inr l ↦ ((crossing_on_line t l.0 l.1 l.2).0 (whole p) (whole q) ways_apart (origin m h)
           (origin m (rev h))
-          (joined over h w)).1 (x.0.0, x.0.1, x.1.0, x.1.1)
+          (joined placed h w)).1 (x.0.0, x.0.1, x.1.0, x.1.1)
     ]
 
     crossed_if : (h : ℕ) → h < length m.half_edges
@@ -198,10 +215,10 @@ module _ {V D U F : Type 0} {at : V → Point} {IsSite IsCovered : Point → Typ
     crossed_if h w x = elim t_laid [
       | inl tiles ↦ of_four
           ((crossing_by_sides t tiles (whole p) (whole q) ways_apart (origin m h) (origin m (rev h))
-          (joined over h w)).0 x)
+          (joined placed h w)).0 x)
       | inr l ↦
           of_four (((crossing_on_line t l.0 l.1 l.2).0 (whole p) (whole q) ways_apart (origin m h)
-          (origin m (rev h)) (joined over h w)).0 x)
+          (origin m (rev h)) (joined placed h w)).0 x)
     ]
       where
         of_four : (side (whole p) (whole q) (vertex t (origin m h)) ≡ left)
@@ -215,7 +232,7 @@ module _ {V D U F : Type 0} {at : V → Point} {IsSite IsCovered : Point → Typ
     pub enters : (h : ℕ) → h < length c.directed → IsEntered points m p q h
         → Starts at c p q (Some (Edge h))
     enters h within x =
-        starts_first over apart (Edge h) within (elim t_laid [
+        starts_first placed apart (Edge h) within (elim t_laid [
           | inl tiles ↦ (first_item t tiles (whole p) (whole q) ways_apart).3 (origin m (rev h))
               (origin m h) met outer
           | inr l ↦ ((first_on_line t l.0 l.1 l.2 (whole p) (whole q) ways_apart).2 (origin m h)
@@ -223,28 +240,28 @@ module _ {V D U F : Type 0} {at : V → Point} {IsSite IsCovered : Point → Typ
         ])
       where
         w : h < length m.half_edges
-        w = in_mesh over h within
+        w = in_mesh placed h within
 
         met : Meets t (whole p) (whole q) (across (origin m h) (origin m (rev h)))
         met = met_if h w x.1
 
         r_in : rev h < length m.half_edges
-        r_in = rev_within h (length m.half_edges) over.mesh.valid.sound.even w
+        r_in = rev_within h (length m.half_edges) placed.kept.valid.sound.even w
 
         outer : IsOuter t (origin m (rev h)) (origin m h)
         outer = (
           edge_flipped t (origin m h) (origin m (rev h))
-              (joined over h w),
+              (joined placed h w),
           subst (λ (k : ℕ). ¬ HasFace t (origin m (rev h)) (origin m k)) (rev-rev h)
-              (bare over (rev h) r_in x.0),
+              (bare placed (rev h) r_in x.0),
         )
 
     module _ (none : (h : ℕ) → h < length c.directed → ¬ IsEntered points m p q h) where
       no_outer_crossed : TilesHull t → (a b : ℕ) → IsOuter t a b
           → ¬ Meets t (whole p) (whole q) (across b a)
       no_outer_crossed tiles a b outer met =
-          let h = joins_edge m over.mesh.valid.sound b a met.0 in
-          none h.0 (of_mesh over h.0 h.1) (
+          let h = joins_edge m placed.kept.valid.sound b a met.0 in
+          none h.0 (of_mesh placed h.0 h.1) (
             twin_is_outer h.0 h.1 h.2 h.3 (none_or_some (face m (rev h.0))),
             crossed_if h.0 h.1 (subst (λ (x : ℕ × ℕ). Meets t (whole p) (whole q) (across x.0 x.1))
                 (λ i. (sym h.2 i, sym h.3 i)) met),
@@ -257,14 +274,14 @@ module _ {V D U F : Type 0} {at : V → Point} {IsSite IsCovered : Point → Typ
               (subst (λ (x : ℕ × ℕ). HasFace t x.0 x.1)
               (λ i. (f i, (ap (origin m) (rev-rev h) ∙ e) i)) (
                 origin m (prev m (rev h)),
-                face_at over (rev h)
-                    (rev_within h (length m.half_edges) over.mesh.valid.sound.even w) inner,
+                face_at placed (rev h)
+                    (rev_within h (length m.half_edges) placed.kept.valid.sound.even w) inner,
               )))
 
       no_crossed_on_line : JoinsLine t → (a b : ℕ) → ¬ Meets t (whole p) (whole q) (across a b)
       no_crossed_on_line line a b met =
-          let h = joins_edge m over.mesh.valid.sound a b met.0 in
-          none h.0 (of_mesh over h.0 h.1) (
+          let h = joins_edge m placed.kept.valid.sound a b met.0 in
+          none h.0 (of_mesh placed h.0 h.1) (
             twin_is_outer h.0 h.1 (none_or_some (face m (rev h.0))),
             crossed_if h.0 h.1 (subst (λ (x : ℕ × ℕ). Meets t (whole p) (whole q) (across x.0 x.1))
                 (λ i. (sym h.2 i, sym h.3 i)) met),
@@ -276,13 +293,13 @@ module _ {V D U F : Type 0} {at : V → Point} {IsSite IsCovered : Point → Typ
           twin_is_outer h w (inr inner) =
               absurd (line_has_none m (origin m (rev h)) (origin m (rev (rev h)))
               (origin m (prev m (rev h))) line.no_face
-              (face_at over (rev h)
-              (rev_within h (length m.half_edges) over.mesh.valid.sound.even w) inner))
+              (face_at placed (rev h)
+              (rev_within h (length m.half_edges) placed.kept.valid.sound.even w) inner))
 
       outer_edge : (a b : ℕ) → IsOuter t a b → (h : ℕ) × (h < length m.half_edges)
           × (face m h ≡ 0) × (origin m h ≡ a) × (origin m (rev h) ≡ b)
       outer_edge a b outer =
-          let h = joins_edge m over.mesh.valid.sound a b outer.0 in
+          let h = joins_edge m placed.kept.valid.sound a b outer.0 in
           (h.0, h.1, is_outer h.0 h.1 h.2 h.3 (none_or_some (face m h.0)), h.2, h.3)
         where
           is_outer : (h : ℕ) → h < length m.half_edges → origin m h ≡ a → origin m (rev h) ≡ b
@@ -291,7 +308,7 @@ module _ {V D U F : Type 0} {at : V → Point} {IsSite IsCovered : Point → Typ
           is_outer h w e f (inr inner) = absurd (outer.1
               (subst (λ (x : ℕ × ℕ). HasFace t x.0 x.1) (λ i. (e i, f i)) (
                 origin m (prev m h),
-                face_at over h w inner,
+                face_at placed h w inner,
               )))
 
       -- an outer edge starts at each vertex of the outline
@@ -300,7 +317,7 @@ module _ {V D U F : Type 0} {at : V → Point} {IsSite IsCovered : Point → Typ
       outer_from w (inl x) = let h = outer_edge w x.0 x.1 in (h.0, h.1, h.2, h.3)
       outer_from w (inr x) =
           let h = outer_edge x.0 w x.1 in
-          let here = over.mesh.valid.sound.edges h.0 h.1 in
+          let here = placed.kept.valid.sound.edges h.0 h.1 in
           (next m h.0, here.next_in, here.same_face ∙ h.2, here.starts ∙ h.4)
 
       -- and at each vertex but a lone one, where all are on one line
@@ -310,14 +327,14 @@ module _ {V D U F : Type 0} {at : V → Point} {IsSite IsCovered : Point → Typ
           let e = edge_beside t line k 0 hk (omega (arith, hk)) (λ same. other (one k 0 hk
           (omega (arith, hk)) (subst (λ x. IsSame (vertex t k) (whole x)) same
           (same-refl (vertex t k))))) in
-          let h = joins_edge m over.mesh.valid.sound k e.0 e.1 in
+          let h = joins_edge m placed.kept.valid.sound k e.0 e.1 in
           (h.0, h.1, all_outer h.0 h.1 (none_or_some (face m h.0)), h.2)
         where
           all_outer : (h : ℕ) → h < length m.half_edges → (face m h ≡ 0) ⊎ (0 < face m h)
               → face m h ≡ 0
           all_outer h w (inl o) = o
           all_outer h w (inr inner) = absurd (line_has_none m (origin m h) (origin m (rev h))
-              (origin m (prev m h)) line.no_face (face_at over h w inner))
+              (origin m (prev m h)) line.no_face (face_at placed h w inner))
 
       -- a vertex on the segment, seen from the outline
       no_better_there : (r : Option ℕ) → IsNearestOf points m p q r → (w : ℕ)
@@ -329,7 +346,7 @@ module _ {V D U F : Type 0} {at : V → Point} {IsSite IsCovered : Point → Typ
           → IsNearestOf points m p q r
           → (w : ℕ) → IsVertex t w → IsNoBetter points p q r w
       no_better_on_line line one r x w hw = elim (cases_eq w 0) [
-        | inl e ↦ subst (IsNoBetter points p q r) (sym e) (x.first (omega (arith, hw)))
+        | inl e ↦ subst (IsNoBetter points p q r) (sym e) (x.first.first (omega (arith, hw)))
         | inr d ↦ no_better_there r x w (outer_on_line line one w hw d)
       ]
 
@@ -337,20 +354,20 @@ module _ {V D U F : Type 0} {at : V → Point} {IsSite IsCovered : Point → Typ
       pub nearest_is_first : (v : ℕ) → IsNearestOf points m p q (Some v)
           → Starts at c p q (Some (Vertex v))
       nearest_is_first v x =
-          starts_first over apart (Vertex v)
-          (subst (λ (n : ℕ). v < n) (length-map c.vertices at) x.found.0) (elim t_laid [
+          starts_first placed apart (Vertex v)
+          (subst (λ (n : ℕ). v < n) (length-map c.vertices at) x.first.found.0) (elim t_laid [
             | inl tiles ↦ (let l = outside.left_of tiles in
                 nearest_of_outline t tiles (whole p) (whole q) ways_apart l.0 l.1 l.2 l.3
-                (no_outer_crossed tiles) v x.found
+                (no_outer_crossed tiles) v x.first.found
                 (λ w o met. no_better_there (Some v) x w (outer_from w o) met.1))
             | inr l ↦
                 ((first_on_line t l.0 l.1 l.2 (whole p) (whole q) ways_apart).3 outside.no_edge).0
-                v x.found (λ w met. no_better_on_line l.0 l.2 (Some v) x w met.0 met.1)
+                v x.first.found (λ w met. no_better_on_line l.0 l.2 (Some v) x w met.0 met.1)
           ])
 
       -- and with no vertex on it the segment meets nothing
       pub none_is_first : IsNearestOf points m p q None → Starts at c p q None
-      none_is_first x = nothing_met over apart (elim t_laid [
+      none_is_first x = nothing_met placed apart (elim t_laid [
         | inl tiles ↦ (let l = outside.left_of tiles in
             none_of_outline t tiles (whole p) (whole q) ways_apart l.0 l.1 l.2 l.3
             (no_outer_crossed tiles)
@@ -360,17 +377,17 @@ module _ {V D U F : Type 0} {at : V → Point} {IsSite IsCovered : Point → Typ
       ])
 
 -- located neither on a vertex nor on an edge, p meets nothing on the way to itself
-pub alone_elsewhere : {V D U F : Type 0} {at : V → Point} {IsSite IsCovered : Point → Type 0}
-    {c : Contents V D U F} {p q : Point} → IsOverMesh at IsSite IsCovered c p q
+pub alone_elsewhere : {V D U F P : Type 0} {at : V → Point} {IsSite : P → Point → Type 0}
+    {c : Contents V D U F} {tests : P} {p q : Point} → IsPlaced at IsSite c tests
     → (l : PositionInTriangulation) → Locates (map at c.vertices) c.mesh p l
     → ((v : ℕ) → ¬ (l ≡ OnVertex v)) → ((e : ℕ) → ¬ (l ≡ OnEdge e)) → p ≡ q → Starts at c p q None
-alone_elsewhere over (OnVertex v) here no_vertex no_edge same = absurd (no_vertex v refl)
-alone_elsewhere over (OnEdge e) here no_vertex no_edge same = absurd (no_edge e refl)
-alone_elsewhere {c = c} over (OnFace f) here no_vertex no_edge same =
-    alone_inside over (face_edge c.mesh f)
-    (of_mesh over _ (over.mesh.valid.sound.faces f here.handle.0 here.handle.1).0)
-    (inside_that_face over f here) same
-alone_elsewhere over (OutsideOfConvexHull e) here no_vertex no_edge same =
-    alone_outside over (outside_that_edge over e here) same
-alone_elsewhere over NoTriangulation here no_vertex no_edge same =
-    alone_outside over (without_triangulation over here) same
+alone_elsewhere placed (OnVertex v) here no_vertex no_edge same = absurd (no_vertex v refl)
+alone_elsewhere placed (OnEdge e) here no_vertex no_edge same = absurd (no_edge e refl)
+alone_elsewhere {c = c} placed (OnFace f) here no_vertex no_edge same =
+    alone_inside placed (face_edge c.mesh f)
+    (of_mesh placed _ (placed.kept.valid.sound.faces f here.handle.0 here.handle.1).0)
+    (inside_that_face placed f here) same
+alone_elsewhere placed (OutsideOfConvexHull e) here no_vertex no_edge same =
+    alone_outside placed (outside_that_edge placed e here) same
+alone_elsewhere placed NoTriangulation here no_vertex no_edge same =
+    alone_outside placed (without_triangulation placed here) same

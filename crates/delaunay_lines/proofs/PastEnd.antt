@@ -40,9 +40,10 @@ use Rattle.delaunay_location.specs.mesh_embedding.Drawn.{drawn}
 use Rattle.delaunay_location.specs.Location.{Locates}
 use Rattle.delaunay_location.specs.declared.position_in_triangulation.PositionInTriangulation.TheVariants.{OutsideOfConvexHull}
 use Rattle.delaunay_location.specs.delaunay_legalization.Known.{point_at}
+use Rattle.delaunay_location.specs.delaunay_legalization.Placed.{IsPlaced}
 use Rattle.delaunay_lines.specs.declared.intersection.FixedIntersection.TheVariants.{Vertex}
 use Rattle.delaunay_lines.specs.Starts.{StartsOutside}
-use Rattle.delaunay_lines.specs.Steps.{IsOverMesh, IsLeftOf}
+use Rattle.delaunay_lines.specs.Steps.{IsLeftOf}
 use Rattle.delaunay_lines.specs.Walk.{Starts}
 use Rattle.delaunay_lines.proofs.FirstItems.{starts_first, nothing_met}
 use Rattle.delaunay_lines.proofs.Located.{none_past}
@@ -99,8 +100,8 @@ module _ (p k i : Fraction) (within : WithinSegment p k i) where
           let w = lib.IntN.*ℤ_comm k b in omega (arith, ints)
 
 -- ---- over a mesh
-module _ {V D U F : Type 0} {at : V → Point} {IsSite IsCovered : Point → Type 0}
-    {c : Contents V D U F} {p q : Point} (over : IsOverMesh at IsSite IsCovered c p q) where
+module _ {V D U F P : Type 0} {at : V → Point} {IsSite : P → Point → Type 0}
+    {c : Contents V D U F} {tests : P} (placed : IsPlaced at IsSite c tests) where
   abbrev m : Mesh
   m = c.mesh
 
@@ -111,7 +112,7 @@ module _ {V D U F : Type 0} {at : V → Point} {IsSite IsCovered : Point → Typ
   t = drawn points m
 
   -- located beyond an outer edge that p does not see, p is past the vertex where the edge starts
-  pub past_if_unseen : (e : ℕ) → Locates points m p (OutsideOfConvexHull e)
+  pub past_if_unseen : {p : Point} (e : ℕ) → Locates points m p (OutsideOfConvexHull e)
       → ¬ IsLeftOf points m p e → IsPast t (origin m e) (whole p)
   past_if_unseen e l unseen = elim l.location.1 [
     | inl seen ↦ absurd (unseen seen)
@@ -119,23 +120,23 @@ module _ {V D U F : Type 0} {at : V → Point} {IsSite IsCovered : Point → Typ
   ]
 
   -- ---- past the vertex where directed edge h starts
-  module _ (outside : StartsOutside t p) (apart : p ≢ q) (h : ℕ) (h_in : h < length c.directed)
-      (past : IsPast t (origin m h) (whole p)) where
+  module _ {p q : Point} (outside : StartsOutside t p) (apart : p ≢ q) (h : ℕ)
+      (h_in : h < length c.directed) (past : IsPast t (origin m h) (whole p)) where
     abbrev end : ℕ
     end = origin m h
 
     end_in : IsVertex t end
-    end_in = start_in over h
-        (in_mesh over h h_in)
+    end_in = start_in placed h
+        (in_mesh placed h h_in)
 
     t_laid : IsLaid t
-    t_laid = laid over
+    t_laid = laid placed
 
     ways_apart : ¬ IsSame (whole p) (whole q)
     ways_apart = not_same p q apart
 
     no_hull : ¬ TilesHull t
-    no_hull tiles = none_past over tiles end end_in past
+    no_hull tiles = none_past placed tiles p end end_in past
 
     -- a segment through a vertex passes the end
     end_on_way : (k : ℕ) → Meets t (whole p) (whole q) (at_vertex k)
@@ -188,7 +189,7 @@ module _ {V D U F : Type 0} {at : V → Point} {IsSite IsCovered : Point → Typ
         → Starts at c p q (Some (Vertex end))
     end_passed is met =
         let on = subst (λ (x : Point). OnSegment (whole p) (whole q) (whole x)) is met in
-        starts_first over apart (Vertex end) (start_known over h h_in) (elim t_laid [
+        starts_first placed apart (Vertex end) (start_known placed h h_in) (elim t_laid [
           | inl tiles ↦ absurd (no_hull tiles)
           | inr l ↦ ((first_on_line t l.0 l.1 l.2 (whole p) (whole q) ways_apart).3
               outside.no_edge).0 end (end_in, on) none_sooner
@@ -200,7 +201,7 @@ module _ {V D U F : Type 0} {at : V → Point} {IsSite IsCovered : Point → Typ
     end_missed is missed =
         let off = λ (on : OnSegment (whole p) (whole q) (vertex t end)).
         missed (subst (λ (x : Point). OnSegment (whole p) (whole q) (whole x)) (sym is) on) in
-        nothing_met over apart (elim t_laid [
+        nothing_met placed apart (elim t_laid [
           | inl tiles ↦ absurd (no_hull tiles)
           | inr l ↦
               ((first_on_line t l.0 l.1 l.2 (whole p) (whole q) ways_apart).3 outside.no_edge).1

@@ -31,10 +31,10 @@ module _ {V D U F P S : Type 0} {at : V → Point} {number : S → ℤ}
       subst (λ (o : Option FixedIntersection). AreFrom at it.dcel.now p q o items) is left
 
   -- the segment is at the item, if its ends differ
-  pub at_item : p ≢ q → IsAtItem at
-      (record { dcel = it.dcel.now; tests = it.tests.now; from = p; to = q }) i
+  pub at_item : p ≢ q → IsAtItem at number (record { dcel = it.dcel.now; tests = it.tests.now })
+      it.from it.to i
   at_item apart = let here = from_here ready.items ready.are_left in
-      record { within = here.0; apart = apart; met = here.1.2.met apart }
+      record { within = here.0; met = here.1.2.met apart }
 
   -- the bound on the items that are left is at least 1
   pub counts_more : 1 ≤ it.left
@@ -49,7 +49,7 @@ module _ {V D U F P S : Type 0} {at : V → Point} {number : S → ℤ}
 
     others : (items : List Item) → AreLeft at number it items → (others : List Item)
         × (items ≡ item_of it.dcel.now.mesh i ∷ others) × AreLeft at number after others
-    others items left = further ready.over i items (from_here items left) r alone next
+    others items left = further ready.over.placed p q i items (from_here items left) r alone next
 
     -- an answer with the current item of the same mesh gives what is next
     pub gives_some : {x : Intersection V D U F} → item_in x ≡ item_of it.dcel.now.mesh i

@@ -1,6 +1,6 @@
 -- A walk along the outline of a mesh from outside, towards the line of a segment.
-use Rattle.std.specs.Prelude.{◌≡◌, ◌≢◌, ℕ, ◌<◌, length, map}
-use Rattle.delaunay_location.specs.half_edge_mesh.Mesh.{origin, next, prev, face, rev}
+use Rattle.std.specs.Prelude.{◌≡◌, ◌≢◌, ℕ, ◌<◌, List, length, map, Option, MatchOption}
+use Rattle.delaunay_location.specs.half_edge_mesh.Mesh.{Mesh, origin, next, prev, face, rev}
 use Rattle.delaunay_location.specs.half_edge_mesh.Contents.{Contents}
 use Rattle.delaunay_location.specs.plane.Fraction.{Point, whole}
 use Rattle.delaunay_location.specs.plane.Side.{side, left, right}
@@ -13,6 +13,11 @@ pub record IsSeenOuter {V D U F : Type 0} (at : V → Point) (c : Contents V D U
   pub within : h < length c.directed
   pub outer : face c.mesh h ≡ 0
   pub seen : IsLeftOf (map at c.vertices) c.mesh p h
+
+-- directed edge h, where p is strictly on its left
+abbrev pub IsIfSeen : List Point → Mesh → Point → ℕ → Option ℕ → Type 0
+IsIfSeen points m p h r =
+    MatchOption r (¬ IsLeftOf points m p h) (λ e. (e ≡ h) × IsLeftOf points m p h)
 
 -- where directed edge h ends on the right of the segment from p to q, p is not on the left of the
 -- edge after it, and else, where it starts on its left, not of the edge before it

@@ -64,12 +64,23 @@ abbrev pub IsOnSegment : List Point → Point → Point → Option ℕ → Type 
 IsOnSegment points p q r =
     IfSome r (λ v. (v < length points) × OnSegment (whole p) (whole q) (place points v))
 
--- and neither vertex 0 nor one where an outer edge starts is better
-pub record IsNearestOf (points : List Point) (m : Mesh) (p q : Point) (r : Option ℕ) : Type 0 where
+-- and vertex 0 is no better
+pub record IsFirstFound (points : List Point) (p q : Point) (r : Option ℕ) : Type 0 where
   pub found : IsOnSegment points p q r
   pub first : 0 < length points → IsNoBetter points p q r 0
+
+-- nor is one where an outer edge starts
+pub record IsNearestOf (points : List Point) (m : Mesh) (p q : Point) (r : Option ℕ) : Type 0 where
+  pub first : IsFirstFound points p q r
   pub outer : (h : ℕ) → h < length m.half_edges → face m h ≡ 0
       → IsNoBetter points p q r (origin m h)
+
+-- vertex v and each vertex that was no better before are not better
+pub record IsBetterOf (points : List Point) (p q : Point) (v : ℕ) (before r : Option ℕ)
+    : Type 0 where
+  pub found : IsOnSegment points p q r
+  pub kept : (k : ℕ) → IsNoBetter points p q before k → IsNoBetter points p q r k
+  pub here : IsNoBetter points p q r v
 
 -- vertex v is nearer to p than the other one, if there is one
 abbrev pub IsNearerVertex : List Point → Point → ℕ → Option ℕ → Type 0

@@ -1,26 +1,15 @@
 -- From an item that a segment meets in a mesh to the next, by handles.
-use Rattle.std.specs.Prelude.{◌⊎◌, ℕ, ◌<◌, List, map, All, Option, MatchOption}
+use Rattle.std.specs.Prelude.{◌⊎◌, ℕ, ◌<◌, List, map, Option, MatchOption}
 use Rattle.delaunay_location.specs.half_edge_mesh.Mesh.{Mesh, origin, prev, face, rev}
-use Rattle.delaunay_location.specs.half_edge_mesh.Contents.{Contents, IsMeshWithData}
+use Rattle.delaunay_location.specs.half_edge_mesh.Contents.{Contents}
 use Rattle.delaunay_location.specs.plane.Fraction.{Point, whole}
 use Rattle.delaunay_location.specs.plane.Side.{TurnsLeft}
 use Rattle.delaunay_location.specs.plane.Pairs.{place}
 use Rattle.delaunay_location.specs.plane.Line.{Item}
-use Rattle.delaunay_location.specs.plane_tiling.Local.{IsMesh}
 use Rattle.plane_segments.specs.Steps.{ComesNext, IsLast, IsAhead}
-use Rattle.delaunay_location.specs.mesh_embedding.Drawn.{drawn, faces_of, outer_of}
+use Rattle.delaunay_location.specs.mesh_embedding.Drawn.{drawn}
 use Rattle.delaunay_lines.specs.declared.intersection.FixedIntersection.{FixedIntersection}
 use Rattle.delaunay_lines.specs.Items.{item_of, IsHandleOf}
-
--- the mesh of a triangulation whose vertices are sites, and two covered points, the ends of a
--- segment
-pub record IsOverMesh {V D U F : Type 0} (at : V → Point) (IsSite IsCovered : Point → Type 0)
-    (c : Contents V D U F) (p q : Point) : Type 0 where
-  pub mesh : IsMeshWithData c
-  pub shape : IsMesh (map at c.vertices) (faces_of c.mesh) (outer_of c.mesh)
-  pub sites : All IsSite (map at c.vertices)
-  pub from : IsCovered p
-  pub to : IsCovered q
 
 -- q is on the left of directed edge h
 abbrev pub IsLeftOf : List Point → Mesh → Point → ℕ → Type 0

@@ -9,12 +9,12 @@ use Rattle.plane_segments.specs.Steps.{GoesOn}
 use Rattle.delaunay_location.specs.mesh_embedding.Drawn.{drawn}
 use Rattle.delaunay_location.specs.delaunay_core.Place.{place_of}
 use Rattle.delaunay_location.specs.delaunay_legalization.Known.{point_at}
+use Rattle.delaunay_location.specs.delaunay_legalization.Placed.{IsPlaced}
 use Rattle.delaunay_location.specs.delaunay_legalization.State.{State, state_of, triangulation_of}
 use Rattle.delaunay_lines.specs.declared.intersection.Intersection.{Intersection}
 use Rattle.delaunay_lines.specs.declared.intersection.FixedIntersection.{FixedIntersection}
 use Rattle.delaunay_lines.specs.declared.iterator.LineIntersectionIterator.{LineIntersectionIterator}
 use Rattle.delaunay_lines.specs.Items.{item_of, item_in, mesh_of, IsHandleOf}
-use Rattle.delaunay_lines.specs.Steps.{IsOverMesh}
 
 -- of the line list from p to q these items come after item k; from a point to itself none does
 pub record ComeAfter (t : Triangulation) (p q : Point) (k : Item)
@@ -59,12 +59,18 @@ pub record GivesNext {V D U F P S : Type 0} (at : V → Point) (number : S → �
       AreLeft at number after others))
   pub stays : IfNone r (after ≡ it)
 
--- an iterator over a mesh whose vertices are sites of its tests, which cover its ends; some items
--- are left, no more than it counts
+-- the mesh of a triangulation whose vertices are sites of the tests, which cover both points
+pub record IsOverMesh {V D U F P : Type 0} (at : V → Point) (IsSite IsCovered : P → Point → Type 0)
+    (c : Contents V D U F) (tests : P) (p q : Point) : Type 0 where
+  pub placed : IsPlaced at IsSite c tests
+  pub from_covered : IsCovered tests p
+  pub to_covered : IsCovered tests q
+
+-- an iterator over such a mesh, between such points; some items are left, no more than it counts
 pub record IsReady {V D U F P S : Type 0} (at : V → Point) (number : S → ℤ) (IsSite IsCovered : P
     → Point → Type 0) (it : LineIntersectionIterator V D U F P S) : Type 0 where
-  pub over : IsOverMesh at (IsSite it.tests.now) (IsCovered it.tests.now) it.dcel.now
-      (place_of number it.from) (place_of number it.to)
+  pub over : IsOverMesh at IsSite IsCovered it.dcel.now it.tests.now (place_of number it.from)
+      (place_of number it.to)
   pub items : List Item
   pub are_left : AreLeft at number it items
   pub few : length items ≤ it.left

@@ -1,54 +1,57 @@
 //! The walk along a segment, from wherever its start is.
 ghost use Rattle.std.specs.Prelude.{◌<◌, length, map, All};
-ghost use Rattle.delaunay_location.specs.plane_tiling.Local.{IsMesh};
-ghost use Rattle.delaunay_location.specs.mesh_embedding.Drawn.{faces_of, outer_of};
 ghost use Rattle.delaunay_location.specs.delaunay_core.Place.{place_of};
 ghost use Rattle.delaunay_location.specs.delaunay_legalization.Shape.{IsTriangulated};
 ghost use Rattle.delaunay_location.specs.delaunay_legalization.State.{state_of};
 ghost use Rattle.delaunay_location.specs.Location.{Locates};
-ghost use Rattle.delaunay_lines.specs.Walk.{IsReady, Starts, WalksBetween, WalksLine};
+ghost use Rattle.delaunay_lines.specs.Over.{BeginsWith};
+ghost use Rattle.delaunay_lines.specs.Walk.{IsReady, WalksBetween, WalksLine};
 
 use crate::intersection::FixedIntersection;
 use crate::iterator::LineIntersectionIterator;
-use crate::segment::Segment;
+use crate::outside::{first_along, first_outside, first_past, if_seen};
+use crate::starts::{first_in_face, first_on_edge};
 use delaunay_location::delaunay_core::math::PlaneTests;
 use delaunay_location::delaunay_core::point::{HasPosition, Point2};
-use delaunay_location::delaunay_legalization::{is_same_point, position_of};
+use delaunay_location::delaunay_legalization::{Placed, is_same_point, position_of};
 use delaunay_location::half_edge_mesh::{Dcel, FixedVertexHandle, MeshViews};
 use delaunay_location::{PositionInTriangulation, locate_with_hint};
 
-impl<'a, V: HasPosition, DE, UE, F, P: PlaneTests<V::Scalar>> Segment<'a, V, DE, UE, F, P> {
-    // What it meets first, from the location of its start. Where its ends are one point, it is the
-    // vertex there, or else the edge.
-    fn first_from(&self, start: PositionInTriangulation) -> Option<FixedIntersection>
-        requires { Locates (map V.place self.now.dcel.vertices) self.now.dcel.mesh self.now.from
-            start }
-        ensures { Starts V.place self.now.dcel self.now.from self.now.to result }
-    {
-        let dcel = self.dcel;
-        if is_same_point(self.from, self.to) {
-            return match start {
-                PositionInTriangulation::OnVertex(vertex) => {
-                    Some(FixedIntersection::Vertex(vertex))
-                }
-                PositionInTriangulation::OnEdge(edge) => Some(FixedIntersection::Overlap(edge)),
-                _ => None,
-            };
-        }
-        match start {
+// What a segment meets first, from the location of its start. Where its ends are one point, it is
+// the vertex there, or else the edge.
+fn first_from<V: HasPosition, DE, UE, F, P: PlaneTests<V::Scalar>>(
+    placed: &Placed<'_, V, DE, UE, F, P>,
+    from: Point2<V::Scalar>,
+    to: Point2<V::Scalar>,
+    start: PositionInTriangulation,
+) -> Option<FixedIntersection>
+    requires from_covered { P.covered placed.now.tests (place_of V.Scalar.whole from) }
+    requires to_covered { P.covered placed.now.tests (place_of V.Scalar.whole to) }
+    requires start { Locates (map V.place placed.now.dcel.vertices) placed.now.dcel.mesh
+        (place_of V.Scalar.whole from) start }
+    ensures { BeginsWith V.place V.Scalar.whole placed.now from to result }
+{
+    let dcel = placed.dcel;
+    if is_same_point(from, to) {
+        return match start {
             PositionInTriangulation::OnVertex(vertex) => Some(FixedIntersection::Vertex(vertex)),
-            PositionInTriangulation::OnEdge(edge) => Some(self.first_on_edge(edge)),
-            PositionInTriangulation::OnFace(face) => {
-                self.first_in_face(dcel.face(face).adjacent_edge().fix())
-            }
-            // It goes along the outline from this edge on. Past the end of a line of vertices,
-            // where it sees no edge, it looks at this end alone.
-            PositionInTriangulation::OutsideOfConvexHull(edge) => match self.if_seen(edge) {
-                Some(seen) => self.first_along(seen),
-                None => self.first_past(edge),
-            },
-            PositionInTriangulation::NoTriangulation => self.first_outside(),
+            PositionInTriangulation::OnEdge(edge) => Some(FixedIntersection::Overlap(edge)),
+            _ => None,
+        };
+    }
+    match start {
+        PositionInTriangulation::OnVertex(vertex) => Some(FixedIntersection::Vertex(vertex)),
+        PositionInTriangulation::OnEdge(edge) => Some(first_on_edge(placed, from, to, edge)),
+        PositionInTriangulation::OnFace(face) => {
+            first_in_face(placed, from, to, dcel.face(face).adjacent_edge().fix())
         }
+        // It goes along the outline from this edge on. Past the end of a line of vertices, where it
+        // sees no edge, it looks at this end alone.
+        PositionInTriangulation::OutsideOfConvexHull(edge) => match if_seen(placed, from, edge) {
+            Some(seen) => first_along(placed, from, to, seen),
+            None => first_past(placed, from, to, edge),
+        },
+        PositionInTriangulation::NoTriangulation => first_outside(placed, from, to),
     }
 }
 
@@ -69,13 +72,8 @@ pub fn line_between<'a, V: HasPosition, DE, UE, F, P: PlaneTests<V::Scalar>>(
         (place_of V.Scalar.whole from) (place_of V.Scalar.whole to) result }
     ensures ready { IsReady V.place V.Scalar.whole P.sites P.covered result }
 {
-    let segment = Segment {
-        dcel,
-        tests,
-        from,
-        to,
-    };
-    let current = segment.first_from(locate_with_hint(dcel, from, hint, tests));
+    let placed = Placed { dcel, tests };
+    let current = first_from(&placed, from, to, locate_with_hint(dcel, from, hint, tests));
     LineIntersectionIterator {
         dcel,
         tests,
@@ -96,8 +94,7 @@ pub fn line_between_vertices<'a, V: HasPosition, DE, UE, F, P: PlaneTests<V::Sca
 ) -> LineIntersectionIterator<'a, V, DE, UE, F, P>
     requires from_in { from < length dcel.now.vertices }
     requires to_in { to < length dcel.now.vertices }
-    requires shape { IsMesh (map V.place dcel.now.vertices) (faces_of dcel.now.mesh)
-        (outer_of dcel.now.mesh) }
+    requires kept { IsTriangulated V.place (state_of dcel.now) }
     requires sites { All (P.sites tests.now) (map V.place dcel.now.vertices) }
     ensures line { WalksBetween V.place V.Scalar.whole (state_of dcel.now) from to result }
     ensures ready { IsReady V.place V.Scalar.whole P.sites P.covered result }

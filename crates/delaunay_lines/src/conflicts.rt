@@ -2,8 +2,6 @@
 ghost use Rattle.std.specs.Prelude.{◌↔◌, ◌/◌, ◌<◌, length, map, All, Contains};
 ghost use Rattle.std.specs.Prelude.{IfNone, IsTrue};
 ghost use Rattle.std.specs.Iterator.{at_most};
-ghost use Rattle.delaunay_location.specs.plane_tiling.Local.{IsMesh};
-ghost use Rattle.delaunay_location.specs.mesh_embedding.Drawn.{faces_of, outer_of};
 ghost use Rattle.delaunay_location.specs.delaunay_core.Place.{place_of};
 ghost use Rattle.delaunay_location.specs.delaunay_legalization.Constraints.{constraints_by};
 ghost use Rattle.delaunay_location.specs.delaunay_legalization.Known.{point_at};
@@ -74,8 +72,7 @@ impl<
     ) -> Self
         requires from_in { from < length dcel.now.vertices }
         requires to_in { to < length dcel.now.vertices }
-        requires shape { IsMesh (map V.place dcel.now.vertices) (faces_of dcel.now.mesh)
-            (outer_of dcel.now.mesh) }
+        requires kept { IsTriangulated V.place (state_of dcel.now) }
         requires sites { All (P.sites tests.now) (map V.place dcel.now.vertices) }
         ensures line { let points = map V.place dcel.now.vertices in
             WalksLine V.place V.Scalar.whole (state_of dcel.now) (point_at points from)

@@ -1,9 +1,9 @@
 //! What a segment meets in a mesh.
 ghost use Rattle.std.specs.Prelude.{◌≡◌};
-ghost use Rattle.delaunay_lines.specs.Items.{item_of, item_in, mesh_of, crossed_edge, IsHandleOf};
+ghost use Rattle.delaunay_lines.specs.Items.{crossed_edge};
 
 use delaunay_location::half_edge_mesh::{
-    Dcel, DirectedEdgeHandle, FixedDirectedEdgeHandle, FixedVertexHandle, MeshViews, VertexHandle,
+    DirectedEdgeHandle, FixedDirectedEdgeHandle, FixedVertexHandle, VertexHandle,
 };
 
 /// A vertex or an edge that a segment meets.
@@ -44,20 +44,4 @@ pub enum FixedIntersection {
     Edge(FixedDirectedEdgeHandle),
     Vertex(FixedVertexHandle),
     Overlap(FixedDirectedEdgeHandle),
-}
-
-// An item together with its mesh.
-pub(crate) fn intersection_in<'a, V, DE, UE, F>(
-    dcel: &'a Dcel<V, DE, UE, F>,
-    item: &FixedIntersection,
-) -> Intersection<'a, V, DE, UE, F>
-    requires { IsHandleOf dcel.now item.now }
-    ensures item { item_in result ≡ item_of dcel.now.mesh item.now }
-    ensures mesh { mesh_of result ≡ dcel.entry }
-{
-    match item {
-        FixedIntersection::Edge(edge) => Intersection::EdgeIntersection(dcel.directed_edge(*edge)),
-        FixedIntersection::Vertex(vertex) => Intersection::VertexIntersection(dcel.vertex(*vertex)),
-        FixedIntersection::Overlap(edge) => Intersection::EdgeOverlap(dcel.directed_edge(*edge)),
-    }
 }

@@ -1,15 +1,14 @@
 //! The items that a segment meets, one after another.
-ghost use Rattle.std.specs.Prelude.{◌≡◌, ◌≢◌};
 ghost use Rattle.std.specs.Iterator.{at_most};
-ghost use Rattle.delaunay_lines.specs.Over.{GoesOnTo, IsAtItem};
 ghost use Rattle.delaunay_lines.specs.Walk.{GivesNext, IsReady};
 
-use crate::intersection::{FixedIntersection, Intersection, intersection_in};
-use crate::segment::Segment;
+use crate::crossing::{after_crossing, after_overlap};
+use crate::intersection::{FixedIntersection, Intersection};
+use crate::vertex::after_vertex;
 use delaunay_location::delaunay_core::math::PlaneTests;
 use delaunay_location::delaunay_core::point::{HasPosition, Point2};
-use delaunay_location::delaunay_legalization::is_same_point;
-use delaunay_location::half_edge_mesh::Dcel;
+use delaunay_location::delaunay_legalization::{Placed, is_same_point};
+use delaunay_location::half_edge_mesh::{Dcel, MeshViews};
 
 /// The vertices and edges that a segment meets, in the order along the segment. No call takes
 /// memory. A call of `next` looks at the edges of one vertex at most. After the last item it gives
@@ -33,24 +32,6 @@ pub struct LineIntersectionIterator<'a, V: HasPosition, DE, UE, F, P: PlaneTests
     pub left: usize,
 }
 
-impl<'a, V: HasPosition, DE, UE, F, P: PlaneTests<V::Scalar>> Segment<'a, V, DE, UE, F, P> {
-    // What it meets after an item: nothing where its ends are one point.
-    fn after(&self, item: FixedIntersection) -> Option<FixedIntersection>
-        requires { self.now.from ≢ self.now.to → IsAtItem V.place self.now item }
-        ensures alone { self.now.from ≡ self.now.to → result ≡ None }
-        ensures next { self.now.from ≢ self.now.to → GoesOnTo V.place self.now item result }
-    {
-        if is_same_point(self.from, self.to) {
-            return None;
-        }
-        match item {
-            FixedIntersection::Edge(edge) => self.after_crossing(edge),
-            FixedIntersection::Vertex(vertex) => self.after_vertex(vertex),
-            FixedIntersection::Overlap(edge) => self.after_overlap(edge),
-        }
-    }
-}
-
 impl<'a, V: HasPosition, DE, UE, F, P: PlaneTests<V::Scalar> + 'a> Iterator
     for LineIntersectionIterator<'a, V, DE, UE, F, P> {
     type Item = Intersection<'a, V, DE, UE, F>;
@@ -63,14 +44,29 @@ impl<'a, V: HasPosition, DE, UE, F, P: PlaneTests<V::Scalar> + 'a> Iterator
 
     fn next(&mut self) -> Option<Intersection<'a, V, DE, UE, F>> {
         let item = self.current?;
-        let found = intersection_in(self.dcel, &item);
-        let segment = Segment {
+        let placed = Placed {
             dcel: self.dcel,
             tests: self.tests,
-            from: self.from,
-            to: self.to,
         };
-        self.current = segment.after(item);
+        let (from, to) = (self.from, self.to);
+        let next = match item {
+            _ if is_same_point(from, to) => None,
+            FixedIntersection::Edge(edge) => after_crossing(&placed, from, to, edge),
+            FixedIntersection::Vertex(vertex) => after_vertex(&placed, from, to, vertex),
+            FixedIntersection::Overlap(edge) => after_overlap(&placed, from, to, edge),
+        };
+        let found = match item {
+            FixedIntersection::Edge(edge) => {
+                Intersection::EdgeIntersection(self.dcel.directed_edge(edge))
+            }
+            FixedIntersection::Vertex(vertex) => {
+                Intersection::VertexIntersection(self.dcel.vertex(vertex))
+            }
+            FixedIntersection::Overlap(edge) => {
+                Intersection::EdgeOverlap(self.dcel.directed_edge(edge))
+            }
+        };
+        self.current = next;
         self.left -= 1;
         Some(found)
     }

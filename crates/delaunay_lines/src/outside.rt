@@ -1,25 +1,23 @@
 //! What a segment meets first, from outside the triangulation.
-ghost use Rattle.std.specs.Prelude.{◌≡◌, ◌≢◌, ◌↔◌, ◌<◌, ◌<ℤ◌, ℕ};
-ghost use Rattle.std.specs.Prelude.{length, map, IsTrue, IfSome, IfNone, MatchOption};
+ghost use Rattle.std.specs.Prelude.{◌↔◌, ◌<◌, ◌<ℤ◌, length, map, IsTrue, IfSome, IfNone};
 ghost use Rattle.delaunay_location.specs.half_edge_mesh.Mesh.{origin};
 ghost use Rattle.delaunay_location.specs.plane.Fraction.{whole as fraction, OnSegment};
 ghost use Rattle.delaunay_location.specs.plane.Circle.{gap};
 ghost use Rattle.delaunay_location.specs.plane.Location.{IsPast};
 ghost use Rattle.delaunay_location.specs.mesh_embedding.Drawn.{drawn};
 ghost use Rattle.delaunay_location.specs.delaunay_core.Place.{place_of};
-ghost use Rattle.delaunay_lines.specs.Starts.{IsBetter, IsCrossed};
-ghost use Rattle.delaunay_lines.specs.Starts.{IsNearestOf};
-ghost use Rattle.delaunay_lines.specs.Over.{IsFromOutside};
-ghost use Rattle.delaunay_lines.specs.Starts.{IsNoBetter, IsOnSegment};
-ghost use Rattle.delaunay_lines.specs.Steps.{IsLeftOf};
-ghost use Rattle.delaunay_lines.specs.Outline.{IsSeenOuter, IsTurningPoint};
-ghost use Rattle.delaunay_lines.specs.Walk.{Starts};
+ghost use Rattle.delaunay_lines.specs.Over.{AreEnds, BeginsWith, IsFromOutside};
+ghost use Rattle.delaunay_lines.specs.Starts.{IsBetter, IsBetterOf, IsCrossed, IsFirstFound};
+ghost use Rattle.delaunay_lines.specs.Starts.{IsNearestOf, IsOnSegment};
+ghost use Rattle.delaunay_lines.specs.Outline.{IsIfSeen, IsSeenOuter, IsTurningPoint};
 
 use crate::intersection::FixedIntersection;
-use crate::segment::Segment;
+use crate::sides::side_of;
 use delaunay_location::delaunay_core::math::PlaneTests;
 use delaunay_location::delaunay_core::point::{HasPosition, Point2, SpadeNum};
-use delaunay_location::delaunay_legalization::{is_same_point, is_strictly_within, position_of};
+use delaunay_location::delaunay_legalization::{
+    Placed, is_same_point, is_strictly_within, position_of,
+};
 use delaunay_location::half_edge_mesh::{FixedDirectedEdgeHandle, FixedVertexHandle, MeshViews};
 
 // Whether a point is nearer to a position than another.
@@ -39,229 +37,290 @@ fn is_point_nearer<S: SpadeNum, P: PlaneTests<S>>(
     from.distance_2(point) < from.distance_2(other)
 }
 
-impl<'a, V: HasPosition, DE, UE, F, P: PlaneTests<V::Scalar>> Segment<'a, V, DE, UE, F, P> {
-    // Whether a segment crosses an edge, with its end on the edge's left.
-    fn is_crossed(&self, edge: FixedDirectedEdgeHandle) -> bool
-        requires { edge < length self.now.dcel.directed }
-        ensures { IsTrue result ↔ IsCrossed (map V.place self.now.dcel.vertices) self.now.dcel.mesh
-            self.now.from self.now.to edge }
+// Whether a segment crosses an edge, with its end on the edge's left.
+fn is_crossed<V: HasPosition, DE, UE, F, P: PlaneTests<V::Scalar>>(
+    placed: &Placed<'_, V, DE, UE, F, P>,
+    from: Point2<V::Scalar>,
+    to: Point2<V::Scalar>,
+    edge: FixedDirectedEdgeHandle,
+) -> bool
+    requires within { edge < length placed.now.dcel.directed }
+    requires ends { AreEnds V.Scalar.whole P.covered placed.now.tests from to }
+    ensures { IsTrue result ↔
+        IsCrossed (map V.place placed.now.dcel.vertices) placed.now.dcel.mesh
+        (place_of V.Scalar.whole from) (place_of V.Scalar.whole to) edge }
+{
+    if !placed
+        .tests
+        .side(from, to, placed.start_of(edge))
+        .is_on_left_side()
     {
-        let start = self.side_of_start(edge);
-        let end = self.side_of_end(edge);
-        start.is_on_left_side()
-            && end.is_on_right_side()
-            && self.side_of_from(edge).is_on_right_side_or_on_line()
-            && self.side_of_to(edge).is_on_left_side_or_on_line()
+        return false;
     }
+    if !placed
+        .tests
+        .side(from, to, placed.end_of(edge))
+        .is_on_right_side()
+    {
+        return false;
+    }
+    side_of(placed, edge, from).is_on_right_side_or_on_line()
+        && side_of(placed, edge, to).is_on_left_side_or_on_line()
+}
 
-    // Whether a point is on the segment.
-    fn carries(&self, point: Point2<V::Scalar>) -> bool
-        requires covered { P.covered self.now.tests (place_of V.Scalar.whole point) }
-        requires apart { self.now.from ≢ self.now.to }
-        ensures { IsTrue result ↔ OnSegment (fraction self.now.from) (fraction self.now.to)
-            (fraction (place_of V.Scalar.whole point)) }
-    {
-        if is_same_point(point, self.from) {
-            return true;
-        }
-        if is_same_point(point, self.to) {
-            return true;
-        }
-        is_strictly_within(self.from, self.to, point, self.tests)
+// Whether a point is on a segment.
+fn carries<S: SpadeNum, P: PlaneTests<S>>(
+    from: Point2<S>,
+    to: Point2<S>,
+    point: Point2<S>,
+    tests: &P,
+) -> bool
+    requires ends { AreEnds S.whole P.covered tests.now from to }
+    requires covered { P.covered tests.now (place_of S.whole point) }
+    ensures { IsTrue result ↔
+        OnSegment (fraction (place_of S.whole from)) (fraction (place_of S.whole to))
+        (fraction (place_of S.whole point)) }
+{
+    if is_same_point(point, from) {
+        return true;
     }
+    if is_same_point(point, to) {
+        return true;
+    }
+    is_strictly_within(from, to, point, tests)
+}
 
-    // Whether a vertex is on a segment, and nearer to its start than another vertex, if there is
-    // one.
-    fn is_better(&self, vertex: FixedVertexHandle, than: &Option<FixedVertexHandle>) -> bool
-        requires within { vertex < length self.now.dcel.vertices }
-        requires other_within { IfSome than.now (λ o. o < length self.now.dcel.vertices) }
-        requires apart { self.now.from ≢ self.now.to }
-        ensures { IsTrue result ↔ IsBetter (map V.place self.now.dcel.vertices) self.now.from
-            self.now.to vertex than.now }
-    {
-        let position = position_of(self.dcel, vertex);
-        if !self.carries(position) {
-            return false;
-        }
-        match than {
-            Some(other) => {
-                let reached = position_of(self.dcel, *other);
-                is_point_nearer(self.from, position, reached, self.tests)
-            }
-            None => true,
-        }
+// Whether a vertex is on a segment, and nearer to its start than another vertex, if there is one.
+fn is_better<V: HasPosition, DE, UE, F, P: PlaneTests<V::Scalar>>(
+    placed: &Placed<'_, V, DE, UE, F, P>,
+    from: Point2<V::Scalar>,
+    to: Point2<V::Scalar>,
+    vertex: FixedVertexHandle,
+    than: &Option<FixedVertexHandle>,
+) -> bool
+    requires within { vertex < length placed.now.dcel.vertices }
+    requires other_within { IfSome than.now (λ o. o < length placed.now.dcel.vertices) }
+    requires ends { AreEnds V.Scalar.whole P.covered placed.now.tests from to }
+    ensures { IsTrue result ↔
+        IsBetter (map V.place placed.now.dcel.vertices) (place_of V.Scalar.whole from)
+        (place_of V.Scalar.whole to) vertex than.now }
+{
+    let position = position_of(placed.dcel, vertex);
+    if !carries(from, to, position, placed.tests) {
+        return false;
     }
+    match than {
+        Some(other) => {
+            let reached = position_of(placed.dcel, *other);
+            is_point_nearer(from, position, reached, placed.tests)
+        }
+        None => true,
+    }
+}
 
-    // The better one of a vertex and one on a segment that was found before, if there is one.
-    fn better_of(
-        &self,
-        vertex: FixedVertexHandle,
-        found: Option<FixedVertexHandle>,
-    ) -> Option<FixedVertexHandle>
-        requires within { vertex < length self.now.dcel.vertices }
-        requires found { IsOnSegment (map V.place self.now.dcel.vertices) self.now.from self.now.to
-            found }
-        requires apart { self.now.from ≢ self.now.to }
-        ensures found { IsOnSegment (map V.place self.now.dcel.vertices) self.now.from self.now.to
-            result }
-        ensures kept { let points = map V.place self.now.dcel.vertices in let p = self.now.from in
-            let q = self.now.to in
-            (k : ℕ) → IsNoBetter points p q found k → IsNoBetter points p q result k }
-        ensures here { IsNoBetter (map V.place self.now.dcel.vertices) self.now.from self.now.to
-            result vertex }
-    {
-        if self.is_better(vertex, &found) {
-            return Some(vertex);
-        }
-        found
+// The better one of a vertex and one on a segment that was found before, if there is one.
+fn better_of<V: HasPosition, DE, UE, F, P: PlaneTests<V::Scalar>>(
+    placed: &Placed<'_, V, DE, UE, F, P>,
+    from: Point2<V::Scalar>,
+    to: Point2<V::Scalar>,
+    vertex: FixedVertexHandle,
+    found: Option<FixedVertexHandle>,
+) -> Option<FixedVertexHandle>
+    requires within { vertex < length placed.now.dcel.vertices }
+    requires found { IsOnSegment (map V.place placed.now.dcel.vertices)
+        (place_of V.Scalar.whole from) (place_of V.Scalar.whole to) found }
+    requires ends { AreEnds V.Scalar.whole P.covered placed.now.tests from to }
+    ensures { IsBetterOf (map V.place placed.now.dcel.vertices)
+        (place_of V.Scalar.whole from) (place_of V.Scalar.whole to) vertex found result }
+{
+    if is_better(placed, from, to, vertex, &found) {
+        return Some(vertex);
     }
+    found
+}
 
-    // Vertex 0, if it is on a segment. It may be the only one, without an edge.
-    fn first_found(&self) -> Option<FixedVertexHandle>
-        requires { self.now.from ≢ self.now.to }
-        ensures found { IsOnSegment (map V.place self.now.dcel.vertices) self.now.from self.now.to
-            result }
-        ensures first { 0 < length self.now.dcel.vertices →
-            IsNoBetter (map V.place self.now.dcel.vertices) self.now.from self.now.to result 0 }
-    {
-        if self.dcel.num_vertices() == 0 {
-            return None;
-        }
-        self.better_of(FixedVertexHandle::from_index(0), None)
+// Vertex 0, if it is on a segment. It may be the only one, without an edge.
+fn first_found<V: HasPosition, DE, UE, F, P: PlaneTests<V::Scalar>>(
+    placed: &Placed<'_, V, DE, UE, F, P>,
+    from: Point2<V::Scalar>,
+    to: Point2<V::Scalar>,
+) -> Option<FixedVertexHandle>
+    requires ends { AreEnds V.Scalar.whole P.covered placed.now.tests from to }
+    ensures { IsFirstFound (map V.place placed.now.dcel.vertices)
+        (place_of V.Scalar.whole from) (place_of V.Scalar.whole to) result }
+{
+    if placed.dcel.num_vertices() == 0 {
+        return None;
     }
+    better_of(placed, from, to, FixedVertexHandle::from_index(0), None)
+}
 
-    // Of the vertices on a segment that are on the outline, one that is nearest to its start.
-    fn nearest_vertex(&self) -> Option<FixedVertexHandle>
-        requires { self.now.from ≢ self.now.to }
-        ensures { IsNearestOf (map V.place self.now.dcel.vertices) self.now.dcel.mesh self.now.from
-            self.now.to result }
-    {
-        let mut nearest = self.first_found();
-        for outer in self.dcel.convex_hull() {
-            let edge = self.dcel.directed_edge(outer.fix());
-            nearest = self.better_of(edge.from().fix(), nearest);
-        }
-        nearest
+// Of the vertices on a segment that are on the outline, one that is nearest to its start.
+fn nearest_vertex<V: HasPosition, DE, UE, F, P: PlaneTests<V::Scalar>>(
+    placed: &Placed<'_, V, DE, UE, F, P>,
+    from: Point2<V::Scalar>,
+    to: Point2<V::Scalar>,
+) -> Option<FixedVertexHandle>
+    requires ends { AreEnds V.Scalar.whole P.covered placed.now.tests from to }
+    ensures { IsNearestOf (map V.place placed.now.dcel.vertices) placed.now.dcel.mesh
+        (place_of V.Scalar.whole from) (place_of V.Scalar.whole to) result }
+{
+    let mut nearest = first_found(placed, from, to);
+    for outer in placed.dcel.convex_hull() {
+        let edge = placed.dcel.directed_edge(outer.fix());
+        nearest = better_of(placed, from, to, edge.from().fix(), nearest);
     }
+    nearest
+}
 
-    // From outside: the edge by which the segment enters, else the nearest vertex on it. It goes
-    // along the outline up to such an edge, and, where there is none, once more.
-    pub(crate) fn first_outside(&self) -> Option<FixedIntersection>
-        requires apart { self.now.from ≢ self.now.to }
-        requires start { IsFromOutside V.place self.now }
-        ensures { Starts V.place self.now.dcel self.now.from self.now.to result }
-    {
-        for outer in self.dcel.convex_hull() {
-            let edge = outer.rev().fix();
-            if self.is_crossed(edge) {
-                return Some(FixedIntersection::Edge(edge));
-            }
-        }
-        match self.nearest_vertex() {
-            Some(vertex) => Some(FixedIntersection::Vertex(vertex)),
-            None => None,
+// From outside: the edge by which the segment enters, else the nearest vertex on it. It goes along
+// the outline up to such an edge, and, where there is none, once more.
+pub(crate) fn first_outside<V: HasPosition, DE, UE, F, P: PlaneTests<V::Scalar>>(
+    placed: &Placed<'_, V, DE, UE, F, P>,
+    from: Point2<V::Scalar>,
+    to: Point2<V::Scalar>,
+) -> Option<FixedIntersection>
+    requires ends { AreEnds V.Scalar.whole P.covered placed.now.tests from to }
+    requires start { IsFromOutside V.place V.Scalar.whole placed.now from }
+    ensures { BeginsWith V.place V.Scalar.whole placed.now from to result }
+{
+    for outer in placed.dcel.convex_hull() {
+        let edge = outer.rev().fix();
+        if is_crossed(placed, from, to, edge) {
+            return Some(FixedIntersection::Edge(edge));
         }
     }
+    match nearest_vertex(placed, from, to) {
+        Some(vertex) => Some(FixedIntersection::Vertex(vertex)),
+        None => None,
+    }
+}
 
-    // An edge, where the segment begins strictly on its left.
-    pub(crate) fn if_seen(&self, edge: FixedDirectedEdgeHandle) -> Option<FixedDirectedEdgeHandle>
-        requires { edge < length self.now.dcel.directed }
-        ensures { let points = map V.place self.now.dcel.vertices in let m = self.now.dcel.mesh in
-            MatchOption result (¬ IsLeftOf points m self.now.from edge)
-            (λ e. (e ≡ edge) × IsLeftOf points m self.now.from edge) }
-    {
-        if self.side_of_from(edge).is_on_left_side() {
-            return Some(edge);
-        }
-        None
+// An edge, where a point is strictly on its left.
+pub(crate) fn if_seen<V: HasPosition, DE, UE, F, P: PlaneTests<V::Scalar>>(
+    placed: &Placed<'_, V, DE, UE, F, P>,
+    from: Point2<V::Scalar>,
+    edge: FixedDirectedEdgeHandle,
+) -> Option<FixedDirectedEdgeHandle>
+    requires within { edge < length placed.now.dcel.directed }
+    requires covered { P.covered placed.now.tests (place_of V.Scalar.whole from) }
+    ensures { IsIfSeen (map V.place placed.now.dcel.vertices) placed.now.dcel.mesh
+        (place_of V.Scalar.whole from) edge result }
+{
+    if side_of(placed, edge, from).is_on_left_side() {
+        return Some(edge);
     }
+    None
+}
 
-    // The neighbour of a seen outer edge along the outline, on the side where the segment's line
-    // passes the edge, if there is such a side and the start sees the neighbour.
-    fn seen_neighbour(&self, edge: FixedDirectedEdgeHandle) -> Option<FixedDirectedEdgeHandle>
-        requires { IsSeenOuter V.place self.now.dcel self.now.from edge }
-        ensures some { IfSome result (IsSeenOuter V.place self.now.dcel self.now.from) }
-        ensures none { IfNone result (IsTurningPoint V.place self.now.dcel self.now.from
-            self.now.to edge) }
-    {
-        let here = self.dcel.directed_edge(edge);
-        let end = self.side_of_end(edge);
-        if end.is_on_right_side() {
-            return self.if_seen(here.next().fix());
-        }
-        let start = self.side_of_start(edge);
-        if start.is_on_left_side() {
-            return self.if_seen(here.prev().fix());
-        }
-        None
+// The neighbour of a seen outer edge along the outline, on the side where the segment's line passes
+// the edge, if there is such a side and the start sees the neighbour.
+fn seen_neighbour<V: HasPosition, DE, UE, F, P: PlaneTests<V::Scalar>>(
+    placed: &Placed<'_, V, DE, UE, F, P>,
+    from: Point2<V::Scalar>,
+    to: Point2<V::Scalar>,
+    edge: FixedDirectedEdgeHandle,
+) -> Option<FixedDirectedEdgeHandle>
+    requires ends { AreEnds V.Scalar.whole P.covered placed.now.tests from to }
+    requires seen { IsSeenOuter V.place placed.now.dcel (place_of V.Scalar.whole from) edge }
+    ensures some { IfSome result
+        (IsSeenOuter V.place placed.now.dcel (place_of V.Scalar.whole from)) }
+    ensures none { IfNone result (IsTurningPoint V.place placed.now.dcel
+        (place_of V.Scalar.whole from) (place_of V.Scalar.whole to) edge) }
+{
+    let here = placed.dcel.directed_edge(edge);
+    let end = placed.tests.side(from, to, placed.end_of(edge));
+    if end.is_on_right_side() {
+        return if_seen(placed, from, here.next().fix());
     }
+    let start = placed.tests.side(from, to, placed.start_of(edge));
+    if start.is_on_left_side() {
+        return if_seen(placed, from, here.prev().fix());
+    }
+    None
+}
 
-    // What it meets first, where the outline comes no nearer to its line beyond a seen outer edge.
-    fn first_at(&self, edge: FixedDirectedEdgeHandle) -> Option<FixedIntersection>
-        requires apart { self.now.from ≢ self.now.to }
-        requires start { IsFromOutside V.place self.now }
-        requires seen { IsSeenOuter V.place self.now.dcel self.now.from edge }
-        requires stop { IsTurningPoint V.place self.now.dcel self.now.from self.now.to edge }
-        ensures { Starts V.place self.now.dcel self.now.from self.now.to result }
-    {
-        let here = self.dcel.directed_edge(edge);
-        let twin = here.rev();
-        let (start, end) = (self.side_of_start(edge), self.side_of_end(edge));
-        if self.side_of_to(edge).is_on_left_side() {
-            return None;
-        }
-        if end.is_on_right_side() {
-            return None;
-        }
-        if start.is_on_left_side() {
-            return None;
-        }
-        if end.is_on_line() {
-            return Some(FixedIntersection::Vertex(twin.from().fix()));
-        }
-        if start.is_on_line() {
-            return Some(FixedIntersection::Vertex(here.from().fix()));
-        }
-        Some(FixedIntersection::Edge(twin.fix()))
+// What it meets first, where the outline comes no nearer to its line beyond a seen outer edge.
+fn first_at<V: HasPosition, DE, UE, F, P: PlaneTests<V::Scalar>>(
+    placed: &Placed<'_, V, DE, UE, F, P>,
+    from: Point2<V::Scalar>,
+    to: Point2<V::Scalar>,
+    edge: FixedDirectedEdgeHandle,
+) -> Option<FixedIntersection>
+    requires ends { AreEnds V.Scalar.whole P.covered placed.now.tests from to }
+    requires start { IsFromOutside V.place V.Scalar.whole placed.now from }
+    requires seen { IsSeenOuter V.place placed.now.dcel (place_of V.Scalar.whole from) edge }
+    requires stop { IsTurningPoint V.place placed.now.dcel (place_of V.Scalar.whole from)
+        (place_of V.Scalar.whole to) edge }
+    ensures { BeginsWith V.place V.Scalar.whole placed.now from to result }
+{
+    let here = placed.dcel.directed_edge(edge);
+    let start = placed.tests.side(from, to, placed.start_of(edge));
+    let end = placed.tests.side(from, to, placed.end_of(edge));
+    if side_of(placed, edge, to).is_on_left_side() {
+        return None;
     }
+    if end.is_on_right_side() {
+        return None;
+    }
+    if start.is_on_left_side() {
+        return None;
+    }
+    if end.is_on_line() {
+        return Some(FixedIntersection::Vertex(here.to().fix()));
+    }
+    if start.is_on_line() {
+        return Some(FixedIntersection::Vertex(here.from().fix()));
+    }
+    Some(FixedIntersection::Edge(edge.rev()))
+}
 
-    // From a seen outer edge along the outline to what it meets first: nothing, where it ends on
-    // the left of this edge too. Each step leads nearer to its line, but nothing here rests on
-    // that: behind the last step is the look along the whole outline.
-    pub(crate) fn first_along(&self, edge: FixedDirectedEdgeHandle) -> Option<FixedIntersection>
-        requires apart { self.now.from ≢ self.now.to }
-        requires start { IsFromOutside V.place self.now }
-        requires seen { IsSeenOuter V.place self.now.dcel self.now.from edge }
-        ensures { Starts V.place self.now.dcel self.now.from self.now.to result }
-    {
-        let steps = self.dcel.num_directed_edges();
-        if self.side_of_to(edge).is_on_left_side() {
-            return None;
-        }
-        let mut here = edge;
-        for _ in 0..steps {
-            match self.seen_neighbour(here) {
-                Some(neighbour) => here = neighbour,
-                None => return self.first_at(here),
-            }
-        }
-        self.first_outside()
+// From a seen outer edge along the outline to what it meets first: nothing, where it ends on the
+// left of this edge too. Each step leads nearer to its line, but nothing here rests on that: behind
+// the last step is the look along the whole outline.
+pub(crate) fn first_along<V: HasPosition, DE, UE, F, P: PlaneTests<V::Scalar>>(
+    placed: &Placed<'_, V, DE, UE, F, P>,
+    from: Point2<V::Scalar>,
+    to: Point2<V::Scalar>,
+    edge: FixedDirectedEdgeHandle,
+) -> Option<FixedIntersection>
+    requires ends { AreEnds V.Scalar.whole P.covered placed.now.tests from to }
+    requires start { IsFromOutside V.place V.Scalar.whole placed.now from }
+    requires seen { IsSeenOuter V.place placed.now.dcel (place_of V.Scalar.whole from) edge }
+    ensures { BeginsWith V.place V.Scalar.whole placed.now from to result }
+{
+    let steps = placed.dcel.num_directed_edges();
+    if side_of(placed, edge, to).is_on_left_side() {
+        return None;
     }
+    let mut here = edge;
+    for _ in 0..steps {
+        match seen_neighbour(placed, from, to, here) {
+            Some(neighbour) => here = neighbour,
+            None => return first_at(placed, from, to, here),
+        }
+    }
+    first_outside(placed, from, to)
+}
 
-    // From past the vertex at the end of a line of vertices, where an edge starts: this vertex, if
-    // it is on the segment.
-    pub(crate) fn first_past(&self, edge: FixedDirectedEdgeHandle) -> Option<FixedIntersection>
-        requires within { edge < length self.now.dcel.directed }
-        requires apart { self.now.from ≢ self.now.to }
-        requires start { IsFromOutside V.place self.now }
-        requires past { IsPast (drawn (map V.place self.now.dcel.vertices) self.now.dcel.mesh)
-            (origin self.now.dcel.mesh edge) (fraction self.now.from) }
-        ensures { Starts V.place self.now.dcel self.now.from self.now.to result }
-    {
-        let vertex = self.dcel.directed_edge(edge).from().fix();
-        if self.is_better(vertex, &None) {
-            return Some(FixedIntersection::Vertex(vertex));
-        }
-        None
+// From past the vertex at the end of a line of vertices, where an edge starts: this vertex, if it
+// is on the segment.
+pub(crate) fn first_past<V: HasPosition, DE, UE, F, P: PlaneTests<V::Scalar>>(
+    placed: &Placed<'_, V, DE, UE, F, P>,
+    from: Point2<V::Scalar>,
+    to: Point2<V::Scalar>,
+    edge: FixedDirectedEdgeHandle,
+) -> Option<FixedIntersection>
+    requires within { edge < length placed.now.dcel.directed }
+    requires ends { AreEnds V.Scalar.whole P.covered placed.now.tests from to }
+    requires start { IsFromOutside V.place V.Scalar.whole placed.now from }
+    requires past { IsPast (drawn (map V.place placed.now.dcel.vertices) placed.now.dcel.mesh)
+        (origin placed.now.dcel.mesh edge) (fraction (place_of V.Scalar.whole from)) }
+    ensures { BeginsWith V.place V.Scalar.whole placed.now from to result }
+{
+    let vertex = placed.dcel.directed_edge(edge).from().fix();
+    if carries(from, to, position_of(placed.dcel, vertex), placed.tests) {
+        return Some(FixedIntersection::Vertex(vertex));
     }
+    None
 }

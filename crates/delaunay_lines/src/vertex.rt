@@ -1,19 +1,18 @@
 //! What a segment meets after a vertex.
-ghost use Rattle.std.specs.Prelude.{◌≢◌, ◌↔◌, ◌<◌, length, map, IsTrue};
+ghost use Rattle.std.specs.Prelude.{◌≢◌, ◌↔◌, IsTrue};
 ghost use Rattle.delaunay_location.specs.plane.Fraction.{whole as fraction};
 ghost use Rattle.plane_segments.specs.Steps.{IsAhead};
 ghost use Rattle.delaunay_location.specs.delaunay_core.Place.{place_of};
-ghost use Rattle.delaunay_lines.specs.Over.{GoesOnTo, IsAtItem};
-ghost use Rattle.delaunay_lines.specs.Steps.{IsInCone};
+ghost use Rattle.delaunay_lines.specs.Over.{AreEnds, GoesOnTo, IsAtItem};
 
 use crate::intersection::FixedIntersection;
-use crate::segment::Segment;
+use crate::sides::side_of;
 use delaunay_location::delaunay_core::math::PlaneTests;
 use delaunay_location::delaunay_core::point::{HasPosition, Point2, SpadeNum};
 use delaunay_location::delaunay_legalization::{
-    is_same_point, is_strictly_within, position_of, start_of,
+    Placed, is_same_point, is_strictly_within, position_of,
 };
-use delaunay_location::half_edge_mesh::{FixedDirectedEdgeHandle, FixedVertexHandle, MeshViews};
+use delaunay_location::half_edge_mesh::{FixedVertexHandle, MeshViews};
 
 // Whether a point lies in the direction from one position to another. Both differ from the first.
 pub(crate) fn is_ahead<S: SpadeNum, P: PlaneTests<S>>(
@@ -40,45 +39,45 @@ pub(crate) fn is_ahead<S: SpadeNum, P: PlaneTests<S>>(
     is_strictly_within(from, point, towards, tests)
 }
 
-impl<'a, V: HasPosition, DE, UE, F, P: PlaneTests<V::Scalar>> Segment<'a, V, DE, UE, F, P> {
-    // Whether a position is strictly between the two sides, from the start of an edge on, of the
-    // inner face on its left.
-    fn is_in_cone(&self, edge: FixedDirectedEdgeHandle) -> bool
-        requires { edge < length self.now.dcel.directed }
-        ensures { IsTrue result ↔ IsInCone (map V.place self.now.dcel.vertices) self.now.dcel.mesh
-            self.now.to edge }
-    {
-        let here = self.dcel.directed_edge(edge);
-        !here.is_outer_edge()
-            && self.side_of_to(edge).is_on_left_side()
-            && self.side_of_to(here.prev().fix()).is_on_left_side()
+// What a segment meets after a vertex: an edge along it, nothing where it ends at the vertex or
+// inside the next face, or else the far side of this face.
+pub(crate) fn after_vertex<V: HasPosition, DE, UE, F, P: PlaneTests<V::Scalar>>(
+    placed: &Placed<'_, V, DE, UE, F, P>,
+    from: Point2<V::Scalar>,
+    to: Point2<V::Scalar>,
+    vertex: FixedVertexHandle,
+) -> Option<FixedIntersection>
+    requires ends { AreEnds V.Scalar.whole P.covered placed.now.tests from to }
+    requires at { IsAtItem V.place V.Scalar.whole placed.now from to
+        (FixedIntersection.Vertex vertex) }
+    ensures { GoesOnTo V.place V.Scalar.whole placed.now from to (FixedIntersection.Vertex vertex)
+        result }
+{
+    let start = position_of(placed.dcel, vertex);
+    if is_same_point(start, to) {
+        return None;
     }
-
-    // What a segment meets after a vertex: an edge along it, nothing where it ends at the vertex or
-    // inside the next face, or else the far side of this face.
-    pub(crate) fn after_vertex(&self, vertex: FixedVertexHandle) -> Option<FixedIntersection>
-        requires { IsAtItem V.place self.now (FixedIntersection.Vertex vertex) }
-        ensures { GoesOnTo V.place self.now (FixedIntersection.Vertex vertex) result }
-    {
-        let start = position_of(self.dcel, vertex);
-        if is_same_point(start, self.to) {
-            return None;
+    for edge in placed.dcel.vertex(vertex).out_edges() {
+        let edge = edge.fix();
+        let here = placed.dcel.directed_edge(edge);
+        let end = position_of(placed.dcel, here.to().fix());
+        if is_ahead(start, end, to, placed.tests) {
+            return Some(FixedIntersection::Overlap(edge));
         }
-        for edge in self.dcel.vertex(vertex).out_edges() {
-            let edge = edge.fix();
-            let here = self.dcel.directed_edge(edge);
-            let end = start_of(self.dcel, here.rev().fix());
-            if is_ahead(start, end, self.to, self.tests) {
-                return Some(FixedIntersection::Overlap(edge));
-            }
-            if self.is_in_cone(edge) {
-                let far = here.next().fix();
-                if self.side_of_to(far).is_on_left_side() {
-                    return None;
-                }
-                return Some(FixedIntersection::Edge(far.rev()));
-            }
+        // It goes into a face only from strictly between two of its sides.
+        if here.is_outer_edge() {
+            continue;
         }
-        None
+        if !side_of(placed, edge, to).is_on_left_side() {
+            continue;
+        }
+        if side_of(placed, here.prev().fix(), to).is_on_left_side() {
+            let far = here.next().fix();
+            if side_of(placed, far, to).is_on_left_side() {
+                return None;
+            }
+            return Some(FixedIntersection::Edge(far.rev()));
+        }
     }
+    None
 }

@@ -19,7 +19,7 @@ use Rattle.delaunay_lines.specs.declared.intersection.Intersection.{Intersection
 use Rattle.delaunay_lines.specs.declared.intersection.Intersection.TheVariants.{EdgeIntersection}
 use Rattle.delaunay_lines.specs.declared.intersection.Intersection.TheVariants.{EdgeOverlap}
 use Rattle.delaunay_lines.specs.Items.{item_in, mesh_of}
-use Rattle.delaunay_lines.specs.Steps.{IsOverMesh}
+use Rattle.delaunay_lines.specs.Walk.{IsOverMesh}
 use Rattle.delaunay_lines.proofs.MeshSteps.{in_mesh}
 use Rattle.delaunay_sight.specs.Beside.{by_place, IsFreeBeside, IsFreeUnlessOn}
 use Rattle.delaunay_sight.specs.Passing.{Looking, Passes}
@@ -36,8 +36,9 @@ false_tells none = ((λ t. absurd (both_ways false t refl)), (λ so. absurd (non
 on_swapped : (u v p : Fraction) → side u v p ≡ on → side v u p ≡ on
 on_swapped u v p e = side_swapped u v p ∙ ap opposite e
 
-module _ {V D U F : Type 0} {at : V → Point} {IsSite IsCovered : Point → Type 0}
-    {c : Contents V D U F} {p q : Point} (over : IsOverMesh at IsSite IsCovered c p q)
+module _ {V D U F P : Type 0} {at : V → Point} {IsSite IsCovered : P → Point → Type 0}
+    {c : Contents V D U F} {tests : P} {p q : Point}
+    (over : IsOverMesh at IsSite IsCovered c tests p q)
     (free : ℕ → Bool) (h : ℕ) (within : h < length c.directed) where
   abbrev m : Mesh
   m = c.mesh
@@ -56,7 +57,7 @@ module _ {V D U F : Type 0} {at : V → Point} {IsSite IsCovered : Point → Typ
 
   -- edge h is one of the mesh
   w : h < length m.half_edges
-  w = in_mesh over h within
+  w = in_mesh over.placed h within
 
   -- the reverse of the reverse starts where the edge does
   back : origin m (rev (rev h)) ≡ origin m h
@@ -66,8 +67,8 @@ module _ {V D U F : Type 0} {at : V → Point} {IsSite IsCovered : Point → Typ
   pub crossed_iff : (IsFreeUnlessOn points m free p (rev h) × IsFreeUnlessOn points m free q h)
       ↔ Passed (across a b)
   crossed_iff =
-      let left = beside_iff points m over.mesh.valid over.shape free h w in
-      let right = behind_iff points m over.mesh.valid over.shape free h w in (
+      let left = beside_iff points m over.placed.kept.valid over.placed.kept.shape free h w in
+      let right = behind_iff points m over.placed.kept.valid over.placed.kept.shape free h w in (
         (λ x. (
           (λ n. right.0 (x.0 (λ e. n (on_swapped (place points b) (place points a) (whole p) (subst
               (λ (i : ℕ). side (place points b) (place points i) (whole p) ≡ on) back e))))),
@@ -84,8 +85,8 @@ module _ {V D U F : Type 0} {at : V → Point} {IsSite IsCovered : Point → Typ
   -- one of both
   pub along_iff : (IsFreeBeside m free h ⊎ IsFreeBeside m free (rev h)) ↔ Passed (along a b)
   along_iff =
-      let left = beside_iff points m over.mesh.valid over.shape free h w in
-      let right = behind_iff points m over.mesh.valid over.shape free h w in (
+      let left = beside_iff points m over.placed.kept.valid over.placed.kept.shape free h w in
+      let right = behind_iff points m over.placed.kept.valid over.placed.kept.shape free h w in (
         (λ x. elim x [ inl f ↦ inl (left.0 f) | inr f ↦ inr (right.0 f) ]),
         (λ x. elim x [ inl f ↦ inl (left.1 f) | inr f ↦ inr (right.1 f) ]),
       )

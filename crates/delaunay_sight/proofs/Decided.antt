@@ -14,6 +14,7 @@ use Rattle.plane_sight.specs.Sight.{IsInFree, IsInSight, HasFreeFace, PassesFree
 use Rattle.plane_sight.proofs.Sights.{in_free_by_place, sight_by_line}
 use Rattle.delaunay_lines.proofs.plane.Segments.{start_on_segment, end_on_segment}
 use Rattle.delaunay_lines.specs.mesh_embedding.Drawn.{drawn}
+use Rattle.delaunay_lines.specs.delaunay_legalization.Placed.{IsPlaced}
 use Rattle.delaunay_lines.specs.delaunay_legalization.Shape.{IsTriangulated}
 use Rattle.delaunay_lines.specs.delaunay_legalization.State.{State, state_of, triangulation_of}
 use Rattle.delaunay_lines.specs.delaunay_location.declared.position_in_triangulation.PositionInTriangulation.{PositionInTriangulation}
@@ -24,28 +25,18 @@ use Rattle.delaunay_lines.specs.delaunay_location.declared.position_in_triangula
 use Rattle.delaunay_lines.specs.delaunay_location.declared.position_in_triangulation.PositionInTriangulation.TheVariants.{NoTriangulation}
 use Rattle.delaunay_lines.specs.delaunay_location.Location.{Locates}
 use Rattle.delaunay_lines.specs.Starts.{StartsOutside}
-use Rattle.delaunay_lines.specs.Steps.{IsOverMesh}
+use Rattle.delaunay_lines.specs.Walk.{IsOverMesh}
 use Rattle.delaunay_lines.proofs.Located.{on_that_vertex, outside_that_edge, without_triangulation}
 use Rattle.delaunay_sight.specs.Beside.{by_place, IsFreeBeside, HasFreeRound}
 use Rattle.delaunay_sight.specs.Passing.{GoesFree}
 use Rattle.delaunay_sight.proofs.Crossed.{false_tells}
 use Rattle.delaunay_sight.proofs.MeshFaces.{beside_iff, behind_iff, free_edge, tiles_with}
 
--- a segment over the mesh of a triangulation, without tests
-over_kept : {V D U F : Type 0} {at : V → Point} (c : Contents V D U F) (p q : Point)
-    → IsTriangulated at (state_of c) → IsOverMesh at (λ _. Unit {0}) (λ _. Unit {0}) c p q
-over_kept c p q kept = record {
-  mesh = record { valid = kept.valid; fits = kept.fits };
-  shape = kept.shape;
-  sites = λ i x e. tt;
-  from = tt;
-  to = tt;
-}
-
 module _ {V D U F : Type 0} {at : V → Point} (c : Contents V D U F)
     (kept : IsTriangulated at (state_of c)) (free : ℕ → Bool) (p : Point) where
-  over : IsOverMesh at (λ _. Unit {0}) (λ _. Unit {0}) c p p
-  over = over_kept c p p kept
+  -- no tests are needed
+  placed : IsPlaced at (λ (x : Unit {0}) _. Unit {0}) c tt
+  placed = record { kept = kept; sites = λ i x e. tt }
 
   abbrev m : Mesh
   m = c.mesh
@@ -64,7 +55,7 @@ module _ {V D U F : Type 0} {at : V → Point} (c : Contents V D U F)
 
   -- a vertex that was found is there
   pub vertex_there : {v : ℕ} → Locates points m p (OnVertex v) → v < length c.vertices
-  vertex_there {v = v} l = (on_that_vertex over v l).0
+  vertex_there {v = v} l = (on_that_vertex placed v l).0
 
   -- at a vertex
   pub at_vertex_iff : (v : ℕ) → Locates points m p (OnVertex v)
@@ -140,9 +131,9 @@ module _ {V D U F : Type 0} {at : V → Point} (c : Contents V D U F)
   pub beyond_tells : {r : PositionInTriangulation}
       → ((e : ℕ) × (r ≡ OutsideOfConvexHull e)) ⊎ (r ≡ NoTriangulation) → Locates points m p r
       → IsTrue false ↔ InFree
-  beyond_tells (inl is) l = false_tells (outside (outside_that_edge over is.0
+  beyond_tells (inl is) l = false_tells (outside (outside_that_edge placed is.0
       (subst (Locates points m p) is.1 l)))
-  beyond_tells (inr is) l = false_tells (outside (without_triangulation over
+  beyond_tells (inr is) l = false_tells (outside (without_triangulation placed
       (subst (Locates points m p) is l)))
 
   -- where both ends are in closed free faces, the items decide
@@ -179,18 +170,20 @@ goes_free {V} {D} {U} {F} at s c same free p q items line b iff = (
 )
 
 -- a segment over the mesh of a line over a mesh with the same state
-pub over_line : {V D U F : Type 0} {at : V → Point} {IsSite IsCovered Site Covered : Point → Type 0}
-    {d : Contents V D U F} {p q u v : Point} (c : Contents V D U F)
-    → IsOverMesh at Site Covered d u v
-    → state_of d ≡ state_of c → All IsSite (map at c.vertices) → IsCovered p → IsCovered q
-    → IsOverMesh at IsSite IsCovered d p q
-over_line {V = V} {D = D} {U = U} {F = F} {at = at} {IsSite = IsSite} c over same sites from to =
-    record {
-      mesh = over.mesh;
-      shape = over.shape;
-      sites = subst (λ (x : State V D U F). All IsSite (map at x.vertices)) (sym same) sites;
-      from = from;
-      to = to;
+pub over_line : {V D U F P : Type 0} {at : V → Point} {IsSite IsCovered : P → Point → Type 0}
+    {d : Contents V D U F} {tests : P} {p q : Point} (c : Contents V D U F)
+    → IsTriangulated at (state_of c) → state_of d ≡ state_of c
+    → All (IsSite tests) (map at c.vertices) → IsCovered tests p → IsCovered tests q
+    → IsOverMesh at IsSite IsCovered d tests p q
+over_line {V = V} {D = D} {U = U} {F = F} {at = at} {IsSite = IsSite} {tests = tests} c kept same
+    sites from to = record {
+      placed = record {
+        kept = subst (IsTriangulated at) (sym same) kept;
+        sites = subst (λ (x : State V D U F). All (IsSite tests) (map at x.vertices)) (sym same)
+            sites;
+      };
+      from_covered = from;
+      to_covered = to;
     }
 
 -- what holds of a state holds of the same state

@@ -13,8 +13,9 @@ use crate::free_faces::FreeFaces;
 use delaunay_lines::delaunay_core::line_side_info::LineSideInfo;
 use delaunay_lines::delaunay_core::math::PlaneTests;
 use delaunay_lines::delaunay_core::point::{HasPosition, Point2};
+use delaunay_lines::delaunay_legalization::Placed;
 use delaunay_lines::half_edge_mesh::{Dcel, DirectedEdgeHandle, FixedDirectedEdgeHandle};
-use delaunay_lines::{Intersection, LineIntersectionIterator, Segment};
+use delaunay_lines::{Intersection, LineIntersectionIterator, side_of};
 use std::marker::Model;
 
 /// A segment over the mesh of a triangulation with free faces, and tests that cover its ends and
@@ -31,7 +32,7 @@ pub(crate) struct Sight<'a, V: HasPosition, DE, UE, F, G: FreeFaces, P: PlaneTes
 impl<'a, V: HasPosition, DE, UE, F, G: FreeFaces, P: PlaneTests<V::Scalar>> Model
     for Sight<'a, V, DE, UE, F, G, P> {
     ghost use Rattle.delaunay_lines.specs.delaunay_core.Place.{place_of};
-    ghost use Rattle.delaunay_lines.specs.Steps.{IsOverMesh};
+    ghost use Rattle.delaunay_lines.specs.Walk.{IsOverMesh};
     ghost use Rattle.delaunay_sight.specs.Passing.{Looking};
 
     ghost Value = { Looking V DE UE F G P };
@@ -44,8 +45,8 @@ impl<'a, V: HasPosition, DE, UE, F, G: FreeFaces, P: PlaneTests<V::Scalar>> Mode
       tests = s.tests.now;
     } };
 
-    ghost invariant = { λ s. IsOverMesh V.place (P.sites s.tests.now) (P.covered s.tests.now)
-        s.dcel.now (place_of V.Scalar.whole s.from) (place_of V.Scalar.whole s.to) };
+    ghost invariant = { λ s. IsOverMesh V.place P.sites P.covered s.dcel.now s.tests.now
+        (place_of V.Scalar.whole s.from) (place_of V.Scalar.whole s.to) };
 }
 
 impl<'a, V: HasPosition, DE, UE, F, G: FreeFaces, P: PlaneTests<V::Scalar>> Sight<
@@ -76,14 +77,12 @@ impl<'a, V: HasPosition, DE, UE, F, G: FreeFaces, P: PlaneTests<V::Scalar>> Sigh
     {
         let twin = edge.rev().fix();
         let edge = edge.fix();
-        let segment = Segment {
+        let placed = Placed {
             dcel: self.dcel,
             tests: self.tests,
-            from: self.from,
-            to: self.to,
         };
-        self.is_free_unless_on(twin, segment.side_of_from(twin))
-            && self.is_free_unless_on(edge, segment.side_of_to(edge))
+        self.is_free_unless_on(twin, side_of(&placed, twin, self.from))
+            && self.is_free_unless_on(edge, side_of(&placed, edge, self.to))
     }
 
     // Whether those that it has beside an item that it meets are: one of the two beside an edge

@@ -1,25 +1,25 @@
 use Rattle.std.proofs.Common.{arith}
 use Rattle.delaunay_location.specs.delaunay_core.Place.{place_of}
 use Rattle.delaunay_location.proofs.delaunay_legalization_lemmas.Questions.{covered_in}
-use Rattle.delaunay_lines.specs.Steps.{IsOverMesh}
+use Rattle.delaunay_lines.specs.Walk.{IsOverMesh}
 use Rattle.delaunay_lines.proofs.Advance.{is_ready, starts_at_vertex, walks_line}
 use Rattle.delaunay_lines.proofs.between.line_between_vertices.Goals as goal
 
 pub returns : goal.returns
 returns g c =
     let covers = g.met.P.PlaneTests.sites_are_covered c.args.tests.now in
-    let over : IsOverMesh g.V.HasPosition.place (g.P.PlaneTests.sites c.args.tests.now)
-    (g.P.PlaneTests.covered c.args.tests.now) c.args.dcel.now
+    let sites = c.requires.sites in
+    let over : IsOverMesh g.V.HasPosition.place g.P.PlaneTests.sites g.P.PlaneTests.covered
+    c.args.dcel.now c.args.tests.now
     (place_of g.V.Scalar.SpadeNum.whole c.position_of-start.result)
     (place_of g.V.Scalar.SpadeNum.whole c.position_of-end.result) = record {
-      mesh = c.num_vertices.ensures.whole;
-      shape = c.requires.shape;
-      sites = c.requires.sites;
-      from = covered_in _ _ covers _ _ c.requires.sites c.position_of-start.ensures.listed;
-      to = covered_in _ _ covers _ _ c.requires.sites c.position_of-end.ensures.listed;
+      placed = record { kept = c.requires.kept; sites = sites };
+      from_covered = covered_in _ _ covers _ _ sites c.position_of-start.ensures.listed;
+      to_covered = covered_in _ _ covers _ _ sites c.position_of-end.ensures.listed;
     } in
-    let first = starts_at_vertex over c.args.from c.requires.from_in
-    c.position_of-start.ensures.place in
+    let first = starts_at_vertex over.placed
+    {q = place_of g.V.Scalar.SpadeNum.whole c.position_of-end.result} c.args.from
+    c.requires.from_in c.position_of-start.ensures.place in
     record {
       line = rw (← c.position_of-start.ensures.place, ← c.position_of-end.ensures.place)
           (walks_line first);

@@ -8,7 +8,7 @@ use Rattle.delaunay_sight.proofs.sight.goes_free.Goals as goal
 pub invariant_of-sight : goal.invariant_of-sight
 invariant_of-sight g c =
     let line = c.line_between-line.ensures in
-    over_line c.args.dcel.now line.ready.over line.line.state c.requires.sites
+    over_line c.args.dcel.now c.requires.kept line.line.state c.requires.sites
     c.requires.from_covered c.requires.to_covered
 
 pub returns : goal.returns
