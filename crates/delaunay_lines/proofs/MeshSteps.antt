@@ -2,11 +2,11 @@
 -- Notions: IsExit; placed_value, not_same, positive, at_ends, side_at, laid, in_mesh, of_mesh,
 -- joined, tiles_with, bare, face_at, start_in, start_known, twin_within, next_spoke, ends_apart,
 -- ends_not_within, twin_of_prev, twin_of_next, last_at_edge, ends_inside, at_corner, through_exit,
--- last_within_overlap, end_of_overlap, last_at_end, last_if_none_leads, along_ahead, last_in_face,
--- through_far.
+-- last_within_overlap, end_of_overlap, last_at_end, last_if_none_leads, overlap_comes, none_comes,
+-- far_comes.
 use Rattle.std.proofs.Common.{◌≡◌, ◌≢◌, ◌⊎◌, ◌↔◌, ◌<◌, ◌∙◌, ◌∷◌}
 use Rattle.std.specs.Borrow.{Bor}
-use Rattle.std.proofs.Common.{ℕ, List, length, map, Some, sym, ap, subst}
+use Rattle.std.proofs.Common.{ℕ, List, length, map, Some, None, sym, ap, subst}
 use Rattle.std.proofs.Common.{inl, inr, arith}
 use Rattle.std.proofs.lemmas.List.{length-map}
 use Rattle.delaunay_location.specs.half_edge_mesh.Mesh.{Mesh, IsValidMesh, origin, next, prev, face}
@@ -39,7 +39,11 @@ use Rattle.delaunay_location.specs.delaunay_legalization.Known.{point_at}
 use Rattle.delaunay_location.specs.delaunay_legalization.Placed.{IsPlaced, Reading}
 use Rattle.delaunay_location.proofs.delaunay_legalization_lemmas.Rounds.{IsGoingRound, next_within}
 use Rattle.delaunay_location.proofs.delaunay_legalization_lemmas.Rounds.{next_starts}
-use Rattle.delaunay_lines.specs.declared.intersection.FixedIntersection.TheVariants.{Edge, Vertex}
+use Rattle.delaunay_lines.specs.declared.intersection.FixedIntersection.TheVariants.{
+  Edge,
+  Vertex,
+  Overlap,
+}
 use Rattle.delaunay_lines.specs.Steps.{IsNext, IsLeftOf, IsEdgeAhead}
 use Rattle.delaunay_lines.specs.Steps.{IsInCone, LeadsOn}
 use Rattle.delaunay_lines.proofs.SegmentTests.{differs_if_within}
@@ -448,7 +452,7 @@ module _ {V D U F P : Type 0} {at : V → Point} {IsSite : P → Point → Type 
       v_in = in_mesh h within
 
       -- where q is ahead along the edge, this is overlapped next
-      pub along_ahead : IsEdgeAhead points m q h → Next (at_vertex (origin m h)) (overlapped h)
+      along_ahead : IsEdgeAhead points m q h → Next (at_vertex (origin m h)) (overlapped h)
       along_ahead x = elim laid [
         | inl tiles ↦ (next_after_vertex t tiles (whole p) (whole q) ways_apart (origin m h) met).1
             (origin m (rev h))
@@ -495,11 +499,47 @@ module _ {V D U F P : Type 0} {at : V → Point} {IsSite : P → Point → Type 
 
         -- where q is in the cone of the face and inside its third side, the vertex is the last
         -- item
-        pub last_in_face : IsLeftOf points m q (next m h) → Last (at_vertex (origin m h))
+        last_in_face : IsLeftOf points m q (next m h) → Last (at_vertex (origin m h))
         last_in_face l = cone_law.0 (far_side.0 l)
 
         -- else this side is next
-        pub through_far : ¬ IsLeftOf points m q (next m h)
+        through_far : ¬ IsLeftOf points m q (next m h)
             → Next (at_vertex (origin m h)) (crossed (rev (next m h)))
         through_far l = subst (Next (at_vertex (origin m h))) (sym across_far)
             (cone_law.1 (λ y. l (far_side.1 y)))
+
+    -- the same by handles, where the edge starts at vertex v
+    module _ {v : ℕ} (h : ℕ) (within : h < length c.directed) (starts : origin m h ≡ v)
+        (met : Met (at_vertex v)) (differs : point_at points v ≢ q) where
+      met_there : Met (at_vertex (origin m h))
+      met_there = subst (λ (k : ℕ). Met (at_vertex k)) (sym starts) met
+
+      differs_there : point_at points (origin m h) ≢ q
+      differs_there = subst (λ (k : ℕ). point_at points k ≢ q) (sym starts) differs
+
+      -- where q is ahead along the edge
+      pub overlap_comes : IsEdgeAhead points m q h → IsNext at c p q (at_vertex v) (Some (Overlap h))
+      overlap_comes x = (
+        within,
+        subst (λ (k : ℕ). Next (at_vertex k) (overlapped h)) starts
+            (along_ahead h within met_there differs_there x),
+      )
+
+      module _ (cone : IsInCone points m q h) {far : ℕ} (is : far ≡ next m h) where
+        -- where it is inside the face
+        pub none_comes : IsLeftOf points m q far → IsNext at c p q (at_vertex v) None
+        none_comes l = subst (λ (k : ℕ). Last (at_vertex k)) starts
+            (last_in_face h within met_there differs_there cone
+            (subst (IsLeftOf points m q) is l))
+
+        -- where it is beyond
+        pub far_comes : ¬ IsLeftOf points m q far
+            → IsNext at c p q (at_vertex v) (Some (Edge (rev far)))
+        far_comes l = (
+          twin_within far (of_mesh far (subst (λ (k : ℕ). k < length m.half_edges) (sym is)
+              (s.sound.edges h (in_mesh h within)).next_in)),
+          subst (λ (x : ℕ × ℕ). Next (at_vertex x.0) (crossed (rev x.1)))
+              (λ i. (starts i, sym is i))
+              (through_far h within met_there differs_there cone
+              (λ y. l (subst (IsLeftOf points m q) (sym is) y))),
+        )

@@ -1,19 +1,66 @@
 -- One call of the iterator along a segment.
--- Lemmas: at_item, counts_more, gives_some, ready_after.
+-- Notions: IsAfterItem, IsItemIn; alone_after, apart_after, edge_found, vertex_found, overlap_found,
+-- at_item, counts_more, gives_some, ready_after.
 use Rattle.std.proofs.Common.{◌≡◌, ◌≢◌, ◌-◌, ◌≤◌, ◌∷◌, ◌∙◌}
-use Rattle.std.proofs.Common.{List, Option, Some, None, refl, sym, ap, subst}
+use Rattle.std.proofs.Common.{ℕ, List, Option, Some, None, refl, sym, ap, subst}
+use Rattle.std.specs.Borrow.{Bor}
 use Rattle.std.specs.Prelude.{ℤ}
+use Rattle.delaunay_location.specs.half_edge_mesh.Contents.{Contents}
+use Rattle.delaunay_location.specs.half_edge_views.declared.edge.DirectedEdgeHandle.{DirectedEdgeHandle}
+use Rattle.delaunay_location.specs.half_edge_views.declared.vertex.VertexHandle.{VertexHandle}
 use Rattle.delaunay_location.specs.plane.Fraction.{Point}
 use Rattle.delaunay_location.specs.plane.Line.{Item}
 use Rattle.delaunay_location.specs.delaunay_core.Place.{place_of}
 use Rattle.delaunay_lines.specs.declared.intersection.Intersection.{Intersection}
+use Rattle.delaunay_lines.specs.declared.intersection.Intersection.TheVariants.{EdgeIntersection}
+use Rattle.delaunay_lines.specs.declared.intersection.Intersection.TheVariants.{VertexIntersection}
+use Rattle.delaunay_lines.specs.declared.intersection.Intersection.TheVariants.{EdgeOverlap}
 use Rattle.delaunay_lines.specs.declared.intersection.FixedIntersection.{FixedIntersection}
+use Rattle.delaunay_lines.specs.declared.intersection.FixedIntersection.TheVariants.{
+  Edge,
+  Vertex,
+  Overlap,
+}
 use Rattle.delaunay_lines.specs.declared.iterator.LineIntersectionIterator.{LineIntersectionIterator}
 use Rattle.delaunay_lines.specs.Items.{item_of, item_in, mesh_of}
 use Rattle.delaunay_lines.specs.Over.{IsAtItem}
 use Rattle.delaunay_lines.specs.Steps.{IsNext}
 use Rattle.delaunay_lines.specs.Walk.{AreFrom, AreLeft, GivesNext, IsReady}
 use Rattle.delaunay_lines.proofs.Advance.{further, one_fewer, some_left}
+
+-- after item i nothing comes from a point to itself, and r from p to another point q
+pub record IsAfterItem {V D U F : Type 0} (at : V → Point) (c : Contents V D U F) (p q : Point)
+    (i : FixedIntersection) (r : Option FixedIntersection) : Type 0 where
+  pub alone : p ≡ q → r ≡ None
+  pub next : p ≢ q → IsNext at c p q (item_of c.mesh i) r
+
+pub alone_after : {V D U F : Type 0} {at : V → Point} {c : Contents V D U F} {p q : Point}
+    {i : FixedIntersection} → p ≡ q → IsAfterItem at c p q i None
+alone_after same = record { alone = λ _. refl; next = λ apart. absurd (apart same) }
+
+pub apart_after : {V D U F : Type 0} {at : V → Point} {c : Contents V D U F} {p q : Point}
+    {i : FixedIntersection} {r : Option FixedIntersection} → p ≢ q
+    → IsNext at c p q (item_of c.mesh i) r → IsAfterItem at c p q i r
+apart_after apart next = record { alone = λ same. absurd (apart same); next = λ _. next }
+
+-- item i, by a handle that has the mesh
+pub record IsItemIn {V D U F : Type 0} (d : Bor (Contents V D U F)) (i : FixedIntersection)
+    (x : Intersection V D U F) : Type 0 where
+  pub item : item_in x ≡ item_of d.now.mesh i
+  pub mesh : mesh_of x ≡ d
+
+module _ {V D U F : Type 0} {d : Bor (Contents V D U F)} {k : ℕ} where
+  pub edge_found : {h : DirectedEdgeHandle V D U F} → h.dcel ≡ d → h.index ≡ k
+      → IsItemIn d (Edge k) (EdgeIntersection h)
+  edge_found mesh is = record { item = rw (mesh, is) refl; mesh = mesh }
+
+  pub vertex_found : {h : VertexHandle V D U F} → h.dcel ≡ d → h.index ≡ k
+      → IsItemIn d (Vertex k) (VertexIntersection h)
+  vertex_found mesh is = record { item = rw is refl; mesh = mesh }
+
+  pub overlap_found : {h : DirectedEdgeHandle V D U F} → h.dcel ≡ d → h.index ≡ k
+      → IsItemIn d (Overlap k) (EdgeOverlap h)
+  overlap_found mesh is = record { item = rw (mesh, is) refl; mesh = mesh }
 
 module _ {V D U F P S : Type 0} {at : V → Point} {number : S → ℤ}
     {IsSite IsCovered : P → Point → Type 0} {it : LineIntersectionIterator V D U F P S}
@@ -42,23 +89,22 @@ module _ {V D U F P S : Type 0} {at : V → Point} {number : S → ℤ}
       (item_of it.dcel.now.mesh i) it.left
       (from_here ready.items ready.are_left).1.1 ready.few
 
-  module _ {r : Option FixedIntersection} (alone : p ≡ q → r ≡ None)
-      (next : p ≢ q → IsNext at it.dcel.now p q (item_of it.dcel.now.mesh i) r) where
+  module _ {r : Option FixedIntersection} (goes : IsAfterItem at it.dcel.now p q i r) where
     abbrev after : LineIntersectionIterator V D U F P S
     after = record it { current = r; left = it.left - 1 }
 
     others : (items : List Item) → AreLeft at number it items → (others : List Item)
         × (items ≡ item_of it.dcel.now.mesh i ∷ others) × AreLeft at number after others
-    others items left = further ready.over.placed p q i items (from_here items left) r alone next
+    others items left = further ready.over.placed p q i items (from_here items left) r goes.alone goes.next
 
     -- an answer with the current item of the same mesh gives what is next
-    pub gives_some : {x : Intersection V D U F} → item_in x ≡ item_of it.dcel.now.mesh i
-        → mesh_of x ≡ it.dcel → GivesNext at number it (Some x) after
-    gives_some item mesh = record {
+    pub gives_some : {x : Intersection V D U F} → IsItemIn it.dcel i x
+        → GivesNext at number it (Some x) after
+    gives_some found = record {
       same_mesh = refl;
       gives =
           λ items left. let o = others items left in
-          (mesh, (o.0, o.1 ∙ ap (λ (k : Item). k ∷ o.0) (sym item), o.2));
+          (found.mesh, (o.0, o.1 ∙ ap (λ (k : Item). k ∷ o.0) (sym found.item), o.2));
       stays = tt;
     }
 

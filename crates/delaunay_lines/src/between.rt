@@ -9,7 +9,7 @@ ghost use Rattle.delaunay_lines.specs.Walk.{IsReady, WalksBetween, WalksLine};
 
 use crate::intersection::FixedIntersection;
 use crate::iterator::LineIntersectionIterator;
-use crate::outside::{first_along, first_outside, first_past, if_seen};
+use crate::outside::{first_along, first_on_outline, first_past, if_seen};
 use crate::starts::{first_in_face, first_on_edge};
 use delaunay_location::delaunay_core::math::PlaneTests;
 use delaunay_location::delaunay_core::point::{HasPosition, Point2};
@@ -51,7 +51,7 @@ fn first_from<V: HasPosition, DE, UE, F, P: PlaneTests<V::Scalar>>(
             Some(seen) => first_along(placed, from, to, seen),
             None => first_past(placed, from, to, edge),
         },
-        PositionInTriangulation::NoTriangulation => first_outside(placed, from, to),
+        PositionInTriangulation::NoTriangulation => first_on_outline(placed, from, to),
     }
 }
 

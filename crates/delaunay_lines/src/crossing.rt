@@ -1,8 +1,9 @@
 //! What a segment meets after an edge that it crosses or goes along.
 ghost use Rattle.delaunay_lines.specs.Over.{AreEnds, GoesOnTo, IsAtItem};
+ghost use Rattle.delaunay_lines.specs.declared.intersection.FixedIntersection.TheVariants.{Edge, Overlap};
 
 use crate::intersection::FixedIntersection;
-use crate::sides::side_of;
+use crate::sides::side_along;
 use delaunay_location::delaunay_core::math::PlaneTests;
 use delaunay_location::delaunay_core::point::{HasPosition, Point2};
 use delaunay_location::delaunay_legalization::{
@@ -20,16 +21,14 @@ pub(crate) fn after_crossing<V: HasPosition, DE, UE, F, P: PlaneTests<V::Scalar>
     edge: FixedDirectedEdgeHandle,
 ) -> Option<FixedIntersection>
     requires ends { AreEnds V.Scalar.whole P.covered placed.now.tests from to }
-    requires at { IsAtItem V.place V.Scalar.whole placed.now from to
-        (FixedIntersection.Edge edge) }
-    ensures { GoesOnTo V.place V.Scalar.whole placed.now from to (FixedIntersection.Edge edge)
-        result }
+    requires at { IsAtItem V.place V.Scalar.whole placed.now from to (Edge edge) }
+    ensures { GoesOnTo V.place V.Scalar.whole placed.now from to (Edge edge) result }
 {
     let here = placed.dcel.directed_edge(edge);
     if here.is_outer_edge() {
         return None;
     }
-    let end = side_of(placed, edge, to);
+    let end = side_along(placed, edge, to);
     if end.is_on_line() {
         return None;
     }
@@ -41,7 +40,7 @@ pub(crate) fn after_crossing<V: HasPosition, DE, UE, F, P: PlaneTests<V::Scalar>
     } else {
         here.next().fix()
     };
-    if side_of(placed, exit, to).is_on_left_side() {
+    if side_along(placed, exit, to).is_on_left_side() {
         return None;
     }
     if side.is_on_line() {
@@ -59,10 +58,8 @@ pub(crate) fn after_overlap<V: HasPosition, DE, UE, F, P: PlaneTests<V::Scalar>>
     edge: FixedDirectedEdgeHandle,
 ) -> Option<FixedIntersection>
     requires ends { AreEnds V.Scalar.whole P.covered placed.now.tests from to }
-    requires at { IsAtItem V.place V.Scalar.whole placed.now from to
-        (FixedIntersection.Overlap edge) }
-    ensures { GoesOnTo V.place V.Scalar.whole placed.now from to (FixedIntersection.Overlap edge)
-        result }
+    requires at { IsAtItem V.place V.Scalar.whole placed.now from to (Overlap edge) }
+    ensures { GoesOnTo V.place V.Scalar.whole placed.now from to (Overlap edge) result }
 {
     let here = placed.dcel.directed_edge(edge);
     let vertex = here.to().fix();

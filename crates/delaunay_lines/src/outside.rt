@@ -12,7 +12,7 @@ ghost use Rattle.delaunay_lines.specs.Starts.{IsNearestOf, IsOnSegment};
 ghost use Rattle.delaunay_lines.specs.Outline.{IsIfSeen, IsSeenOuter, IsTurningPoint};
 
 use crate::intersection::FixedIntersection;
-use crate::sides::side_of;
+use crate::sides::side_along;
 use delaunay_location::delaunay_core::math::PlaneTests;
 use delaunay_location::delaunay_core::point::{HasPosition, Point2, SpadeNum};
 use delaunay_location::delaunay_legalization::{
@@ -64,8 +64,8 @@ fn is_crossed<V: HasPosition, DE, UE, F, P: PlaneTests<V::Scalar>>(
     {
         return false;
     }
-    side_of(placed, edge, from).is_on_right_side_or_on_line()
-        && side_of(placed, edge, to).is_on_left_side_or_on_line()
+    side_along(placed, edge, from).is_on_right_side_or_on_line()
+        && side_along(placed, edge, to).is_on_left_side_or_on_line()
 }
 
 // Whether a point is on a segment.
@@ -175,7 +175,7 @@ fn nearest_vertex<V: HasPosition, DE, UE, F, P: PlaneTests<V::Scalar>>(
 
 // From outside: the edge by which the segment enters, else the nearest vertex on it. It goes along
 // the outline up to such an edge, and, where there is none, once more.
-pub(crate) fn first_outside<V: HasPosition, DE, UE, F, P: PlaneTests<V::Scalar>>(
+pub(crate) fn first_on_outline<V: HasPosition, DE, UE, F, P: PlaneTests<V::Scalar>>(
     placed: &Placed<'_, V, DE, UE, F, P>,
     from: Point2<V::Scalar>,
     to: Point2<V::Scalar>,
@@ -207,7 +207,7 @@ pub(crate) fn if_seen<V: HasPosition, DE, UE, F, P: PlaneTests<V::Scalar>>(
     ensures { IsIfSeen (map V.place placed.now.dcel.vertices) placed.now.dcel.mesh
         (place_of V.Scalar.whole from) edge result }
 {
-    if side_of(placed, edge, from).is_on_left_side() {
+    if side_along(placed, edge, from).is_on_left_side() {
         return Some(edge);
     }
     None
@@ -257,7 +257,7 @@ fn first_at<V: HasPosition, DE, UE, F, P: PlaneTests<V::Scalar>>(
     let here = placed.dcel.directed_edge(edge);
     let start = placed.tests.side(from, to, placed.start_of(edge));
     let end = placed.tests.side(from, to, placed.end_of(edge));
-    if side_of(placed, edge, to).is_on_left_side() {
+    if side_along(placed, edge, to).is_on_left_side() {
         return None;
     }
     if end.is_on_right_side() {
@@ -290,7 +290,7 @@ pub(crate) fn first_along<V: HasPosition, DE, UE, F, P: PlaneTests<V::Scalar>>(
     ensures { BeginsWith V.place V.Scalar.whole placed.now from to result }
 {
     let steps = placed.dcel.num_directed_edges();
-    if side_of(placed, edge, to).is_on_left_side() {
+    if side_along(placed, edge, to).is_on_left_side() {
         return None;
     }
     let mut here = edge;
@@ -300,7 +300,7 @@ pub(crate) fn first_along<V: HasPosition, DE, UE, F, P: PlaneTests<V::Scalar>>(
             None => return first_at(placed, from, to, here),
         }
     }
-    first_outside(placed, from, to)
+    first_on_outline(placed, from, to)
 }
 
 // From past the vertex at the end of a line of vertices, where an edge starts: this vertex, if it

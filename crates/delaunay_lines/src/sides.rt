@@ -13,7 +13,7 @@ use delaunay_location::delaunay_legalization::{Placed, position_of};
 use delaunay_location::half_edge_mesh::{FixedDirectedEdgeHandle, MeshViews};
 
 /// The side of a point that the tests cover, as seen along an edge.
-pub fn side_of<V: HasPosition, DE, UE, F, P: PlaneTests<V::Scalar>>(
+pub fn side_along<V: HasPosition, DE, UE, F, P: PlaneTests<V::Scalar>>(
     placed: &Placed<'_, V, DE, UE, F, P>,
     edge: FixedDirectedEdgeHandle,
     point: Point2<V::Scalar>,

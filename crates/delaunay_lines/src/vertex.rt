@@ -1,18 +1,20 @@
 //! What a segment meets after a vertex.
-ghost use Rattle.std.specs.Prelude.{◌≢◌, ◌↔◌, IsTrue};
+ghost use Rattle.std.specs.Prelude.{◌≢◌, ◌↔◌, ◌<◌, length, map, IsTrue};
 ghost use Rattle.delaunay_location.specs.plane.Fraction.{whole as fraction};
 ghost use Rattle.plane_segments.specs.Steps.{IsAhead};
 ghost use Rattle.delaunay_location.specs.delaunay_core.Place.{place_of};
 ghost use Rattle.delaunay_lines.specs.Over.{AreEnds, GoesOnTo, IsAtItem};
+ghost use Rattle.delaunay_lines.specs.Steps.{IsInCone};
+ghost use Rattle.delaunay_lines.specs.declared.intersection.FixedIntersection.TheVariants.{Vertex};
 
 use crate::intersection::FixedIntersection;
-use crate::sides::side_of;
+use crate::sides::side_along;
 use delaunay_location::delaunay_core::math::PlaneTests;
 use delaunay_location::delaunay_core::point::{HasPosition, Point2, SpadeNum};
 use delaunay_location::delaunay_legalization::{
     Placed, is_same_point, is_strictly_within, position_of,
 };
-use delaunay_location::half_edge_mesh::{FixedVertexHandle, MeshViews};
+use delaunay_location::half_edge_mesh::{FixedDirectedEdgeHandle, FixedVertexHandle, MeshViews};
 
 // Whether a point lies in the direction from one position to another. Both differ from the first.
 pub(crate) fn is_ahead<S: SpadeNum, P: PlaneTests<S>>(
@@ -39,6 +41,24 @@ pub(crate) fn is_ahead<S: SpadeNum, P: PlaneTests<S>>(
     is_strictly_within(from, point, towards, tests)
 }
 
+// Whether a position is strictly between the two sides, from the start of an edge on, of the inner
+// face on its left.
+fn is_in_cone<V: HasPosition, DE, UE, F, P: PlaneTests<V::Scalar>>(
+    placed: &Placed<'_, V, DE, UE, F, P>,
+    position: Point2<V::Scalar>,
+    edge: FixedDirectedEdgeHandle,
+) -> bool
+    requires within { edge < length placed.now.dcel.directed }
+    requires covered { P.covered placed.now.tests (place_of V.Scalar.whole position) }
+    ensures { IsTrue result ↔ IsInCone (map V.place placed.now.dcel.vertices) placed.now.dcel.mesh
+        (place_of V.Scalar.whole position) edge }
+{
+    let here = placed.dcel.directed_edge(edge);
+    !here.is_outer_edge()
+        && side_along(placed, edge, position).is_on_left_side()
+        && side_along(placed, here.prev().fix(), position).is_on_left_side()
+}
+
 // What a segment meets after a vertex: an edge along it, nothing where it ends at the vertex or
 // inside the next face, or else the far side of this face.
 pub(crate) fn after_vertex<V: HasPosition, DE, UE, F, P: PlaneTests<V::Scalar>>(
@@ -48,10 +68,8 @@ pub(crate) fn after_vertex<V: HasPosition, DE, UE, F, P: PlaneTests<V::Scalar>>(
     vertex: FixedVertexHandle,
 ) -> Option<FixedIntersection>
     requires ends { AreEnds V.Scalar.whole P.covered placed.now.tests from to }
-    requires at { IsAtItem V.place V.Scalar.whole placed.now from to
-        (FixedIntersection.Vertex vertex) }
-    ensures { GoesOnTo V.place V.Scalar.whole placed.now from to (FixedIntersection.Vertex vertex)
-        result }
+    requires at { IsAtItem V.place V.Scalar.whole placed.now from to (Vertex vertex) }
+    ensures { GoesOnTo V.place V.Scalar.whole placed.now from to (Vertex vertex) result }
 {
     let start = position_of(placed.dcel, vertex);
     if is_same_point(start, to) {
@@ -64,16 +82,9 @@ pub(crate) fn after_vertex<V: HasPosition, DE, UE, F, P: PlaneTests<V::Scalar>>(
         if is_ahead(start, end, to, placed.tests) {
             return Some(FixedIntersection::Overlap(edge));
         }
-        // It goes into a face only from strictly between two of its sides.
-        if here.is_outer_edge() {
-            continue;
-        }
-        if !side_of(placed, edge, to).is_on_left_side() {
-            continue;
-        }
-        if side_of(placed, here.prev().fix(), to).is_on_left_side() {
+        if is_in_cone(placed, to, edge) {
             let far = here.next().fix();
-            if side_of(placed, far, to).is_on_left_side() {
+            if side_along(placed, far, to).is_on_left_side() {
                 return None;
             }
             return Some(FixedIntersection::Edge(far.rev()));

@@ -68,7 +68,7 @@ first_past-requires-clause-past g c =
     past_if_unseen (placed_value c.placed.view_is c.placed.invariant) c.in-OutsideOfConvexHull.edge
     (rw c.in-OutsideOfConvexHull.is at c.requires.start) c.in-None.ensures
 
-pub first_outside-requires-clause-start : goal.first_outside-requires-clause-start
-first_outside-requires-clause-start g c =
+pub first_on_outline-requires-clause-start : goal.first_on_outline-requires-clause-start
+first_on_outline-requires-clause-start g c =
     without_triangulation (placed_value c.placed.view_is c.placed.invariant)
     (rw c.in-NoTriangulation.is at c.requires.start)

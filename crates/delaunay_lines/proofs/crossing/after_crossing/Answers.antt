@@ -4,13 +4,13 @@ use Rattle.delaunay_lines.proofs.MeshSteps.{IsExit, at_corner, ends_inside, last
 use Rattle.delaunay_lines.proofs.MeshSteps.{side_at, through_exit}
 use Rattle.delaunay_lines.proofs.SegmentTests.{unless}
 use Rattle.delaunay_lines.proofs.crossing.after_crossing.Given.{Over}
-use Rattle.delaunay_lines.proofs.crossing.after_crossing.Goals.{After-side_of}
+use Rattle.delaunay_lines.proofs.crossing.after_crossing.Goals.{After-side_along}
 use Rattle.delaunay_lines.proofs.crossing.after_crossing.Goals.{then-is_on_right_side}
 use Rattle.delaunay_lines.proofs.crossing.after_crossing.Goals.{else-is_on_right_side}
 use Rattle.delaunay_lines.proofs.crossing.after_crossing.Goals as goal
 
 -- the side by which the segment leaves the face
-exit : (g : Over) (c : After-side_of g) → IsExit c.placed.inside.dcel.now.mesh c.args.edge
+exit : (g : Over) (c : After-side_along g) → IsExit c.placed.inside.dcel.now.mesh c.args.edge
     c.side-side.result c.if-is_on_right_side.exit
 exit g c =
     let here = c.directed_edge-here.ensures in
@@ -38,7 +38,7 @@ returns-then-is_outer_edge g c =
 pub returns-then-is_on_line : goal.returns-then-is_on_line
 returns-then-is_on_line g c =
     let at = rw (← c.placed.view_is) at c.requires.at in
-    let on = rw (c.side_of-end.ensures, ← c.placed.view_is) at c.is_on_line.ensures in
+    let on = rw (c.side_along-end.ensures, ← c.placed.view_is) at c.is_on_line.ensures in
     rw (← c.placed.view_is) (last_at_edge c.placed.invariant c.requires.ends.apart c.args.edge at.within at.met
     (inl (on.0 c.if-is_on_line.true)))
 
@@ -54,11 +54,11 @@ returns-then-is_on_left_side g c =
     let outer = rw (here.dcel, here.index) at c.is_outer_edge.ensures in
     let corner = rw (here.dcel, here.index) at
     (c.fix-corner.ensures.value ∙ c.prev_from.ensures.index) in
-    let left = rw (c.side_of.ensures, ← c.placed.view_is) at c.is_on_left_side.ensures in
+    let left = rw (c.side_along.ensures, ← c.placed.view_is) at c.is_on_left_side.ensures in
     rw (← c.placed.view_is) (ends_inside c.placed.invariant c.requires.ends.apart c.args.edge at.within at.met
     (positive _ (unless outer c.if-is_outer_edge.false))
     (side_at _ _ c.side-side.ensures (rw corner at c.position_of-opposite.ensures.place))
-    (exit g (goal.at.returns-then-is_on_left_side g c).After-side_of)
+    (exit g (goal.at.returns-then-is_on_left_side g c).After-side_along)
     (left.0 c.if-is_on_left_side.true))
 
 pub returns-then-is_on_line-2 : goal.returns-then-is_on_line-2
@@ -68,11 +68,11 @@ returns-then-is_on_line-2 g c =
     let outer = rw (here.dcel, here.index) at c.is_outer_edge.ensures in
     let corner = rw (here.dcel, here.index) at
     (c.fix-corner.ensures.value ∙ c.prev_from.ensures.index) in
-    let left = rw (c.side_of.ensures, ← c.placed.view_is) at c.is_on_left_side.ensures in
+    let left = rw (c.side_along.ensures, ← c.placed.view_is) at c.is_on_left_side.ensures in
     rw (← c.placed.view_is) (at_corner c.placed.invariant c.requires.ends.apart c.args.edge at.within at.met
     (positive _ (unless outer c.if-is_outer_edge.false))
     (side_at _ _ c.side-side.ensures (rw corner at c.position_of-opposite.ensures.place))
-    (exit g (goal.at.returns-then-is_on_line-2 g c).After-side_of)
+    (exit g (goal.at.returns-then-is_on_line-2 g c).After-side_along)
     (unless left c.if-is_on_left_side.false) corner
     (c.is_on_line-2.ensures.0 c.if-is_on_line-2.true))
 
@@ -83,10 +83,10 @@ returns g c =
     let outer = rw (here.dcel, here.index) at c.is_outer_edge.ensures in
     let corner = rw (here.dcel, here.index) at
     (c.fix-corner.ensures.value ∙ c.prev_from.ensures.index) in
-    let left = rw (c.side_of.ensures, ← c.placed.view_is) at c.is_on_left_side.ensures in
+    let left = rw (c.side_along.ensures, ← c.placed.view_is) at c.is_on_left_side.ensures in
     rw (c.rev.ensures, ← c.placed.view_is) (through_exit c.placed.invariant c.requires.ends.apart c.args.edge
     at.within at.met (positive _ (unless outer c.if-is_outer_edge.false))
     (side_at _ _ c.side-side.ensures (rw corner at c.position_of-opposite.ensures.place))
-    (exit g (goal.at.returns g c).After-side_of)
+    (exit g (goal.at.returns g c).After-side_along)
     (unless left c.if-is_on_left_side.false)
     (unless c.is_on_line-2.ensures c.if-is_on_line-2.false))

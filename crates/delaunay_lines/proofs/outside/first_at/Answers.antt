@@ -17,7 +17,7 @@ side-end-requires-clause-point_covered g c = rw (← c.placed.view_is) at
 pub returns-then-is_on_left_side : goal.returns-then-is_on_left_side
 returns-then-is_on_left_side g c =
     nothing_on_its_left (placed_value c.placed.view_is c.placed.invariant) c.requires.ends.apart
-    c.args.edge c.requires.seen ((rw c.side_of.ensures at c.is_on_left_side.ensures).0
+    c.args.edge c.requires.seen ((rw c.side_along.ensures at c.is_on_left_side.ensures).0
     c.if-is_on_left_side.true)
 
 pub returns-then-is_on_right_side : goal.returns-then-is_on_right_side
@@ -44,7 +44,7 @@ returns-then-is_on_line g c =
     let seen = rw (← c.placed.view_is) at c.requires.seen in
     let here = c.directed_edge-here.ensures in
     let vertex = rw (here.dcel, here.index) at (c.fix.ensures.value ∙ c.to.ensures.index) in
-    let ends = rw (c.side_of.ensures, ← c.placed.view_is) at c.is_on_left_side.ensures in
+    let ends = rw (c.side_along.ensures, ← c.placed.view_is) at c.is_on_left_side.ensures in
     let end = rw (← c.placed.view_is) at
     (side_at _ _ c.side-end.ensures c.end_of.ensures.place) in
     let start = rw (← c.placed.view_is) at
@@ -61,7 +61,7 @@ returns-then-is_on_line-2 g c =
     let here = c.directed_edge-here.ensures in
     let vertex = rw (here.dcel, here.index) at (c.fix-then-is_on_line-2.ensures.value ∙
     c.from.ensures.index) in
-    let ends = rw (c.side_of.ensures, ← c.placed.view_is) at c.is_on_left_side.ensures in
+    let ends = rw (c.side_along.ensures, ← c.placed.view_is) at c.is_on_left_side.ensures in
     let end = rw (← c.placed.view_is) at
     (side_at _ _ c.side-end.ensures c.end_of.ensures.place) in
     let right = rw end at c.is_on_right_side.ensures in
@@ -81,7 +81,7 @@ returns g c =
     let on = rw end at c.is_on_line.ensures in
     let left = rw start at c.is_on_left_side-2.ensures in
     let first = rw start at c.is_on_line-2.ensures in
-    let ends = rw c.side_of.ensures at c.is_on_left_side.ensures in
+    let ends = rw c.side_along.ensures at c.is_on_left_side.ensures in
     rw c.rev.ensures (edge_met (placed_value c.placed.view_is c.placed.invariant)
     c.requires.ends.apart c.args.edge c.requires.seen (unless ends c.if-is_on_left_side.false)
     c.requires.start (right_if_neither _ (unless left c.if-is_on_left_side-2.false)

@@ -10,13 +10,13 @@ use Rattle.delaunay_lines.proofs.starts.first_on_edge.Goals as goal
 
 pub returns-then-is_on_left_side : goal.returns-then-is_on_left_side
 returns-then-is_on_left_side g c =
-    let left = rw c.side_of-side.ensures at c.is_on_left_side.ensures in
+    let left = rw c.side_along-side.ensures at c.is_on_left_side.ensures in
     over_edge (placed_value c.placed.view_is c.placed.invariant) c.args.edge c.requires.within
     c.requires.start c.requires.ends.apart (left.0 c.if-is_on_left_side.true)
 
 pub returns-then-is_on_right_side : goal.returns-then-is_on_right_side
 returns-then-is_on_right_side g c =
-    let right = rw c.side_of-side.ensures at c.is_on_right_side.ensures in
+    let right = rw c.side_along-side.ensures at c.is_on_right_side.ensures in
     let twin = rw c.directed_edge.ensures.index at
     (c.fix-twin.ensures.value ∙ c.rev.ensures.index) in
     rw twin (over_twin (placed_value c.placed.view_is c.placed.invariant)
@@ -44,7 +44,7 @@ is_ahead-requires g c =
 pub returns-then-is_ahead : goal.returns-then-is_ahead
 returns-then-is_ahead g c =
     let given = rw (← c.placed.view_is) at c.requires in
-    let side = rw (← c.placed.view_is) at c.side_of-side.ensures in
+    let side = rw (← c.placed.view_is) at c.side_along-side.ensures in
     rw (← c.placed.view_is) (along_edge c.placed.invariant c.args.edge given.within given.start
     c.requires.ends.apart (rw (← c.placed.view_is) at c.end_of.ensures.place)
     (on_if_neither _ (unless (rw side at c.is_on_left_side.ensures) c.if-is_on_left_side.false)
@@ -54,7 +54,7 @@ returns-then-is_ahead g c =
 pub returns-else-is_ahead : goal.returns-else-is_ahead
 returns-else-is_ahead g c =
     let given = rw (← c.placed.view_is) at c.requires in
-    let side = rw (← c.placed.view_is) at c.side_of-side.ensures in
+    let side = rw (← c.placed.view_is) at c.side_along-side.ensures in
     let twin = rw c.directed_edge.ensures.index at
     (c.fix-twin.ensures.value ∙ c.rev.ensures.index) in
     rw (twin, ← c.placed.view_is) (along_twin c.placed.invariant c.args.edge given.within

@@ -6,11 +6,11 @@ returns-then-is_free_unless_on g c =
     let edge = c.fix-edge.ensures.value in
     let first = rw (
       ← c.self.view_is,
-      c.side_of.ensures,
+      c.side_along.ensures,
       c.fix-twin.ensures.value,
       c.rev.ensures.index,
     ) at c.is_free_unless_on.ensures in
-    let second = rw (← c.self.view_is, c.side_of-then-is_free_unless_on.ensures, edge) at
+    let second = rw (← c.self.view_is, c.side_along-then-is_free_unless_on.ensures, edge) at
     c.is_free_unless_on-then-is_free_unless_on.ensures in
     rw (← c.self.view_is) (second_decides c.self.invariant
     (g.G.FreeFaces.free c.self.inside.free.now) c.args.edge.now.index
@@ -21,7 +21,7 @@ pub returns-else-is_free_unless_on : goal.returns-else-is_free_unless_on
 returns-else-is_free_unless_on g c =
     let first = rw (
       ← c.self.view_is,
-      c.side_of.ensures,
+      c.side_along.ensures,
       c.fix-twin.ensures.value,
       c.rev.ensures.index,
     ) at c.is_free_unless_on.ensures in

@@ -1,5 +1,5 @@
 use Rattle.delaunay_location.proofs.delaunay_legalization_lemmas.Questions.{covered_in}
-use Rattle.delaunay_lines.proofs.sides.side_of.Goals as goal
+use Rattle.delaunay_lines.proofs.sides.side_along.Goals as goal
 
 pub side-requires-clause-from_covered : goal.side-requires-clause-from_covered
 side-requires-clause-from_covered g c =

@@ -4,7 +4,7 @@ use Rattle.delaunay_location.specs.half_edge_mesh.Rounds.{hull_left}
 use Rattle.delaunay_location.specs.delaunay_core.Place.{place_of}
 use Rattle.delaunay_location.proofs.mesh_embedding.OutlineGiven.{IsGoingAlong, indexes}
 use Rattle.delaunay_lines.specs.Starts.{IsCrossed}
-use Rattle.delaunay_lines.proofs.outside.first_outside.Given as goal
+use Rattle.delaunay_lines.proofs.outside.first_on_outline.Given as goal
 
 abbrev pub invariant-loop-outer : goal.invariant-loop-outer
 invariant-loop-outer g l =

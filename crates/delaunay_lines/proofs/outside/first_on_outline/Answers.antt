@@ -5,7 +5,7 @@ use Rattle.delaunay_lines.proofs.MeshSteps.{placed_value}
 use Rattle.delaunay_lines.proofs.OutsideItems.{enters, hull_begins, nearest_is_first, none_entered}
 use Rattle.delaunay_lines.proofs.OutsideItems.{none_is_first, twin_along}
 use Rattle.delaunay_lines.proofs.SegmentTests.{unless}
-use Rattle.delaunay_lines.proofs.outside.first_outside.Goals as goal
+use Rattle.delaunay_lines.proofs.outside.first_on_outline.Goals as goal
 
 pub loop-outer-init : goal.loop-outer-init
 loop-outer-init g c = rw (← c.placed.view_is) (hull_begins c.placed.invariant
