@@ -79,9 +79,17 @@ module _ {V D U F P S : Type 0} {at : V → Point} {number : S → ℤ}
 
   -- the segment is at the item, if its ends differ
   pub at_item : p ≢ q → IsAtItem at number (record { dcel = it.dcel.now; tests = it.tests.now })
-      it.from it.to i
+      it.from it.to IsCovered i
   at_item apart = let here = from_here ready.items ready.are_left in
-      record { within = here.0; met = here.1.2.met apart }
+      record {
+        within = here.0;
+        ends = record {
+          from_covered = ready.over.from_covered;
+          to_covered = ready.over.to_covered;
+          apart = apart;
+        };
+        met = here.1.2.met apart;
+      }
 
   -- the bound on the items that are left is at least 1
   pub counts_more : 1 ≤ it.left

@@ -30,9 +30,10 @@ module _ {V D U F P S : Type 0} (at : V → Point) (number : S → ℤ) (s : Rea
   IsFromInside = StartsInside (map at s.dcel.vertices) s.dcel.mesh (place_of number from)
 
   module _ (to : Point2 S) where
-    -- it meets the item that this handle of the mesh names
-    pub record IsAtItem (i : FixedIntersection) : Type 0 where
+    -- it has such ends, and meets the item that this handle of the mesh names
+    pub record IsAtItem (IsCovered : P → Point → Type 0) (i : FixedIntersection) : Type 0 where
       pub within : IsHandleOf s.dcel i
+      pub ends : AreEnds number IsCovered s.tests from to
       pub met : Meets (drawn (map at s.dcel.vertices) s.dcel.mesh) (whole (place_of number from))
           (whole (place_of number to)) (item_of s.dcel.mesh i)
 

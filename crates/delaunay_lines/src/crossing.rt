@@ -1,5 +1,5 @@
 //! What a segment meets after an edge that it crosses or goes along.
-ghost use Rattle.delaunay_lines.specs.Over.{AreEnds, GoesOnTo, IsAtItem};
+ghost use Rattle.delaunay_lines.specs.Over.{GoesOnTo, IsAtItem};
 ghost use Rattle.delaunay_lines.specs.declared.intersection.FixedIntersection.TheVariants.{Edge, Overlap};
 
 use crate::intersection::FixedIntersection;
@@ -20,8 +20,7 @@ pub(crate) fn after_crossing<V: HasPosition, DE, UE, F, P: PlaneTests<V::Scalar>
     to: Point2<V::Scalar>,
     edge: FixedDirectedEdgeHandle,
 ) -> Option<FixedIntersection>
-    requires ends { AreEnds V.Scalar.whole P.covered placed.now.tests from to }
-    requires at { IsAtItem V.place V.Scalar.whole placed.now from to (Edge edge) }
+    requires { IsAtItem V.place V.Scalar.whole placed.now from to P.covered (Edge edge) }
     ensures { GoesOnTo V.place V.Scalar.whole placed.now from to (Edge edge) result }
 {
     let here = placed.dcel.directed_edge(edge);
@@ -57,8 +56,7 @@ pub(crate) fn after_overlap<V: HasPosition, DE, UE, F, P: PlaneTests<V::Scalar>>
     to: Point2<V::Scalar>,
     edge: FixedDirectedEdgeHandle,
 ) -> Option<FixedIntersection>
-    requires ends { AreEnds V.Scalar.whole P.covered placed.now.tests from to }
-    requires at { IsAtItem V.place V.Scalar.whole placed.now from to (Overlap edge) }
+    requires { IsAtItem V.place V.Scalar.whole placed.now from to P.covered (Overlap edge) }
     ensures { GoesOnTo V.place V.Scalar.whole placed.now from to (Overlap edge) result }
 {
     let here = placed.dcel.directed_edge(edge);

@@ -3,7 +3,7 @@ ghost use Rattle.std.specs.Prelude.{◌≢◌, ◌↔◌, ◌<◌, length, map, 
 ghost use Rattle.delaunay_location.specs.plane.Fraction.{whole as fraction};
 ghost use Rattle.plane_segments.specs.Steps.{IsAhead};
 ghost use Rattle.delaunay_location.specs.delaunay_core.Place.{place_of};
-ghost use Rattle.delaunay_lines.specs.Over.{AreEnds, GoesOnTo, IsAtItem};
+ghost use Rattle.delaunay_lines.specs.Over.{GoesOnTo, IsAtItem};
 ghost use Rattle.delaunay_lines.specs.Steps.{IsInCone};
 ghost use Rattle.delaunay_lines.specs.declared.intersection.FixedIntersection.TheVariants.{Vertex};
 
@@ -67,8 +67,7 @@ pub(crate) fn after_vertex<V: HasPosition, DE, UE, F, P: PlaneTests<V::Scalar>>(
     to: Point2<V::Scalar>,
     vertex: FixedVertexHandle,
 ) -> Option<FixedIntersection>
-    requires ends { AreEnds V.Scalar.whole P.covered placed.now.tests from to }
-    requires at { IsAtItem V.place V.Scalar.whole placed.now from to (Vertex vertex) }
+    requires { IsAtItem V.place V.Scalar.whole placed.now from to P.covered (Vertex vertex) }
     ensures { GoesOnTo V.place V.Scalar.whole placed.now from to (Vertex vertex) result }
 {
     let start = position_of(placed.dcel, vertex);

@@ -29,7 +29,7 @@ exit g c =
 
 pub returns-then-is_outer_edge : goal.returns-then-is_outer_edge
 returns-then-is_outer_edge g c =
-    let at = rw (← c.placed.view_is) at c.requires.at in
+    let at = rw (← c.placed.view_is) at c.requires in
     let here = c.directed_edge-here.ensures in
     let outer = rw (here.dcel, here.index) at c.is_outer_edge.ensures in
     rw (← c.placed.view_is) (last_at_edge c.placed.invariant c.requires.ends.apart c.args.edge at.within at.met
@@ -37,7 +37,7 @@ returns-then-is_outer_edge g c =
 
 pub returns-then-is_on_line : goal.returns-then-is_on_line
 returns-then-is_on_line g c =
-    let at = rw (← c.placed.view_is) at c.requires.at in
+    let at = rw (← c.placed.view_is) at c.requires in
     let on = rw (c.side_along-end.ensures, ← c.placed.view_is) at c.is_on_line.ensures in
     rw (← c.placed.view_is) (last_at_edge c.placed.invariant c.requires.ends.apart c.args.edge at.within at.met
     (inl (on.0 c.if-is_on_line.true)))
@@ -49,7 +49,7 @@ side-side-requires-clause-point_covered g c =
 
 pub returns-then-is_on_left_side : goal.returns-then-is_on_left_side
 returns-then-is_on_left_side g c =
-    let at = rw (← c.placed.view_is) at c.requires.at in
+    let at = rw (← c.placed.view_is) at c.requires in
     let here = c.directed_edge-here.ensures in
     let outer = rw (here.dcel, here.index) at c.is_outer_edge.ensures in
     let corner = rw (here.dcel, here.index) at
@@ -63,7 +63,7 @@ returns-then-is_on_left_side g c =
 
 pub returns-then-is_on_line-2 : goal.returns-then-is_on_line-2
 returns-then-is_on_line-2 g c =
-    let at = rw (← c.placed.view_is) at c.requires.at in
+    let at = rw (← c.placed.view_is) at c.requires in
     let here = c.directed_edge-here.ensures in
     let outer = rw (here.dcel, here.index) at c.is_outer_edge.ensures in
     let corner = rw (here.dcel, here.index) at
@@ -78,7 +78,7 @@ returns-then-is_on_line-2 g c =
 
 pub returns : goal.returns
 returns g c =
-    let at = rw (← c.placed.view_is) at c.requires.at in
+    let at = rw (← c.placed.view_is) at c.requires in
     let here = c.directed_edge-here.ensures in
     let outer = rw (here.dcel, here.index) at c.is_outer_edge.ensures in
     let corner = rw (here.dcel, here.index) at

@@ -27,7 +27,7 @@ ends g c =
 
 pub returns-then-is_same_point : goal.returns-then-is_same_point
 returns-then-is_same_point g c =
-    let here = rw (← c.placed.view_is) at c.requires.at in
+    let here = rw (← c.placed.view_is) at c.requires in
     let e = ends g (goal.at.returns-then-is_same_point g c).After-position_of-end in
     rw (← c.placed.view_is) (end_of_overlap c.placed.invariant c.requires.ends.apart c.args.edge
     here.met here.within e.1 (ends_not_within c.placed.invariant c.args.edge here.within e.0 e.2
@@ -35,7 +35,7 @@ returns-then-is_same_point g c =
 
 pub returns-then-is_same_point-2 : goal.returns-then-is_same_point-2
 returns-then-is_same_point-2 g c =
-    let here = rw (← c.placed.view_is) at c.requires.at in
+    let here = rw (← c.placed.view_is) at c.requires in
     let e = ends g (goal.at.returns-then-is_same_point-2 g c).After-position_of-end in
     rw (← c.placed.view_is) (end_of_overlap c.placed.invariant c.requires.ends.apart c.args.edge
     here.met here.within e.1 (ends_not_within c.placed.invariant c.args.edge here.within e.0 e.2
@@ -45,7 +45,7 @@ pub is_strictly_within-requires : goal.is_strictly_within-requires
 is_strictly_within-requires g c =
     let covers = g.met.P.PlaneTests.sites_are_covered c.placed.inside.tests.now in
     let sites = c.placed.invariant.sites in
-    let here = rw (← c.placed.view_is) at c.requires.at in
+    let here = rw (← c.placed.view_is) at c.requires in
     let e = ends g (goal.at.is_strictly_within-requires g c).After-position_of-end in
     record {
       from_covered = covered_in _ _ covers _ _ sites c.position_of-start.ensures.listed;
@@ -58,7 +58,7 @@ is_strictly_within-requires g c =
 
 pub returns-then-is_strictly_within : goal.returns-then-is_strictly_within
 returns-then-is_strictly_within g c =
-    let here = rw (← c.placed.view_is) at c.requires.at in
+    let here = rw (← c.placed.view_is) at c.requires in
     let e = ends g (goal.at.returns-then-is_strictly_within g c).After-position_of-end in
     let within = at_ends WithinSegment e.0 e.2 c.is_strictly_within.ensures in
     rw (← c.placed.view_is) (last_within_overlap c.placed.invariant c.requires.ends.apart
@@ -66,7 +66,7 @@ returns-then-is_strictly_within g c =
 
 pub returns : goal.returns
 returns g c =
-    let here = rw (← c.placed.view_is) at c.requires.at in
+    let here = rw (← c.placed.view_is) at c.requires in
     let e = ends g (goal.at.returns g c).After-position_of-end in
     let within = at_ends WithinSegment e.0 e.2 c.is_strictly_within.ensures in
     rw (← c.placed.view_is) (end_of_overlap c.placed.invariant c.requires.ends.apart c.args.edge

@@ -23,7 +23,7 @@ spoke g c =
 
 pub returns-then-is_same_point : goal.returns-then-is_same_point
 returns-then-is_same_point g c =
-    let at = rw (← c.placed.view_is) at c.requires.at in
+    let at = rw (← c.placed.view_is) at c.requires in
     let ends = rw c.position_of-start.ensures.place at c.is_same_point.ensures in
     rw (← c.placed.view_is) (last_at_end c.placed.invariant c.requires.ends.apart c.args.vertex
     at.met (ends.0 c.if-is_same_point.true))
@@ -64,7 +64,7 @@ is_in_cone-requires-clause-within g c = rw (← c.placed.view_is)
 pub returns-then-is_ahead : goal.returns-then-is_ahead
 returns-then-is_ahead g c =
     let spoke = spoke g (goal.at.returns-then-is_ahead g c).After-fix-edge in
-    let at = rw (← c.placed.view_is) at c.requires.at in
+    let at = rw (← c.placed.view_is) at c.requires in
     let ends = rw c.position_of-start.ensures.place at c.is_same_point.ensures in
     let here = c.directed_edge-here.ensures in
     let end = rw (here.dcel, here.index) at (c.fix.ensures.value ∙ c.to.ensures.index) in
@@ -76,7 +76,7 @@ returns-then-is_ahead g c =
 pub returns-then-is_on_left_side : goal.returns-then-is_on_left_side
 returns-then-is_on_left_side g c =
     let spoke = spoke g (goal.at.returns-then-is_on_left_side g c).After-fix-edge in
-    let at = rw (← c.placed.view_is) at c.requires.at in
+    let at = rw (← c.placed.view_is) at c.requires in
     let ends = rw c.position_of-start.ensures.place at c.is_same_point.ensures in
     let cone = rw (← c.placed.view_is) at c.is_in_cone.ensures in
     let here = c.directed_edge-here.ensures in
@@ -90,7 +90,7 @@ returns-then-is_on_left_side g c =
 pub returns-then-is_in_cone : goal.returns-then-is_in_cone
 returns-then-is_in_cone g c =
     let spoke = spoke g (goal.at.returns-then-is_in_cone g c).After-fix-edge in
-    let at = rw (← c.placed.view_is) at c.requires.at in
+    let at = rw (← c.placed.view_is) at c.requires in
     let ends = rw c.position_of-start.ensures.place at c.is_same_point.ensures in
     let cone = rw (← c.placed.view_is) at c.is_in_cone.ensures in
     let here = c.directed_edge-here.ensures in
@@ -116,7 +116,7 @@ loop-edge-preserved g c =
 
 pub returns : goal.returns
 returns g c =
-    let at = rw (← c.placed.view_is) at c.requires.at in
+    let at = rw (← c.placed.view_is) at c.requires in
     let round = rw (← c.placed.view_is) at c.loop-edge.invariant in
     let ends = rw c.position_of-start.ensures.place at c.is_same_point.ensures in
     rw (← c.placed.view_is) (last_if_none_leads c.placed.invariant c.requires.ends.apart

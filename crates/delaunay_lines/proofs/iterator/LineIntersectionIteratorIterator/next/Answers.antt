@@ -15,18 +15,18 @@ use Rattle.delaunay_lines.proofs.iterator.LineIntersectionIteratorIterator.next.
 }
 use Rattle.delaunay_lines.proofs.iterator.LineIntersectionIteratorIterator.next.Goals as goal
 
-pub after_crossing-next-requires-clause-at : goal.after_crossing-next-requires-clause-at
-after_crossing-next-requires-clause-at g c =
+pub after_crossing-next-requires : goal.after_crossing-next-requires
+after_crossing-next-requires g c =
     at_item c.requires (rw c.in-Edge.is at c.in_ok-item.was)
     (unless c.is_same_point.ensures c.if-is_same_point.false)
 
-pub after_vertex-next-requires-clause-at : goal.after_vertex-next-requires-clause-at
-after_vertex-next-requires-clause-at g c =
+pub after_vertex-next-requires : goal.after_vertex-next-requires
+after_vertex-next-requires g c =
     at_item c.requires (rw c.in-Vertex.is at c.in_ok-item.was)
     (unless c.is_same_point.ensures c.if-is_same_point.false)
 
-pub after_overlap-next-requires-clause-at : goal.after_overlap-next-requires-clause-at
-after_overlap-next-requires-clause-at g c =
+pub after_overlap-next-requires : goal.after_overlap-next-requires
+after_overlap-next-requires g c =
     at_item c.requires (rw c.in-Overlap.is at c.in_ok-item.was)
     (unless c.is_same_point.ensures c.if-is_same_point.false)
 
