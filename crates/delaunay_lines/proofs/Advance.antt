@@ -177,7 +177,8 @@ module _ {V D U F P : Type 0} {at : V → Point} {IsSite : P → Point → Type 
   }
 
   -- where p is a vertex, the walk starts at it
-  pub starts_at_vertex : {p q : Point} (v : ℕ) → v < length c.vertices → p ≡ point_at (map at c.vertices) v →
+  pub starts_at_vertex : {p q : Point} (v : ℕ) → v < length c.vertices
+      → p ≡ point_at (map at c.vertices) v →
       Starts at c p q (Some (Vertex v))
   starts_at_vertex {p = p} {q = q} v here is = starts_with (Vertex v) here
       (begins_at_vertex (drawn (map at c.vertices) c.mesh) p q (laid placed)

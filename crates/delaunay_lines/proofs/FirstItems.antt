@@ -75,7 +75,8 @@ module _ {V D U F P : Type 0} {at : V → Point} {IsSite : P → Point → Type 
 
   -- equal ends are at the same place
   pub same_ends : {p q : Point} → p ≡ q → IsSame (whole p) (whole q)
-  same_ends {p = p} {q = q} e = subst (λ (z : Point). IsSame (whole p) (whole z)) e (same-refl (whole p))
+  same_ends {p = p} {q = q} e =
+      subst (λ (z : Point). IsSame (whole p) (whole z)) e (same-refl (whole p))
 
   -- ---- strictly within an edge
   module _ {p q : Point} (h : ℕ) (within : h < length c.directed)

@@ -74,9 +74,10 @@ module _ {V D U F P : Type 0} {at : V → Point} {IsSite : P → Point → Type 
   t = drawn points m
 
   -- p has one location
-  one : (p : Point) (a b : Location) → IsLocation t (whole p) a → IsLocation t (whole p) b → IsSameLocation a b
-  one p = (each_point_has_one_location points (faces_of m) (outer_of m) (edges_of m) placed.kept.shape
-      (own_edges m placed.kept.valid) (whole p)).1
+  one : (p : Point) (a b : Location) → IsLocation t (whole p) a → IsLocation t (whole p) b
+      → IsSameLocation a b
+  one p = (each_point_has_one_location points (faces_of m) (outer_of m) (edges_of m)
+      placed.kept.shape (own_edges m placed.kept.valid) (whole p)).1
 
   -- located on a vertex, p is where this vertex is
   pub on_that_vertex : {p : Point} (v : ℕ) → Locates points m p (OnVertex v)
@@ -104,12 +105,13 @@ module _ {V D U F P : Type 0} {at : V → Point} {IsSite : P → Point → Type 
             (placed.kept.valid.sound.edges (face_edge m f) r.0).starts l.location.1;
       }
 
-  no_vertex_there : (p : Point) (l : Location) → IsBare l → IsLocation t (whole p) l → (k : ℕ) → IsVertex t k →
-      ¬ IsSame (whole p) (vertex t k)
+  no_vertex_there : (p : Point) (l : Location) → IsBare l → IsLocation t (whole p) l → (k : ℕ)
+      → IsVertex t k → ¬ IsSame (whole p) (vertex t k)
   no_vertex_there p (on_vertex i) away is k h s = away
   no_vertex_there p (on_edge i j) away is k h s = away
   no_vertex_there p (on_face i j n) away is k h s = away
-  no_vertex_there p (outside_hull i j) away is k h s = one p (outside_hull i j) (on_vertex k) is (h, s)
+  no_vertex_there p (outside_hull i j) away is k h s =
+      one p (outside_hull i j) (on_vertex k) is (h, s)
   no_vertex_there p no_triangulation away is k h s = one p no_triangulation (on_vertex k) is (h, s)
 
   start_of_edge : (i j : ℕ) → IsEdge t i j → IsVertex t i
@@ -117,8 +119,8 @@ module _ {V D U F P : Type 0} {at : V → Point} {IsSite : P → Point → Type 
       let h = joins_edge m placed.kept.valid.sound i j e in
       subst (λ (k : ℕ). k < length points) h.2 (start_in placed h.0 h.1)
 
-  no_edge_there : (p : Point) (l : Location) → IsBare l → IsLocation t (whole p) l → (i j : ℕ) → IsEdge t i j →
-      ¬ OnSegment (vertex t i) (vertex t j) (whole p)
+  no_edge_there : (p : Point) (l : Location) → IsBare l → IsLocation t (whole p) l → (i j : ℕ)
+      → IsEdge t i j → ¬ OnSegment (vertex t i) (vertex t j) (whole p)
   no_edge_there p l away is i j e o =
       elim (on_parts (vertex t i) (vertex t j) (whole p) o) as (λ _. ⊥) [
         | inl s ↦ no_vertex_there p l away is i (start_of_edge i j e) s
@@ -165,8 +167,10 @@ module _ {V D U F P : Type 0} {at : V → Point} {IsSite : P → Point → Type 
   }
 
   -- located outside the hull, p is where a segment starts outside
-  pub outside_that_edge : {p : Point} (e : ℕ) → Locates points m p (OutsideOfConvexHull e) → StartsOutside t p
-  outside_that_edge {p = p} e l = outside p (outside_hull (origin m e) (origin m (rev e))) tt l.location
+  pub outside_that_edge : {p : Point} (e : ℕ) → Locates points m p (OutsideOfConvexHull e)
+      → StartsOutside t p
+  outside_that_edge {p = p} e l =
+      outside p (outside_hull (origin m e) (origin m (rev e))) tt l.location
 
   -- so it is where there is no triangulation
   pub without_triangulation : {p : Point} → Locates points m p NoTriangulation → StartsOutside t p

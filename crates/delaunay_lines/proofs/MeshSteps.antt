@@ -100,7 +100,8 @@ module _ {V D U F P : Type 0} {at : V → Point} {IsSite : P → Point → Type 
 
   -- the faces tile the hull, or all vertices are on one line
   pub laid : IsLaid t
-  laid = meshes_are_laid points (faces_of m) (outer_of m) (edges_of m) placed.kept.shape (own_edges m s)
+  laid = meshes_are_laid points (faces_of m) (outer_of m) (edges_of m) placed.kept.shape
+      (own_edges m s)
 
   -- each directed edge with data is one of the mesh
   pub in_mesh : (h : ℕ) → h < length c.directed → h < length m.half_edges
@@ -168,7 +169,8 @@ module _ {V D U F P : Type 0} {at : V → Point} {IsSite : P → Point → Type 
 
       distinct : place points (origin m h) ≢ place points (origin m (rev h))
       distinct =
-          elim placed.kept.shape as (λ _. place points (origin m h) ≢ place points (origin m (rev h))) [
+          elim placed.kept.shape as
+          (λ _. place points (origin m h) ≢ place points (origin m (rev h))) [
             | inl l ↦ l.distinct (origin m h) (origin m (rev h)) (start_in h w)
                 (start_in (rev h) (rev_within h (length m.half_edges) s.sound.even w)) (s.apart h w)
             | inr l ↦ l.1.distinct (origin m h) (origin m (rev h)) (start_in h w)
@@ -518,7 +520,8 @@ module _ {V D U F P : Type 0} {at : V → Point} {IsSite : P → Point → Type 
       differs_there = subst (λ (k : ℕ). point_at points k ≢ q) (sym starts) differs
 
       -- where q is ahead along the edge
-      pub overlap_comes : IsEdgeAhead points m q h → IsNext at c p q (at_vertex v) (Some (Overlap h))
+      pub overlap_comes : IsEdgeAhead points m q h
+          → IsNext at c p q (at_vertex v) (Some (Overlap h))
       overlap_comes x = (
         within,
         subst (λ (k : ℕ). Next (at_vertex k) (overlapped h)) starts

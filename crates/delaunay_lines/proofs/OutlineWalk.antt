@@ -580,7 +580,8 @@ module _ {V D U F P : Type 0} {at : V → Point} {IsSite : P → Point → Type 
       -- the start of the edge
       pub start_met : side (whole p) (whole q) X ≡ on → side (whole p) (whole q) Y ≡ left
           → Starts at c p q (Some (Vertex (origin m h)))
-      start_met e l = starts_first placed apart (Vertex (origin m h)) (start_known placed h s.within)
+      start_met e l = starts_first placed apart (Vertex (origin m h))
+          (start_known placed h s.within)
           (start_first t t_laid (whole p) (whole q) ways_apart (origin m h) (origin m (rev h))
           outer seen not_above (start_in placed h w)
           (none_if_on (whole p) (whole q) X e)

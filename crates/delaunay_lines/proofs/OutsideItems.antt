@@ -139,7 +139,8 @@ pub none_entered : {V D U F C P : Type 0} {at : V → Point} {IsSite : P → Poi
     → (h : ℕ) → h < length c.directed → ¬ IsEntered (map at c.vertices) c.mesh p q h
 none_entered {c = c} p q {given = given} placed going none h within entered =
     along_ends c.mesh _ given going none (rev h) (
-      rev_within h (length c.mesh.half_edges) placed.kept.valid.sound.even (in_mesh placed h within),
+      rev_within h (length c.mesh.half_edges) placed.kept.valid.sound.even
+          (in_mesh placed h within),
       entered.0,
     ) (rw (rev-rev h) entered.1)
 

@@ -1,6 +1,6 @@
 -- One call of the iterator along a segment.
--- Notions: IsAfterItem, IsItemIn; alone_after, apart_after, edge_found, vertex_found, overlap_found,
--- at_item, counts_more, gives_some, ready_after.
+-- Notions: IsAfterItem, IsItemIn; alone_after, apart_after, edge_found, vertex_found,
+-- overlap_found, at_item, counts_more, gives_some, ready_after.
 use Rattle.std.proofs.Common.{◌≡◌, ◌≢◌, ◌-◌, ◌≤◌, ◌∷◌, ◌∙◌}
 use Rattle.std.proofs.Common.{ℕ, List, Option, Some, None, refl, sym, ap, subst}
 use Rattle.std.specs.Borrow.{Bor}
@@ -103,7 +103,8 @@ module _ {V D U F P S : Type 0} {at : V → Point} {number : S → ℤ}
 
     others : (items : List Item) → AreLeft at number it items → (others : List Item)
         × (items ≡ item_of it.dcel.now.mesh i ∷ others) × AreLeft at number after others
-    others items left = further ready.over.placed p q i items (from_here items left) r goes.alone goes.next
+    others items left = further ready.over.placed p q i items (from_here items left) r
+        goes.alone goes.next
 
     -- an answer with the current item of the same mesh gives what is next
     pub gives_some : {x : Intersection V D U F} → IsItemIn it.dcel i x

@@ -22,8 +22,8 @@ returns-in-OnEdge g c =
 
 pub returns-in_default : goal.returns-in_default
 returns-in_default g c =
-    rw (← c.placed.view_is) (alone_elsewhere c.placed.invariant _ (rw (← c.placed.view_is) at c.requires.start)
-    c.in_default.not-OnVertex c.in_default.not-OnEdge
+    rw (← c.placed.view_is) (alone_elsewhere c.placed.invariant _
+    (rw (← c.placed.view_is) at c.requires.start) c.in_default.not-OnVertex c.in_default.not-OnEdge
     (c.is_same_point.ensures.0 c.if-is_same_point.true))
 
 pub returns-in-OnVertex-start : goal.returns-in-OnVertex-start
@@ -50,8 +50,8 @@ first_in_face-requires-clause-start g c =
 
 pub first_along-requires-clause-start : goal.first_along-requires-clause-start
 first_along-requires-clause-start g c =
-    outside_that_edge (placed_value c.placed.view_is c.placed.invariant) c.in-OutsideOfConvexHull.edge
-    (rw c.in-OutsideOfConvexHull.is at c.requires.start)
+    outside_that_edge (placed_value c.placed.view_is c.placed.invariant)
+    c.in-OutsideOfConvexHull.edge (rw c.in-OutsideOfConvexHull.is at c.requires.start)
 
 pub first_along-requires-clause-seen : goal.first_along-requires-clause-seen
 first_along-requires-clause-seen g c =
@@ -60,8 +60,8 @@ first_along-requires-clause-seen g c =
 
 pub first_past-requires-clause-start : goal.first_past-requires-clause-start
 first_past-requires-clause-start g c =
-    outside_that_edge (placed_value c.placed.view_is c.placed.invariant) c.in-OutsideOfConvexHull.edge
-    (rw c.in-OutsideOfConvexHull.is at c.requires.start)
+    outside_that_edge (placed_value c.placed.view_is c.placed.invariant)
+    c.in-OutsideOfConvexHull.edge (rw c.in-OutsideOfConvexHull.is at c.requires.start)
 
 pub first_past-requires-clause-past : goal.first_past-requires-clause-past
 first_past-requires-clause-past g c =

@@ -32,15 +32,15 @@ returns-then-is_outer_edge g c =
     let at = rw (← c.placed.view_is) at c.requires in
     let here = c.directed_edge-here.ensures in
     let outer = rw (here.dcel, here.index) at c.is_outer_edge.ensures in
-    rw (← c.placed.view_is) (last_at_edge c.placed.invariant c.requires.ends.apart c.args.edge at.within at.met
-    (inr (outer.0 c.if-is_outer_edge.true)))
+    rw (← c.placed.view_is) (last_at_edge c.placed.invariant c.requires.ends.apart c.args.edge
+    at.within at.met (inr (outer.0 c.if-is_outer_edge.true)))
 
 pub returns-then-is_on_line : goal.returns-then-is_on_line
 returns-then-is_on_line g c =
     let at = rw (← c.placed.view_is) at c.requires in
     let on = rw (c.side_along-end.ensures, ← c.placed.view_is) at c.is_on_line.ensures in
-    rw (← c.placed.view_is) (last_at_edge c.placed.invariant c.requires.ends.apart c.args.edge at.within at.met
-    (inl (on.0 c.if-is_on_line.true)))
+    rw (← c.placed.view_is) (last_at_edge c.placed.invariant c.requires.ends.apart c.args.edge
+    at.within at.met (inl (on.0 c.if-is_on_line.true)))
 
 pub side-side-requires-clause-point_covered : goal.side-side-requires-clause-point_covered
 side-side-requires-clause-point_covered g c =
@@ -55,8 +55,8 @@ returns-then-is_on_left_side g c =
     let corner = rw (here.dcel, here.index) at
     (c.fix-corner.ensures.value ∙ c.prev_from.ensures.index) in
     let left = rw (c.side_along.ensures, ← c.placed.view_is) at c.is_on_left_side.ensures in
-    rw (← c.placed.view_is) (ends_inside c.placed.invariant c.requires.ends.apart c.args.edge at.within at.met
-    (positive _ (unless outer c.if-is_outer_edge.false))
+    rw (← c.placed.view_is) (ends_inside c.placed.invariant c.requires.ends.apart c.args.edge
+    at.within at.met (positive _ (unless outer c.if-is_outer_edge.false))
     (side_at _ _ c.side-side.ensures (rw corner at c.position_of-opposite.ensures.place))
     (exit g (goal.at.returns-then-is_on_left_side g c).After-side_along)
     (left.0 c.if-is_on_left_side.true))
@@ -69,8 +69,8 @@ returns-then-is_on_line-2 g c =
     let corner = rw (here.dcel, here.index) at
     (c.fix-corner.ensures.value ∙ c.prev_from.ensures.index) in
     let left = rw (c.side_along.ensures, ← c.placed.view_is) at c.is_on_left_side.ensures in
-    rw (← c.placed.view_is) (at_corner c.placed.invariant c.requires.ends.apart c.args.edge at.within at.met
-    (positive _ (unless outer c.if-is_outer_edge.false))
+    rw (← c.placed.view_is) (at_corner c.placed.invariant c.requires.ends.apart c.args.edge
+    at.within at.met (positive _ (unless outer c.if-is_outer_edge.false))
     (side_at _ _ c.side-side.ensures (rw corner at c.position_of-opposite.ensures.place))
     (exit g (goal.at.returns-then-is_on_line-2 g c).After-side_along)
     (unless left c.if-is_on_left_side.false) corner
@@ -84,8 +84,9 @@ returns g c =
     let corner = rw (here.dcel, here.index) at
     (c.fix-corner.ensures.value ∙ c.prev_from.ensures.index) in
     let left = rw (c.side_along.ensures, ← c.placed.view_is) at c.is_on_left_side.ensures in
-    rw (c.rev.ensures, ← c.placed.view_is) (through_exit c.placed.invariant c.requires.ends.apart c.args.edge
-    at.within at.met (positive _ (unless outer c.if-is_outer_edge.false))
+    rw (c.rev.ensures, ← c.placed.view_is) (through_exit c.placed.invariant
+    c.requires.ends.apart c.args.edge at.within at.met
+    (positive _ (unless outer c.if-is_outer_edge.false))
     (side_at _ _ c.side-side.ensures (rw corner at c.position_of-opposite.ensures.place))
     (exit g (goal.at.returns g c).After-side_along)
     (unless left c.if-is_on_left_side.false)

@@ -23,7 +23,8 @@ ends g c =
     let here = c.directed_edge-here.ensures in
     let start = rw (here.dcel, here.index) at (c.fix.ensures.value ∙ c.from.ensures.index) in
     let vertex = rw (here.dcel, here.index) at (c.fix-vertex.ensures.value ∙ c.to.ensures.index) in
-    (rw start at c.position_of-start.ensures.place, vertex, rw vertex at c.position_of-end.ensures.place)
+    let end = rw vertex at c.position_of-end.ensures.place in
+    (rw start at c.position_of-start.ensures.place, vertex, end)
 
 pub returns-then-is_same_point : goal.returns-then-is_same_point
 returns-then-is_same_point g c =

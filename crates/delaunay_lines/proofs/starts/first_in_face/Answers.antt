@@ -22,8 +22,9 @@ returns-then-is_on_line g c =
     let on = rw (← c.placed.view_is) at (rw (side_at _ _ c.side.ensures c.start_of.ensures.place) at
     c.is_on_line.ensures) in
     rw (c.fix.ensures.value, c.from.ensures.index, here.dcel, here.index, ← c.placed.view_is)
-    (through_start c.placed.invariant c.edge_over-exit.result exit.within exit.start c.requires.ends.apart
-    exit.over (unless left c.if-is_on_left_side.false) (on.0 c.if-is_on_line.true))
+    (through_start c.placed.invariant c.edge_over-exit.result exit.within exit.start
+    c.requires.ends.apart exit.over (unless left c.if-is_on_left_side.false)
+    (on.0 c.if-is_on_line.true))
 
 pub returns : goal.returns
 returns g c =

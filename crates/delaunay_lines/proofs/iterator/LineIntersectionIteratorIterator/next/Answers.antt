@@ -66,5 +66,9 @@ returns g c =
     let more = counts_more c.requires c.in_ok-item.was in
     record {
       steps = gives_some c.requires c.in_ok-item.was after (rw same at found);
-      goes = record { on = λ f. (ready, f, omega (arith, more)); keeps = ready; rests = λ f. search rules };
+      goes = record {
+        on = λ f. (ready, f, omega (arith, more));
+        keeps = ready;
+        rests = λ f. search rules;
+      };
     }
