@@ -4,4 +4,5 @@ use Rattle.delaunay_lines.proofs.outside.first_along.Given as goal
 
 abbrev pub invariant-loop : goal.invariant-loop
 invariant-loop g l =
-    IsSeenOuter g.V.HasPosition.place l.placed.dcel (place_of g.V.Scalar.SpadeNum.whole l.from) l.here
+    IsSeenOuter g.V.HasPosition.place l.placed.dcel (place_of g.V.Scalar.SpadeNum.whole l.from)
+    l.here

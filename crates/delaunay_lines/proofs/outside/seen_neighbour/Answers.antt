@@ -19,8 +19,8 @@ returns-then-is_on_right_side g c =
     let here = c.directed_edge-here.ensures in
     let after = rw (here.dcel, here.index) at (c.fix.ensures.value ∙ c.next.ensures.index) in
     let next = rw (← c.placed.view_is) at c.if_seen.ensures in
-    let right = rw (← c.placed.view_is) at (rw (side_at _ _ c.side-end.ensures c.end_of.ensures.place) at
-    c.is_on_right_side.ensures) in
+    let end = side_at _ _ c.side-end.ensures c.end_of.ensures.place in
+    let right = rw (← c.placed.view_is) at (rw end at c.is_on_right_side.ensures) in
     record {
       some = rw (← c.placed.view_is) (neighbour_after c.placed.invariant _ c.args.edge seen.within
           seen.outer _ _ after next);
@@ -35,8 +35,8 @@ returns-then-is_on_left_side g c =
     let before = rw (here.dcel, here.index) at
     (c.fix-then-is_on_left_side.ensures.value ∙ c.prev.ensures.index) in
     let next = rw (← c.placed.view_is) at c.if_seen-then-is_on_left_side.ensures in
-    let right = rw (← c.placed.view_is) at (rw (side_at _ _ c.side-end.ensures c.end_of.ensures.place) at
-    c.is_on_right_side.ensures) in
+    let end = side_at _ _ c.side-end.ensures c.end_of.ensures.place in
+    let right = rw (← c.placed.view_is) at (rw end at c.is_on_right_side.ensures) in
     record {
       some = rw (← c.placed.view_is) (neighbour_before c.placed.invariant _ c.args.edge seen.within
           seen.outer _ _ before next);
