@@ -1,7 +1,7 @@
 -- The positions that a hint generator holds stay positions of vertices.
 -- Lemmas: held_are_sites, was_listed, stay_listed, new_is_listed, others_are_listed,
 -- held_overwritten, held_after_insertion, removed_is_site, swapped_is_site, held_after_removal.
-use Rattle.std.proofs.Common.{◌≡◌, ◌∙◌, ◌⊎◌, ◌+◌, ◌-◌, ◌<◌, [], ◌∷◌}
+use Rattle.std.proofs.Common.{◌≡◌, ◌∙◌, ◌+◌, ◌-◌, ◌<◌, [], ◌∷◌}
 use Rattle.std.proofs.Common.{ℕ, List, length, map, get_or, Some, sym, ap, subst, inl, inr, arith}
 use mathlib.Core.Logic.{⊎_elim}
 use Rattle.std.proofs.lemmas.Bool.{cases_eq}

@@ -82,7 +82,7 @@ insert_at-more-requires-clause-can g c =
       in_range = in_range;
       apart = apart_elsewhere g.V.HasPosition.place (state_of c.self.inside.dcel) legal.kept _ _
           here c.in_default.not-OnVertex;
-      location = here;
+      located = here;
       free = λ none. none_counted _ _ _ _ c.self.invariant.0 (eqb-true _ _ none);
     })
 
