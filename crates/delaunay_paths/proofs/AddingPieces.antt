@@ -1,7 +1,7 @@
 -- Pieces of a path that become edges and constraints, one after another.
 -- Notions: AddsPiece, LeavesPiece, IsAddingTo, IsAddingPieces; half_ends, piece_whole, piece_added,
--- adding_to_begins, adding_starts, piece_made, same, adding_sites, adding_shape, adding_between,
--- adding_piece, adding_to_goes_on, adding_shortens, adding_to_ends, adding_room, adding_work,
+-- adding_to_begins, adding_starts, piece_made, same, adding_sites, adding_between, adding_piece,
+-- adding_to_goes_on, adding_shortens, adding_to_ends, adding_room, adding_work,
 -- adding_goes_on_by, cleared_work.
 use Rattle.std.proofs.Common.{◌≡◌, ◌≢◌, ◌⊎◌, ◌↔◌, ◌*◌, ◌/◌, ◌%◌, ◌<◌, ◌≤◌, [], ◌∙◌}
 use Rattle.std.proofs.Common.{ℕ, List, length, map, set, refl, sym, ap, subst, inl, inr, arith}
@@ -226,8 +226,7 @@ module _ {U : Type 0} (marks : U → Bool) (constraints : List U → List ℕ)
     pub contents : now ≡ record old { mesh = now.mesh; undirected = now.undirected }
     pub count : length now.undirected ≡ length old.undirected
     pub marks_some : MarksSome marks marked_as old.undirected now.undirected
-    pub whole : IsMeshWithData now
-    pub shape : IsMesh (map at old.vertices) (faces_of now.mesh) (outer_of now.mesh)
+    pub kept : IsTriangulated at (state_of now)
     pub path : IsAddingPath (map at old.vertices) (constraints_by constraints (state_of old))
         (constraints_by constraints (state_of now)) i j w
     pub edges_kept : KeepsUncrossed (map at old.vertices) old.mesh now.mesh i j
@@ -242,8 +241,7 @@ module _ {U : Type 0} (marks : U → Bool) (constraints : List U → List ℕ)
     contents = refl;
     count = refl;
     marks_some = marks_none marks marked_as old.undirected;
-    whole = record { valid = kept.valid; fits = kept.fits };
-    shape = kept.shape;
+    kept = kept;
     path = adding_begins (map at old.vertices) (constraints_by constraints (state_of old)) i j
         (in_map at old.vertices i way.from);
     edges_kept = λ h clear. (refl, refl);
@@ -334,18 +332,13 @@ module _ {U V D F : Type 0} {marks : U → Bool} {constraints : List U → List 
       → All IsSite (map at now.vertices)
   adding_sites IsSite sites = subst (λ (vs : List V). All IsSite (map at vs)) (sym same) sites
 
-  -- the mesh is one of all vertices
-  pub adding_shape : IsMesh (map at now.vertices) (faces_of now.mesh) (outer_of now.mesh)
-  adding_shape =
-      subst (λ (vs : List V). IsMesh (map at vs) (faces_of now.mesh) (outer_of now.mesh))
-      (sym same) p.shape
-
   -- the vertex that was reached and the end are vertices
   pub adding_between : (w < length now.vertices) × (j < length now.vertices)
   adding_between = rw same (of_map at old.vertices w p.path.within, p.way.to)
 
   distinct : ArePlacedApart points
-  distinct = placed_apart points (faces_of now.mesh) (outer_of now.mesh) p.shape
+  distinct = subst (λ (vs : List V). ArePlacedApart (map at vs)) same
+      (placed_apart (map at now.vertices) (faces_of now.mesh) (outer_of now.mesh) p.kept.shape)
 
   -- a and b are two vertices
   abbrev AreTwo : ℕ → ℕ → Type 0
@@ -358,36 +351,36 @@ module _ {U V D F : Type 0} {marks : U → Bool} {constraints : List U → List 
     there a (subst (λ (k : ℕ). k < length now.mesh.out_edges) starts edge.origin_in),
     (
       there b (subst (λ (k : ℕ). k < length now.mesh.out_edges) ends twin.origin_in),
-      (λ is. p.whole.valid.apart h within (starts ∙ is ∙ sym ends)),
+      (λ is. p.kept.valid.apart h within (starts ∙ is ∙ sym ends)),
     ),
   )
     where
       edge : IsSoundEdge now.mesh h
-      edge = p.whole.valid.sound.edges h within
+      edge = p.kept.valid.sound.edges h within
 
       twin : IsSoundEdge now.mesh (rev h)
-      twin = p.whole.valid.sound.edges (rev h)
-          (rev_within h (length now.mesh.half_edges) p.whole.valid.sound.even within)
+      twin = p.kept.valid.sound.edges (rev h)
+          (rev_within h (length now.mesh.half_edges) p.kept.valid.sound.even within)
 
       there : (k : ℕ) → k < length now.mesh.out_edges → IsIndex points k
       there k l = in_map at old.vertices k (subst (λ (vs : List V). k < length vs) same
-          (subst (λ (n : ℕ). k < n) (sym p.whole.fits.vertices_fit) l))
+          (subst (λ (n : ℕ). k < n) (sym p.kept.fits.vertices_fit) l))
 
   -- the ends of a constraint are two vertices
   constraint_ends : (a b : ℕ) → Joins (constraints_by constraints (state_of now)) a b
       → AreTwo a b
   constraint_ends a b joined =
-      let h = E.joins_edge now.mesh p.whole.valid.sound a b
+      let h = E.joins_edge now.mesh p.kept.valid.sound a b
       (constraints_are_edges marks constraints marked now.mesh now.undirected
-      p.whole.fits.undirected_fit p.whole.valid a b joined) in
+      p.kept.fits.undirected_fit p.kept.valid a b joined) in
       edge_ends h.0 a b h.1 h.2 h.3
 
   -- the ends of a side of a face are two vertices
   side_ends : (a b c : ℕ) → IsFaceOf (faces_of now.mesh) a b c → AreTwo a b
   side_ends a b c f =
-      let h = edge_of_face now.mesh p.whole.valid.sound a b c f in
+      let h = edge_of_face now.mesh p.kept.valid.sound a b c f in
       edge_ends h.0 a b h.1.inner.0 h.1.first
-      (sym (p.whole.valid.sound.edges h.0 h.1.inner.0).starts ∙ h.1.second)
+      (sym (p.kept.valid.sound.edges h.0 h.1.inner.0).starts ∙ h.1.second)
 
   module _ {v : ℕ} (next : AreNextOn (map at now.vertices) w j w v) where
     next_here : AreNextOn points w j w v
@@ -415,7 +408,7 @@ module _ {U V D F : Type 0} {marks : U → Bool} {constraints : List U → List 
         (whole : IsMeshWithData new) where
       -- the number of edges stays
       same_count : length new.mesh.half_edges ≡ length now.mesh.half_edges
-      same_count = sym whole.fits.directed_fit ∙ ap length directed ∙ p.whole.fits.directed_fit
+      same_count = sym whole.fits.directed_fit ∙ ap length directed ∙ p.kept.fits.directed_fit
 
       -- edges that do not cross the whole segment
       kept_of_whole : KeepsUncrossed points now.mesh new.mesh w v
@@ -423,7 +416,7 @@ module _ {U V D F : Type 0} {marks : U → Bool} {constraints : List U → List 
       kept_of_whole kept h clear = elim (cases_lt h (length now.mesh.half_edges)) [
         | inl within ↦ kept h (clear_of_piece (origin now.mesh h) (origin now.mesh (rev h))
             (edge_ends h (origin now.mesh h) (origin now.mesh (rev h)) within refl refl) clear)
-        | inr past ↦ past_edges_stay now.mesh new.mesh p.whole.valid.sound.even same_count h past
+        | inr past ↦ past_edges_stay now.mesh new.mesh p.kept.valid.sound.even same_count h past
       ]
 
       -- faces with no side that crosses it
@@ -476,9 +469,19 @@ module _ {U V D F : Type 0} {marks : U → Bool} {constraints : List U → List 
       marks_some =
           marks_more marks marked_as has old.undirected now.undirected new.undirected p.marks_some
           piece.adds.marks_some;
-      whole = piece.mesh;
-      shape = subst (λ (vs : List V). IsMesh (map at vs) (faces_of new.mesh) (outer_of new.mesh))
-          same piece.shape;
+      kept = record {
+        in_range = subst (λ (vs : List V). All (λ v. InRange (at v)) vs) (sym vertices)
+            p.kept.in_range;
+        few_edges = rw (piece.adds.count, ap length vertices) p.kept.few_edges;
+        few_faces = rw (
+          ap (λ (c : Contents V D U F). length c.faces) piece.adds.contents,
+          ap length vertices,
+        ) p.kept.few_faces;
+        valid = piece.mesh.valid;
+        fits = piece.mesh.fits;
+        shape = subst (λ (vs : List V). IsMesh (map at vs) (faces_of new.mesh) (outer_of new.mesh))
+            (sym vertices) piece.shape;
+      };
       path = adding_goes_on points distinct (constraints_by constraints (state_of old))
           (constraints_by constraints (state_of now)) i j w (in_map at old.vertices i p.way.from)
           (in_map at old.vertices j p.way.to) p.path v on_way next_here
@@ -492,6 +495,9 @@ module _ {U V D F : Type 0} {marks : U → Bool} {constraints : List U → List 
           KeepsUncrossedFaces (map at vs) now.mesh new.mesh w v) same piece.faces_kept));
     }
       where
+        vertices : new.vertices ≡ now.vertices
+        vertices = ap (λ (c : Contents V D U F). c.vertices) piece.adds.contents
+
         directed : new.directed ≡ now.directed
         directed = ap (λ (c : Contents V D U F). c.directed) piece.adds.contents
 
@@ -502,9 +508,8 @@ module _ {U V D F : Type 0} {marks : U → Bool} {constraints : List U → List 
         (in_map at old.vertices j p.way.to) on_way next_here
 
   -- where j is reached, the path from i to j is added
-  pub adding_to_ends : w ≡ j → IsTriangulated at (state_of old)
-      → AddsPath at marks marked_as constraints old now i j
-  adding_to_ends is kept = record {
+  pub adding_to_ends : w ≡ j → AddsPath at marks marked_as constraints old now i j
+  adding_to_ends is = record {
     contents = p.contents;
     marks_some = p.marks_some;
     plain = adding_adds at (points_and_constraints_by constraints (state_of old))
@@ -513,15 +518,7 @@ module _ {U V D F : Type 0} {marks : U → Bool} {constraints : List U → List 
         (adding_ends points distinct (constraints_by constraints (state_of old))
         (constraints_by constraints (state_of now)) i j w (in_map at old.vertices i p.way.from)
         (in_map at old.vertices j p.way.to) p.path is);
-    kept = record {
-      in_range = subst (λ (vs : List V). All (λ v. InRange (at v)) vs) (sym same) kept.in_range;
-      few_edges = rw (p.count, ap length same) kept.few_edges;
-      few_faces = rw (ap (λ (c : Contents V D U F). length c.faces) p.contents, ap length same)
-          kept.few_faces;
-      valid = p.whole.valid;
-      fits = p.whole.fits;
-      shape = adding_shape;
-    };
+    kept = p.kept;
     edges_kept = p.edges_kept;
     faces_kept = p.faces_kept;
   }

@@ -180,7 +180,7 @@ module _ {V D U F : Type 0} (at : V → Point) (marks : U → Bool) (marked_as :
   path : AddsPath at marks marked_as constraints old new u v
   path = adding_to_ends (adding_to_goes_on
       (adding_to_begins marks constraints marked {marked_as = marked_as} kept way)
-      (edge_is_next at (state_of old) kept h within) has piece) refl kept
+      (edge_is_next at (state_of old) kept h within) has piece) refl
 
   -- it is added to the constraints, and each edge is as legal as it was
   pub edge_added : AddsConstraints at marks marked_as constraints old new u v

@@ -1,7 +1,7 @@
 //! The edges that cross a segment between two vertices, in the lists from which they are turned.
 ghost use Rattle.std.specs.Prelude.{◌≡◌, ◌<◌, [], length, map, All, MatchOption, OnOk};
-ghost use Rattle.delaunay_lines.specs.plane_tiling.Local.{IsMesh};
-ghost use Rattle.delaunay_lines.specs.mesh_embedding.Drawn.{faces_of, outer_of};
+ghost use Rattle.delaunay_lines.specs.delaunay_legalization.Shape.{IsTriangulated};
+ghost use Rattle.delaunay_lines.specs.delaunay_legalization.State.{state_of};
 ghost use Rattle.delaunay_paths.specs.Lists.{HaveRoom, KeepRoom, ListPiece};
 
 use delaunay_lines::delaunay_core::math::PlaneTests;
@@ -53,8 +53,7 @@ impl CrossingLists {
         tests: &P,
     ) -> Option<FixedVertexHandle>
         requires ends { (from < length dcel.now.vertices) × (to < length dcel.now.vertices) }
-        requires shape { IsMesh (map V.place dcel.now.vertices) (faces_of dcel.now.mesh)
-            (outer_of dcel.now.mesh) }
+        requires kept { IsTriangulated V.place (state_of dcel.now) }
         requires sites { All (P.sites tests.now) (map V.place dcel.now.vertices) }
         requires room { HaveRoom (length dcel.now.undirected) self.old }
         ensures piece { MatchOption result (from ≡ to) (λ v. ListPiece
@@ -64,7 +63,6 @@ impl CrossingLists {
         if from == to {
             return None;
         }
-        dcel.recall_invariant();
         self.waiting.clear();
         self.unseen.clear();
         let mut line = line_between_vertices(dcel, from, to, tests);

@@ -1,7 +1,7 @@
 use Rattle.std.proofs.Common.{◌∙◌, ap, sym}
 use Rattle.delaunay_paths.proofs.AddingPieces.{adding_between, adding_goes_on_by, adding_room}
-use Rattle.delaunay_paths.proofs.AddingPieces.{adding_shape, adding_shortens, adding_sites}
-use Rattle.delaunay_paths.proofs.AddingPieces.{adding_starts, adding_to_ends, adding_work}
+use Rattle.delaunay_paths.proofs.AddingPieces.{adding_shortens, adding_sites, adding_starts}
+use Rattle.delaunay_paths.proofs.AddingPieces.{adding_to_ends, adding_work}
 use Rattle.delaunay_paths.proofs.JoinedPairs.{first_joined, index_found, some_joins}
 use Rattle.delaunay_paths.proofs.Making.{making_begins, making_falls, making_goes_on, making_work}
 use Rattle.delaunay_paths.proofs.Marks.{gets_mark, has_mark}
@@ -15,7 +15,7 @@ pub list_piece-requires : goal.list_piece-requires
 list_piece-requires g c =
     let so_far = c.loop-next.invariant.so_far in record {
       ends = adding_between so_far;
-      shape = adding_shape so_far;
+      kept = so_far.kept;
       sites = adding_sites so_far (g.P.PlaneTests.sites c.args.tests.now) c.requires.sites;
       room = adding_room c.loop-next.invariant c.requires.room.1;
     }
@@ -93,4 +93,4 @@ loop-next-smaller g c =
 
 pub returns-clause-adds : goal.returns-clause-adds
 returns-clause-adds g c =
-    adding_to_ends c.loop-next.invariant.so_far c.in_default.ensures.piece c.requires.kept
+    adding_to_ends c.loop-next.invariant.so_far c.in_default.ensures.piece
