@@ -9,7 +9,6 @@ use Rattle.delaunay_lines.proofs.mesh_embedding.Entries.{one_value}
 use Rattle.delaunay_lines.proofs.mesh_embedding.MeshStays.{slice_get-set_other}
 use Rattle.delaunay_lines.specs.delaunay_legalization.Constraints.{not_both}
 use Rattle.delaunay_lines.specs.half_edge_mesh.Contents.{Contents}
-use Rattle.delaunay_lines.specs.delaunay_legalization.Marking.{HasEdgeData}
 use Rattle.delaunay_paths.specs.Adding.{MarksEdge, MarksSome}
 use Rattle.delaunay_lines.proofs.delaunay_legalization_lemmas.MarkedPairs.{set_entry}
 
@@ -34,21 +33,22 @@ module _ {V D U F : Type 0} {marks : U → Bool} {marked : U → U} {old : Conte
   })
 
   -- and one that gets it
-  pub gets_mark : {new : Contents V D U F} → marks d ≡ false
-      → ((x : U) → marks (marked x) ≡ true) → HasEdgeData marked old new k
-      → MarksEdge marks marked old new n
-  gets_mark {new = new} free has written = subst (MarksEdge marks marked old new) named (record {
-    value = written.value;
-    was = written.was;
-    after = marked written.value;
-    mark = has written.value;
-    same = inr (
-      subst (λ (x : U). marks x ≡ false)
-          (one_value d written.value (sym was ∙ written.was)) free,
-      refl,
-    );
-    whole = written.whole;
-  })
+  pub gets_mark : {had got : U} → marks d ≡ false → ((x : U) → marks (marked x) ≡ true)
+      → slice_get old.undirected k ≡ Some had → got ≡ marked had
+      → MarksEdge marks marked old (record old { undirected = set old.undirected k got }) n
+  gets_mark {had = had} {got = got} free has there made = subst
+      (MarksEdge marks marked old (record old { undirected = set old.undirected k got })) named
+      (record {
+        value = had;
+        was = there;
+        after = got;
+        mark = ap marks made ∙ has had;
+        same = inr (
+          subst (λ (x : U). marks x ≡ false) (one_value d had (sym was ∙ there)) free,
+          made,
+        );
+        whole = refl;
+      })
 
 module _ {U : Type 0} (marks : U → Bool) (marked : U → U) where
   -- data that stay the same

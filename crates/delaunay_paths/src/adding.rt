@@ -11,7 +11,7 @@ use crate::flips::{next_turn, turn};
 use delaunay_lines::ConflictingEdgesIterator;
 use delaunay_lines::delaunay_core::math::PlaneTests;
 use delaunay_lines::delaunay_core::point::HasPosition;
-use delaunay_lines::delaunay_legalization::{ConstraintMarker, EdgeSet, make_constraint};
+use delaunay_lines::delaunay_legalization::{ConstraintMarker, EdgeSet};
 use delaunay_lines::half_edge_mesh::{Dcel, FixedVertexHandle, MeshViews};
 
 /// Whether no constraint crosses the segment between two vertices. Where an edge joins them, a look
@@ -74,7 +74,7 @@ pub fn add_path<M: ConstraintMarker<UE>, V: HasPosition, DE, UE, F, P: PlaneTest
         };
         let edge = edge.fix().as_undirected();
         if !M::is_constraint_edge(dcel.undirected_edge_data(edge)) {
-            make_constraint::<M, _, _, _, _>(dcel, edge);
+            M::make_constraint(dcel.undirected_edge_data_mut(edge));
         }
         at = next;
     }

@@ -9,7 +9,7 @@ ghost use Rattle.delaunay_paths.specs.Releasing.{AddsConstraints, ReleasesEdge};
 use delaunay_lines::delaunay_core::math::PlaneTests;
 use delaunay_lines::delaunay_core::point::HasPosition;
 use delaunay_lines::delaunay_legalization::{
-    ConstraintMarker, EdgeSet, Sides, free_edge, legalize, make_constraint,
+    ConstraintMarker, EdgeSet, Sides, free_edge, legalize,
 };
 use delaunay_lines::half_edge_mesh::{Dcel, FixedDirectedEdgeHandle, FixedUndirectedEdgeHandle};
 
@@ -31,7 +31,7 @@ pub fn constrain_edge<M: ConstraintMarker<UE>, V: HasPosition, DE, UE, F>(
     if M::is_constraint_edge(dcel.undirected_edge_data(edge)) {
         return;
     }
-    make_constraint::<M, _, _, _, _>(dcel, edge);
+    M::make_constraint(dcel.undirected_edge_data_mut(edge));
 }
 
 /// Makes a constraint an edge that is none, and flips edges from there on until each that is no

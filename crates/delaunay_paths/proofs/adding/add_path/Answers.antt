@@ -69,7 +69,8 @@ loop-next-preserved-then-not-is_constraint_edge g c =
     c.fix.ensures.in_range)
     (gets_mark c.undirected_edge_data.ensures c.as_undirected-edge.ensures
     (sym c.is_constraint_edge.ensures ∙ c.if-not-is_constraint_edge.true)
-    (λ x. laws.marked_has_mark x c.requires.can_mark) c.make_constraint.ensures)
+    (λ x. laws.marked_has_mark x c.requires.can_mark) c.undirected_edge_data_mut.ensures.value
+    c.make_constraint.ensures)
     (λ x. laws.marked_has_mark x c.requires.can_mark)
 
 pub loop-next-preserved : goal.loop-next-preserved

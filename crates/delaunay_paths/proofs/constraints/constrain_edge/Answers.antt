@@ -1,4 +1,4 @@
-use Rattle.std.proofs.Common.{◌∙◌, ap, arith, sym}
+use Rattle.std.proofs.Common.{◌∙◌, arith, sym}
 use Rattle.delaunay_paths.proofs.Marks.{gets_mark, has_mark}
 use Rattle.delaunay_paths.proofs.OnePiece.{edge_added}
 use Rattle.delaunay_paths.proofs.constraints.constrain_edge.Goals as goal
@@ -23,7 +23,5 @@ returns-clause-adds g c =
     (rw c.requires.legal.kept.fits.directed_fit at c.requires.within)
     (gets_mark c.undirected_edge_data.ensures c.as_undirected-edge.ensures
     (sym c.is_constraint_edge.ensures ∙ c.if-is_constraint_edge.false)
-    (λ x. laws.marked_has_mark x c.requires.can_mark) c.make_constraint.ensures)
-
-pub returns-clause-mesh : goal.returns-clause-mesh
-returns-clause-mesh g c = ap (λ d. d.mesh) c.make_constraint.ensures.whole
+    (λ x. laws.marked_has_mark x c.requires.can_mark) c.undirected_edge_data_mut.ensures.value
+    c.make_constraint.ensures)
