@@ -1,5 +1,5 @@
 -- One edge that crosses a segment is turned towards it, and the lists have those that cross then.
--- Lemmas: turn_in_mesh, turn_can, turned_across, turned_away.
+-- Lemmas: turn_can, turned_across, turned_away.
 use Rattle.std.proofs.Common.{◌≡◌, ◌≢◌, ◌⊎◌, ◌*◌, ◌/◌, [], ◌∷◌, ◌++◌}
 use Rattle.std.proofs.Common.{ℕ, List, map}
 use Rattle.delaunay_lines.specs.half_edge_mesh.Contents.{Contents, IsMeshWithData}
@@ -28,7 +28,7 @@ module _ {V D U F : Type 0} (at : V → Point) {c : Contents V D U F} {i j e : �
   points = map at c.vertices
 
   -- the ends of the segment are vertices, and the edge is one of the mesh
-  pub turn_in_mesh : AreInMesh c i j e
+  turn_in_mesh : AreInMesh c i j e
   turn_in_mesh = are_in_mesh at turning.piece turning.others.others.own.0
 
   from_right : CrossesFromRight points c.mesh i j e

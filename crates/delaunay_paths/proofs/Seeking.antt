@@ -1,10 +1,10 @@
 -- The next edge that can be turned is sought among those that cross.
--- Notions: IsSeeking; none_has, seeking_begins, seeking_within, seeking_takes, seeking_goes_on,
--- seeking_ends, none_left.
-use Rattle.std.proofs.Common.{◌≡◌, ◌⊎◌, ◌-◌, ◌<◌, [], ◌∷◌, ◌++◌}
-use Rattle.std.proofs.Common.{ℕ, List, length, map, take, Option, Some, None, refl, sym, subst}
+-- Notions: IsSeeking, HaveSeen, AreRounds; seeking_begins, seeking_within, seeking_takes,
+-- seeking_goes_on, seeking_ends, rounds_begin, round_ends.
+use Rattle.std.proofs.Common.{◌≡◌, ◌⊎◌, ◌+◌, ◌-◌, ◌<◌, [], ◌∷◌, ◌++◌}
+use Rattle.std.proofs.Common.{ℕ, List, length, map, take, refl, sym, subst, arith}
 use mathlib.Core.Logic.{inl, inr}
-use Rattle.std.specs.Prelude.{Contains, MatchOption}
+use Rattle.std.specs.Prelude.{Contains}
 use Rattle.std.proofs.lemmas.List.Elements.{Contains-push_cases}
 use Rattle.delaunay_lines.specs.half_edge_mesh.Contents.{Contents}
 use Rattle.delaunay_lines.specs.plane.Fraction.{Point}
@@ -12,21 +12,14 @@ use Rattle.delaunay_lines.proofs.plane_tiling.Totals.{Contains-none}
 use Rattle.delaunay_lines.proofs.mesh_embedding.WorkLists.{contains_last}
 use Rattle.delaunay_paths.specs.declared.crossing.CrossingLists.{CrossingLists}
 use Rattle.delaunay_paths.specs.Crossing.{CrossesFromRight, TurnsNearer}
-use Rattle.delaunay_paths.specs.Lists.{AreToTurn, HasAsEdge, HaveSeen, KeepRoom, ListOthers}
-use Rattle.delaunay_paths.specs.Lists.{IsOnePiece, Seeks}
+use Rattle.delaunay_paths.specs.Lists.{AreToTurn, HasAsEdge, IsOnePiece, IsToTurn, KeepRoom}
+use Rattle.delaunay_paths.specs.Lists.{ListOthers}
 use Rattle.delaunay_paths.specs.Turning.{AreInMesh}
 use Rattle.delaunay_paths.proofs.Making.{edge_if_none_crosses, local}
 use Rattle.delaunay_paths.proofs.MovedEdges.{none_taken, nothing_left, others_taken, others_wait}
 use Rattle.delaunay_paths.proofs.MovedEdges.{room_on, turn_on}
 use Rattle.delaunay_paths.proofs.Towards.{some_turns_nearer}
 use Rattle.delaunay_paths.proofs.Walking.{are_in_mesh}
-
--- ---- results
--- what is so where none was found makes something else so
-pub none_has : {P R : Type 0} (Q : ℕ → Type 0) (r : Option ℕ) → MatchOption r P Q → (P → R)
-    → MatchOption r R Q
-none_has Q None p so = so p
-none_has Q (Some k) q so = q
 
 -- ---- the loop
 -- the edges that cross are listed still, and those that came to wait cannot be turned
@@ -36,6 +29,14 @@ pub record IsSeeking {V D U F : Type 0} (points : List Point) (c : Contents V D 
   pub waits : (h : ℕ) → Contains now.waiting.items h
       → Contains was.waiting.items h ⊎ (¬ TurnsNearer points c.mesh i j h)
   pub room : KeepRoom was now
+
+-- no entry is to be seen, and those that wait did so before, or cannot be turned
+pub record HaveSeen {V D U F : Type 0} (points : List Point) (c : Contents V D U F) (i j : ℕ)
+    (was : List ℕ) (l : CrossingLists) : Type 0 where
+  pub turn : AreToTurn points c i j l
+  pub none : l.unseen.items ≡ []
+  pub waits : (h : ℕ) → Contains l.waiting.items h
+      → Contains was h ⊎ (¬ TurnsNearer points c.mesh i j h)
 
 pub seeking_begins : {V D U F : Type 0} {points : List Point} {c : Contents V D U F} {i j : ℕ}
     {was : CrossingLists} → AreToTurn points c i j was → IsSeeking points c i j was was
@@ -60,14 +61,11 @@ module _ {V D U F : Type 0} {points : List Point} {c : Contents V D U F} {i j : 
   module _ (e : ℕ) (popped : now.unseen.items ≡ new.unseen.items ++ e ∷ []) where
     -- where it can be turned, it is found
     pub seeking_takes : new.waiting.items ≡ now.waiting.items → TurnsNearer points c.mesh i j e
-        → Seeks points c i j was new (Some e)
+        → IsToTurn points c i j e new
     seeking_takes waiting can = record {
-      found = record {
-        piece = seeking.turn.piece;
-        nearer = can;
-        others = others_taken step e popped waiting seeking.turn.crossing;
-      };
-      room = room_on seeking.room step;
+      piece = seeking.turn.piece;
+      nearer = can;
+      others = others_taken step e popped waiting seeking.turn.crossing;
     }
 
     -- where it cannot, it waits
@@ -97,19 +95,16 @@ module _ {V D U F : Type 0} {points : List Point} {c : Contents V D U F} {i j : 
   -- at the end all wait
   pub seeking_ends : (v : ℕ) → now.unseen.items ≡ new.unseen.items ++ []
       → new.unseen.items ≡ take (v - 1) now.unseen.items → v ≡ 0
-      → new.waiting.items ≡ now.waiting.items → Seeks points c i j was new None
+      → new.waiting.items ≡ now.waiting.items → HaveSeen points c i j was.waiting.items new
   seeking_ends v popped rest none waiting = record {
-    found = record {
-      turn = turn_on seeking.turn (none_taken step popped waiting seeking.turn.crossing.held);
-      none = nothing_left now.unseen.items new.unseen.items v popped rest none;
-      waits = λ h there. seeking.waits h (subst (λ (xs : List ℕ). Contains xs h) waiting there);
-    };
-    room = room_on seeking.room step;
+    turn = turn_on seeking.turn (none_taken step popped waiting seeking.turn.crossing.held);
+    none = nothing_left now.unseen.items new.unseen.items v popped rest none;
+    waits = λ h there. seeking.waits h (subst (λ (xs : List ℕ). Contains xs h) waiting there);
   }
 
 -- ---- one of those that cross can be turned
 -- where none of those that cross can be turned, none crosses
-pub none_left : {V D U F : Type 0} (at : V → Point) {c : Contents V D U F} {i j : ℕ}
+none_left : {V D U F : Type 0} (at : V → Point) {c : Contents V D U F} {i j : ℕ}
     {was : List ℕ} {l : CrossingLists} → was ≡ [] → HaveSeen (map at c.vertices) c i j was l
     → HasAsEdge (map at c.vertices) c i j
 none_left at {c = c} {i = i} {j = j} {l = l} nobody seen = record {
@@ -135,3 +130,38 @@ none_left at {c = c} {i = i} {j = j} {l = l} nobody seen = record {
         (local at c piece.whole i j piece.free piece.shape h within crosses) piece.free h
         (subst (λ (n : ℕ). h < n) piece.whole.fits.directed_fit within) crosses in
         cannot e.0 (seen.turn.crossing.all.all e.0 e.1 e.2) e.3
+
+-- ---- rounds
+-- after so many rounds over those that are to be seen, of which none was found: after the first
+-- none waits, and after the second the segment is an edge
+pub record AreRounds {V D U F : Type 0} (at : V → Point) (c : Contents V D U F) (i j : ℕ)
+    (was now : CrossingLists) (rounds : ℕ) : Type 0 where
+  pub turn : AreToTurn (map at c.vertices) c i j now
+  pub room : KeepRoom was now
+  pub none_waits : 0 < rounds → now.waiting.items ≡ []
+  pub made : 1 < rounds → HasAsEdge (map at c.vertices) c i j
+
+not_below : (n : ℕ) → ¬ (n < 0)
+not_below n below = omega (arith, below)
+
+pub rounds_begin : {V D U F : Type 0} {at : V → Point} {c : Contents V D U F} {i j : ℕ}
+    {l : CrossingLists} → AreToTurn (map at c.vertices) c i j l → AreRounds at c i j l l 0
+rounds_begin turn = record {
+  turn = turn;
+  room = record { waiting = refl; unseen = refl };
+  none_waits = λ below. absurd (not_below 0 below);
+  made = λ below. absurd (not_below 1 below);
+}
+
+-- one more, after which all that wait are to be seen again
+pub round_ends : {V D U F : Type 0} {at : V → Point} {c : Contents V D U F} {i j rounds : ℕ}
+    {was now seen new : CrossingLists} → AreRounds at c i j was now rounds
+    → HaveSeen (map at c.vertices) c i j now.waiting.items seen
+    → AreToTurn (map at c.vertices) c i j new → KeepRoom now new → new.waiting.items ≡ []
+    → AreRounds at c i j was new (rounds + 1)
+round_ends {at = at} {rounds = rounds} before seen turn room none = record {
+  turn = turn;
+  room = room_on before.room room;
+  none_waits = λ _. none;
+  made = λ more. none_left at (before.none_waits (omega (arith, more))) seen;
+}

@@ -75,6 +75,11 @@ TurnsNearer points m i j e = CornersTurn (point_at points i) (point_at points j)
     (point_at points (origin m e)) (point_at points (behind m e))
     (point_at points (origin m (next m e))) (point_at points (ahead m e))
 
+-- the edge that a turn of e makes goes so between these corners
+abbrev pub IsWayMade : List Point → Mesh → ℕ → ℕ → ℕ → Option ℕ → Type 0
+IsWayMade points m i j e r = IsWayBetween (point_at points i) (point_at points j)
+    (point_at points (behind m e)) (point_at points (ahead m e)) e r
+
 -- the directed edges of which this holds are those that cross the segment from the right
 pub record AreAllCrossing (points : List Point) (m : Mesh) (i j : ℕ)
     (In : ℕ → Type 0) : Type 0 where

@@ -1,6 +1,6 @@
 -- The lists of the edges that cross a segment, while they are turned.
-use Rattle.std.specs.Prelude.{◌≡◌, ◌≢◌, ◌⊎◌, ◌+◌, ◌≤◌, ℕ, List, [], length, AllPairs}
-use Rattle.std.specs.Prelude.{Contains, MatchOption, Option, vec_capacity}
+use Rattle.std.specs.Prelude.{◌≡◌, ◌≢◌, ◌⊎◌, ◌+◌, ◌≤◌, ℕ, List, length, AllPairs, Contains}
+use Rattle.std.specs.Prelude.{vec_capacity}
 use Rattle.delaunay_lines.specs.half_edge_mesh.Contents.{Contents, IsMeshWithData}
 use Rattle.delaunay_lines.specs.half_edge_mesh.Mesh.{Mesh}
 use Rattle.delaunay_lines.specs.plane.Fraction.{Point}
@@ -90,21 +90,6 @@ pub record IsToTurn {V D U F : Type 0} (points : List Point) (c : Contents V D U
   pub piece : IsOnePiece points c i j
   pub nearer : TurnsNearer points c.mesh i j e
   pub others : ListOthers points c.mesh i j e l
-
--- no entry is to be seen, and those that wait did so before, or cannot be turned
-pub record HaveSeen {V D U F : Type 0} (points : List Point) (c : Contents V D U F) (i j : ℕ)
-    (was : List ℕ) (l : CrossingLists) : Type 0 where
-  pub turn : AreToTurn points c i j l
-  pub none : l.unseen.items ≡ []
-  pub waits : (h : ℕ) → Contains l.waiting.items h
-      → Contains was h ⊎ (¬ TurnsNearer points c.mesh i j h)
-
--- the next one that can be turned is taken out, or all were seen
-pub record Seeks {V D U F : Type 0} (points : List Point) (c : Contents V D U F) (i j : ℕ)
-    (old new : CrossingLists) (r : Option ℕ) : Type 0 where
-  pub found : MatchOption r (HaveSeen points c i j old.waiting.items new)
-      (λ e. IsToTurn points c i j e new)
-  pub room : KeepRoom old new
 
 -- an edge is turned towards the segment from i to j, and the entries are those that cross it then
 pub record TurnsOne {V D U F : Type 0} (points : List Point) (old new : Contents V D U F) (i j : ℕ)

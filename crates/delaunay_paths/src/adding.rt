@@ -66,8 +66,8 @@ pub fn add_path<M: ConstraintMarker<UE>, V: HasPosition, DE, UE, F, P: PlaneTest
 {
     let mut at = from;
     while let Some(next) = lists.list_piece(dcel, at, to, tests) {
-        while let Some(edge) = next_turn(dcel, at, next, tests, lists) {
-            turn(dcel, edge, at, next, tests, lists, work);
+        while let Some((edge, way)) = next_turn(dcel, at, next, tests, lists) {
+            turn(dcel, edge, way, at, next, lists, work);
         }
         let Some(edge) = dcel.get_edge_from_neighbors(at, next) else {
             unreachable!()

@@ -35,10 +35,8 @@ next_turn-requires g c = record {
 
 pub turn-requires : goal.turn-requires
 turn-requires g c = record {
-  turning = c.in-Some-next_turn.ensures.found;
-  sites = rw (ap (λ d. d.vertices) c.loop-edge.invariant.contents)
-      (adding_sites c.loop-next.invariant.so_far (g.P.PlaneTests.sites c.args.tests.now)
-      c.requires.sites);
+  turning = c.in-Some-next_turn.ensures.found.0;
+  way = c.in-Some-next_turn.ensures.found.1;
   work = making_work c.loop-edge.invariant (adding_work c.loop-next.invariant c.requires.room.0);
 }
 

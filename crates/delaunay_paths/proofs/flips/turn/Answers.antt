@@ -1,11 +1,8 @@
 use Rattle.std.proofs.Common.{refl}
 use Rattle.delaunay_paths.proofs.MovedEdges.{can_step, held_with_room, less_by_room, moved_back}
 use Rattle.delaunay_paths.proofs.MovedEdges.{none_waits}
-use Rattle.delaunay_paths.proofs.OneTurn.{turn_can, turn_in_mesh, turned_across, turned_away}
+use Rattle.delaunay_paths.proofs.OneTurn.{turn_can, turned_across, turned_away}
 use Rattle.delaunay_paths.proofs.flips.turn.Goals as goal
-
-pub turning_at-turning-requires-clause-within : goal.turning_at-turning-requires-clause-within
-turning_at-turning-requires-clause-within g c = turn_in_mesh _ c.requires.turning
 
 -- ---- the edge that is made crosses
 pub flip_cw-requires : goal.flip_cw-requires
@@ -21,7 +18,7 @@ pub returns-in-Some-clause-turns : goal.returns-in-Some-clause-turns
 returns-in-Some-clause-turns g c =
     let flip = c.flip_cw.ensures in
     turned_across _ c.requires.turning c.as_undirected-whole.ensures flip.contents flip.mesh
-    flip.triangles flip.outer flip.whole.1 (rw c.turning_at-turning.ensures at c.in-Some.ensures)
+    flip.triangles flip.outer flip.whole.1 (rw c.in-Some.is at c.requires.way)
     c.requires.work.edges (record { waiting = c.push_reserved.ensures.capacity; unseen = refl })
     c.push_reserved.ensures.items refl
 
@@ -39,7 +36,7 @@ pub returns-in-Some-pop-clause-turns : goal.returns-in-Some-pop-clause-turns
 returns-in-Some-pop-clause-turns g c =
     let flip = c.flip_cw-in-None.ensures in
     turned_away _ c.requires.turning c.as_undirected-whole.ensures flip.contents flip.mesh
-    flip.triangles flip.outer flip.whole.1 (rw c.turning_at-turning.ensures at c.in-None.ensures)
+    flip.triangles flip.outer flip.whole.1 (rw c.in-None.is at c.requires.way)
     c.push_sides.ensures.edges (rw c.as_directed-round.ensures at c.push_side.ensures.gains)
     (rw c.as_directed-round.ensures at c.push_sides.ensures.gains)
     (moved_back {old = c.args.lists.now} (record {
@@ -52,7 +49,7 @@ pub returns-in_default-clause-turns : goal.returns-in_default-clause-turns
 returns-in_default-clause-turns g c =
     let flip = c.flip_cw-in-None.ensures in
     turned_away _ c.requires.turning c.as_undirected-whole.ensures flip.contents flip.mesh
-    flip.triangles flip.outer flip.whole.1 (rw c.turning_at-turning.ensures at c.in-None.ensures)
+    flip.triangles flip.outer flip.whole.1 (rw c.in-None.is at c.requires.way)
     c.push_sides.ensures.edges (rw c.as_directed-round.ensures at c.push_side.ensures.gains)
     (rw c.as_directed-round.ensures at c.push_sides.ensures.gains)
     (none_waits {old = c.args.lists.now} (record {
