@@ -45,7 +45,7 @@ impl<V: HasPosition, DE, UE, F, L: HintGenerator<V::Scalar>> ConstrainedDelaunay
 
     // Adds the path between two vertices, of which so many pieces are no constraints, or a refusal
     // that changes nothing.
-    pub(crate) fn add_path<P: PlaneTests<V::Scalar>>(
+    pub(crate) fn join_path<P: PlaneTests<V::Scalar>>(
         &mut self,
         from: FixedVertexHandle,
         to: FixedVertexHandle,
@@ -116,7 +116,7 @@ impl<V: HasPosition, DE, UE, F, L: HintGenerator<V::Scalar>> ConstrainedDelaunay
         if missing == 0 {
             return Ok(Some(false));
         }
-        self.add_path(from, to, missing, tests)?;
+        self.join_path(from, to, missing, tests)?;
         Ok(Some(true))
     }
 }

@@ -129,7 +129,7 @@ impl<V: HasPosition, DE, UE, F, L: HintGenerator<V::Scalar>> ConstrainedDelaunay
             return Ok(edges);
         };
         edges.reserve(self.dcel.num_vertices())?;
-        self.add_path(from, to, missing, tests)?;
+        self.join_path(from, to, missing, tests)?;
         self.recall_well_formed();
         edges_along(&self.dcel, from, to, tests, &mut edges);
         Ok(edges)

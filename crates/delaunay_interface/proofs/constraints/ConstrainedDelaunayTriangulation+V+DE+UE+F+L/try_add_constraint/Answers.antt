@@ -53,8 +53,8 @@ returns-in_default-counted-clause-path g c =
     none_listed _ _ _ _ _ c.new-edges.ensures.items
     (inr (rw (← c.self.view_is) c.in_default-counted.ensures.barred))
 
-pub add_path-requires-clause-free : goal.add_path-requires-clause-free
-add_path-requires-clause-free g c = rw (← c.self.view_is) c.in-Some-counted.ensures.free
+pub join_path-requires-clause-free : goal.join_path-requires-clause-free
+join_path-requires-clause-free g c = rw (← c.self.view_is) c.in-Some-counted.ensures.free
 
 pub returns-in_err-reserve-clause-none : goal.returns-in_err-reserve-clause-none
 returns-in_err-reserve-clause-none g c = λ barred. absurd (elim barred as (λ _. ⊥) [
@@ -62,8 +62,8 @@ returns-in_err-reserve-clause-none g c = λ barred. absurd (elim barred as (λ _
   | inr none ↦ none (rw (← c.self.view_is) c.in-Some-counted.ensures.free)
 ])
 
-pub returns-in_err-add_path-clause-none : goal.returns-in_err-add_path-clause-none
-returns-in_err-add_path-clause-none g c = λ barred. absurd (elim barred as (λ _. ⊥) [
+pub returns-in_err-join_path-clause-none : goal.returns-in_err-join_path-clause-none
+returns-in_err-join_path-clause-none g c = λ barred. absurd (elim barred as (λ _. ⊥) [
   | inl same ↦ both_ways _ (c.eq.ensures ∙ eq-eqb _ _ same) c.if-eq.false
   | inr none ↦ none (rw (← c.self.view_is) c.in-Some-counted.ensures.free)
 ])
@@ -71,8 +71,8 @@ returns-in_err-add_path-clause-none g c = λ barred. absurd (elim barred as (λ 
 pub edges_along-requires-clause-joined : goal.edges_along-requires-clause-joined
 edges_along-requires-clause-joined g c =
     rw (← c.self-2.view_is) at (path_is_there g.V.HasPosition.place c.args.self.now
-    c.add_path.new.self c.args.from c.args.to c.in_ok-add_path.ensures.plain
-    c.in_ok-add_path.ensures.headline)
+    c.join_path.new.self c.args.from c.args.to c.in_ok-join_path.ensures.plain
+    c.in_ok-join_path.ensures.headline)
 
 pub returns-clause-path : goal.returns-clause-path
 returns-clause-path g c = record {
@@ -80,7 +80,7 @@ returns-clause-path g c = record {
     | inl same ↦ both_ways _ (c.eq.ensures ∙ eq-eqb _ _ same) c.if-eq.false
     | inr none ↦ none (rw (← c.self.view_is) c.in-Some-counted.ensures.free)
   ]);
-  plain = λ apart free. c.in_ok-add_path.ensures.plain;
+  plain = λ apart free. c.in_ok-join_path.ensures.plain;
   along = λ apart free. rw (← c.self-2.view_is) c.edges_along.ensures;
-  «data» = c.in_ok-add_path.ensures.«data»;
+  «data» = c.in_ok-join_path.ensures.«data»;
 }

@@ -12,9 +12,9 @@ use Rattle.delaunay_edit.proofs.EditingConstraints.{edges_marked}
 use Rattle.delaunay_edit.proofs.Recounted.{counted_added, few_counted}
 use Rattle.delaunay_edit.proofs.WellFormed.{is_delaunay}
 use Rattle.delaunay_interface.proofs.Kept.{held_of_same}
-use Rattle.delaunay_interface.proofs.constraint_edits.ConstrainedDelaunayTriangulation+V+DE+UE+F+L.add_path.Given.{Over}
-use Rattle.delaunay_interface.proofs.constraint_edits.ConstrainedDelaunayTriangulation+V+DE+UE+F+L.add_path.Goals.{After-legalize}
-use Rattle.delaunay_interface.proofs.constraint_edits.ConstrainedDelaunayTriangulation+V+DE+UE+F+L.add_path.Goals as goal
+use Rattle.delaunay_interface.proofs.constraint_edits.ConstrainedDelaunayTriangulation+V+DE+UE+F+L.join_path.Given.{Over}
+use Rattle.delaunay_interface.proofs.constraint_edits.ConstrainedDelaunayTriangulation+V+DE+UE+F+L.join_path.Goals.{After-legalize}
+use Rattle.delaunay_interface.proofs.constraint_edits.ConstrainedDelaunayTriangulation+V+DE+UE+F+L.join_path.Goals as goal
 
 -- the path is added
 added : (g : Over) (c : After-legalize g) → AddsConstraints g.V.HasPosition.place is_constraint
