@@ -1,6 +1,7 @@
 -- The next edge that can be turned is sought among those that cross.
--- Notions: IsSeeking, HaveSeen, AreRounds; seeking_begins, seeking_within, seeking_takes,
--- seeking_goes_on, seeking_ends, rounds_begin, round_ends.
+-- Notions: IsSeeking, HaveSeen, AreGoingBack, AreRounds; seeking_begins, seeking_within,
+-- seeking_goes_on, seeking_ends, going_back_begins, going_back_goes_on, rounds_begin, round_finds,
+-- round_ends.
 use Rattle.std.proofs.Common.{◌≡◌, ◌⊎◌, ◌+◌, ◌-◌, ◌<◌, [], ◌∷◌, ◌++◌}
 use Rattle.std.proofs.Common.{ℕ, List, length, map, take, refl, sym, subst, arith}
 use mathlib.Core.Logic.{inl, inr}
@@ -16,8 +17,8 @@ use Rattle.delaunay_paths.specs.Lists.{AreToTurn, HasAsEdge, IsOnePiece, IsToTur
 use Rattle.delaunay_paths.specs.Lists.{ListOthers}
 use Rattle.delaunay_paths.specs.Turning.{AreInMesh}
 use Rattle.delaunay_paths.proofs.Making.{edge_if_none_crosses, local}
-use Rattle.delaunay_paths.proofs.MovedEdges.{none_taken, nothing_left, others_taken, others_wait}
-use Rattle.delaunay_paths.proofs.MovedEdges.{room_on, turn_on}
+use Rattle.delaunay_paths.proofs.MovedEdges.{moved_back, none_taken, none_waits, nothing_left}
+use Rattle.delaunay_paths.proofs.MovedEdges.{others_taken, others_wait, room_on, turn_on}
 use Rattle.delaunay_paths.proofs.Towards.{some_turns_nearer}
 use Rattle.delaunay_paths.proofs.Walking.{are_in_mesh}
 
@@ -32,11 +33,12 @@ pub record IsSeeking {V D U F : Type 0} (points : List Point) (c : Contents V D 
 
 -- no entry is to be seen, and those that wait did so before, or cannot be turned
 pub record HaveSeen {V D U F : Type 0} (points : List Point) (c : Contents V D U F) (i j : ℕ)
-    (was : List ℕ) (l : CrossingLists) : Type 0 where
-  pub turn : AreToTurn points c i j l
-  pub none : l.unseen.items ≡ []
-  pub waits : (h : ℕ) → Contains l.waiting.items h
-      → Contains was h ⊎ (¬ TurnsNearer points c.mesh i j h)
+    (was now : CrossingLists) : Type 0 where
+  pub turn : AreToTurn points c i j now
+  pub none : now.unseen.items ≡ []
+  pub waits : (h : ℕ) → Contains now.waiting.items h
+      → Contains was.waiting.items h ⊎ (¬ TurnsNearer points c.mesh i j h)
+  pub room : KeepRoom was now
 
 pub seeking_begins : {V D U F : Type 0} {points : List Point} {c : Contents V D U F} {i j : ℕ}
     {was : CrossingLists} → AreToTurn points c i j was → IsSeeking points c i j was was
@@ -60,7 +62,7 @@ module _ {V D U F : Type 0} {points : List Point} {c : Contents V D U F} {i j : 
   -- the one that is taken out leaves the others
   module _ (e : ℕ) (popped : now.unseen.items ≡ new.unseen.items ++ e ∷ []) where
     -- where it can be turned, it is found
-    pub seeking_takes : new.waiting.items ≡ now.waiting.items → TurnsNearer points c.mesh i j e
+    seeking_takes : new.waiting.items ≡ now.waiting.items → TurnsNearer points c.mesh i j e
         → IsToTurn points c i j e new
     seeking_takes waiting can = record {
       piece = seeking.turn.piece;
@@ -95,17 +97,18 @@ module _ {V D U F : Type 0} {points : List Point} {c : Contents V D U F} {i j : 
   -- at the end all wait
   pub seeking_ends : (v : ℕ) → now.unseen.items ≡ new.unseen.items ++ []
       → new.unseen.items ≡ take (v - 1) now.unseen.items → v ≡ 0
-      → new.waiting.items ≡ now.waiting.items → HaveSeen points c i j was.waiting.items new
+      → new.waiting.items ≡ now.waiting.items → HaveSeen points c i j was new
   seeking_ends v popped rest none waiting = record {
     turn = turn_on seeking.turn (none_taken step popped waiting seeking.turn.crossing.held);
     none = nothing_left now.unseen.items new.unseen.items v popped rest none;
     waits = λ h there. seeking.waits h (subst (λ (xs : List ℕ). Contains xs h) waiting there);
+    room = room_on seeking.room step;
   }
 
 -- ---- one of those that cross can be turned
 -- where none of those that cross can be turned, none crosses
 none_left : {V D U F : Type 0} (at : V → Point) {c : Contents V D U F} {i j : ℕ}
-    {was : List ℕ} {l : CrossingLists} → was ≡ [] → HaveSeen (map at c.vertices) c i j was l
+    {was l : CrossingLists} → was.waiting.items ≡ [] → HaveSeen (map at c.vertices) c i j was l
     → HasAsEdge (map at c.vertices) c i j
 none_left at {c = c} {i = i} {j = j} {l = l} nobody seen = record {
   whole = piece.whole;
@@ -131,9 +134,30 @@ none_left at {c = c} {i = i} {j = j} {l = l} nobody seen = record {
         (subst (λ (n : ℕ). h < n) piece.whole.fits.directed_fit within) crosses in
         cannot e.0 (seen.turn.crossing.all.all e.0 e.1 e.2) e.3
 
+-- ---- all that wait are to be seen again
+-- after some of them: those that cross are still listed
+pub record AreGoingBack {V D U F : Type 0} (points : List Point) (c : Contents V D U F) (i j : ℕ)
+    (was now : CrossingLists) : Type 0 where
+  pub turn : AreToTurn points c i j now
+  pub room : KeepRoom was now
+
+pub going_back_begins : {V D U F : Type 0} {points : List Point} {c : Contents V D U F} {i j : ℕ}
+    {l : CrossingLists} → AreToTurn points c i j l → AreGoingBack points c i j l l
+going_back_begins turn =
+    record { turn = turn; room = record { waiting = refl; unseen = refl } }
+
+pub going_back_goes_on : {V D U F : Type 0} {points : List Point} {c : Contents V D U F} {i j : ℕ}
+    {was now new : CrossingLists} → AreGoingBack points c i j was now → KeepRoom now new → (e : ℕ)
+    → now.waiting.items ≡ new.waiting.items ++ e ∷ []
+    → new.unseen.items ≡ now.unseen.items ++ e ∷ [] → AreGoingBack points c i j was new
+going_back_goes_on back step e popped pushed = record {
+  turn = turn_on back.turn (moved_back step e popped pushed back.turn.crossing.held);
+  room = room_on back.room step;
+}
+
 -- ---- rounds
--- after so many rounds over those that are to be seen, of which none was found: after the first
--- none waits, and after the second the segment is an edge
+-- after so many rounds in which none was found that can be turned: after the first none waits, and
+-- after the second the segment is an edge
 pub record AreRounds {V D U F : Type 0} (at : V → Point) (c : Contents V D U F) (i j : ℕ)
     (was now : CrossingLists) (rounds : ℕ) : Type 0 where
   pub turn : AreToTurn (map at c.vertices) c i j now
@@ -153,15 +177,27 @@ rounds_begin turn = record {
   made = λ below. absurd (not_below 1 below);
 }
 
--- one more, after which all that wait are to be seen again
-pub round_ends : {V D U F : Type 0} {at : V → Point} {c : Contents V D U F} {i j rounds : ℕ}
-    {was now seen new : CrossingLists} → AreRounds at c i j was now rounds
-    → HaveSeen (map at c.vertices) c i j now.waiting.items seen
-    → AreToTurn (map at c.vertices) c i j new → KeepRoom now new → new.waiting.items ≡ []
-    → AreRounds at c i j was new (rounds + 1)
-round_ends {at = at} {rounds = rounds} before seen turn room none = record {
-  turn = turn;
-  room = room_on before.room room;
-  none_waits = λ _. none;
-  made = λ more. none_left at (before.none_waits (omega (arith, more))) seen;
-}
+module _ {V D U F : Type 0} {at : V → Point} {c : Contents V D U F} {i j rounds : ℕ}
+    {was begun : CrossingLists} (before : AreRounds at c i j was begun rounds) where
+  -- one is found in the next round
+  pub round_finds : {now new : CrossingLists} → IsSeeking (map at c.vertices) c i j begun now
+      → KeepRoom now new → (e : ℕ) → now.unseen.items ≡ new.unseen.items ++ e ∷ []
+      → new.waiting.items ≡ now.waiting.items → TurnsNearer (map at c.vertices) c.mesh i j e
+      → IsToTurn (map at c.vertices) c i j e new × KeepRoom was new
+  round_finds seeking step e popped waiting can = (
+    seeking_takes seeking step e popped waiting can,
+    room_on before.room (room_on seeking.room step),
+  )
+
+  -- or none, and all that wait are to be seen again
+  pub round_ends : {seen now new : CrossingLists} → HaveSeen (map at c.vertices) c i j begun seen
+      → AreGoingBack (map at c.vertices) c i j seen now → KeepRoom now new → (v : ℕ)
+      → now.waiting.items ≡ new.waiting.items ++ []
+      → new.waiting.items ≡ take (v - 1) now.waiting.items → v ≡ 0
+      → new.unseen.items ≡ now.unseen.items → AreRounds at c i j was new (rounds + 1)
+  round_ends {now = now} {new = new} seen back step v popped rest none unseen = record {
+    turn = turn_on back.turn (none_waits step popped unseen back.turn.crossing.held);
+    room = room_on before.room (room_on seen.room (room_on back.room step));
+    none_waits = λ _. nothing_left now.waiting.items new.waiting.items v popped rest none;
+    made = λ more. none_left at (before.none_waits (omega (arith, more))) seen;
+  }

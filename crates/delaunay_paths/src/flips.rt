@@ -33,8 +33,8 @@ pub(crate) fn next_turn<V: HasPosition, DE, UE, F, P: PlaneTests<V::Scalar>>(
     for _ in 0..2u32 {
         while let Some(edge) = lists.unseen.pop() {
             let turning = turning_at(dcel, edge, from, to, tests);
-            if turning.turns_nearer() {
-                return Some((edge, turning.way_made(edge)));
+            if let Some(way) = turning.way_made(edge) {
+                return Some((edge, way));
             }
             lists.waiting.push_reserved(edge);
         }

@@ -1,6 +1,6 @@
 //! Whether an edge that crosses a segment can be turned towards it, and whether the edge that is
 //! made then crosses too.
-ghost use Rattle.std.specs.Prelude.{◌≡◌, ◌↔◌, map, All, IsTrue};
+ghost use Rattle.std.specs.Prelude.{◌≡◌, ◌↔◌, map, All, IsTrue, MatchOption};
 ghost use Rattle.delaunay_lines.specs.plane_segments.Path.{ComesAfterOnRight};
 ghost use Rattle.delaunay_lines.specs.delaunay_core.Place.{place_of};
 ghost use Rattle.delaunay_paths.specs.Crossing.{CornersTurn, IsWayBetween};
@@ -61,52 +61,46 @@ impl<'a, S: SpadeNum, P: PlaneTests<S>> Turning<'a, S, P> {
         self.from.distance_2(point) < self.from.distance_2(self.start)
     }
 
-    // Whether the edge can be turned towards the segment.
-    pub(crate) fn turns_nearer(&self) -> bool
-        ensures { let t = self.now in
-            IsTrue result ↔ CornersTurn t.from t.to t.start t.behind t.end t.ahead }
+    // Where the edge can be turned towards the segment: in which direction the edge that this makes
+    // crosses it, from its right to its left, if it does.
+    pub(crate) fn way_made(
+        &self,
+        edge: FixedDirectedEdgeHandle,
+    ) -> Option<Option<FixedDirectedEdgeHandle>>
+        ensures { let t = self.now in MatchOption result
+            (¬ CornersTurn t.from t.to t.start t.behind t.end t.ahead)
+            (λ way. CornersTurn t.from t.to t.start t.behind t.end t.ahead ×
+            IsWayBetween t.from t.to t.behind t.ahead edge way) }
     {
         let tests = self.tests;
         let at_start = tests.side(self.start, self.behind, self.ahead);
         let at_end = tests.side(self.behind, self.end, self.ahead);
         if !at_start.is_on_left_side() || !at_end.is_on_left_side() {
-            return false;
+            return None;
         }
         // Where the edge that is made crosses, its right end has to come before the start.
         let behind = tests.side(self.from, self.to, self.behind);
         let ahead = tests.side(self.from, self.to, self.ahead);
         if behind.is_on_right_side() && ahead.is_on_left_side() {
-            return self.starts_after(self.behind);
-        }
-        if ahead.is_on_right_side() && behind.is_on_left_side() {
-            return self.starts_after(self.ahead);
-        }
-        true
-    }
-
-    // The direction in which the edge that a turn of the edge makes crosses the segment, from its
-    // right to its left, if it does.
-    pub(crate) fn way_made(&self, edge: FixedDirectedEdgeHandle) -> Option<FixedDirectedEdgeHandle>
-        ensures { let t = self.now in IsWayBetween t.from t.to t.behind t.ahead edge result }
-    {
-        let tests = self.tests;
-        let behind = tests.side(self.from, self.to, self.behind);
-        let ahead = tests.side(self.from, self.to, self.ahead);
-        if ahead.is_on_right_side() && behind.is_on_left_side() {
-            let start = tests.side(self.ahead, self.behind, self.from);
-            let end = tests.side(self.ahead, self.behind, self.to);
-            if start.is_on_left_side() && end.is_on_right_side() {
-                return Some(edge);
+            if !self.starts_after(self.behind) {
+                return None;
             }
-        }
-        if behind.is_on_right_side() && ahead.is_on_left_side() {
             let start = tests.side(self.behind, self.ahead, self.from);
             let end = tests.side(self.behind, self.ahead, self.to);
             if start.is_on_left_side() && end.is_on_right_side() {
-                return Some(edge.rev());
+                return Some(Some(edge.rev()));
+            }
+        } else if ahead.is_on_right_side() && behind.is_on_left_side() {
+            if !self.starts_after(self.ahead) {
+                return None;
+            }
+            let start = tests.side(self.ahead, self.behind, self.from);
+            let end = tests.side(self.ahead, self.behind, self.to);
+            if start.is_on_left_side() && end.is_on_right_side() {
+                return Some(Some(edge));
             }
         }
-        None
+        Some(None)
     }
 }
 

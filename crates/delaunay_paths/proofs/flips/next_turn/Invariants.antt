@@ -1,6 +1,5 @@
 use Rattle.std.proofs.Common.{length, map}
-use Rattle.delaunay_paths.specs.Lists.{AreToTurn, KeepRoom}
-use Rattle.delaunay_paths.proofs.Seeking.{AreRounds, IsSeeking}
+use Rattle.delaunay_paths.proofs.Seeking.{AreGoingBack, AreRounds, IsSeeking}
 use Rattle.delaunay_paths.proofs.flips.next_turn.Given as goal
 
 abbrev pub invariant-loop : goal.invariant-loop
@@ -15,10 +14,8 @@ abbrev pub decreases-loop-edge : goal.decreases-loop-edge
 decreases-loop-edge g l = length l.lists.unseen.items
 
 abbrev pub invariant-loop-edge-2 : goal.invariant-loop-edge-2
-invariant-loop-edge-2 g l = record {
-  turn : AreToTurn (map g.V.HasPosition.place l.dcel.vertices) l.dcel l.from l.to l.lists;
-  room : KeepRoom l.initial.lists l.lists;
-}
+invariant-loop-edge-2 g l = AreGoingBack (map g.V.HasPosition.place l.dcel.vertices) l.dcel l.from
+    l.to l.initial.lists l.lists
 
 abbrev pub decreases-loop-edge-2 : goal.decreases-loop-edge-2
 decreases-loop-edge-2 g l = length l.lists.waiting.items
