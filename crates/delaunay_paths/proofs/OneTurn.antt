@@ -16,11 +16,10 @@ use Rattle.delaunay_paths.specs.declared.crossing.CrossingLists.{CrossingLists}
 use Rattle.delaunay_paths.specs.Crossing.{CrossesFromRight, GoesFromRight, ahead, behind}
 use Rattle.delaunay_paths.specs.Lists.{HasEntry, IsOnePiece, IsToTurn, KeepEntries, KeepRoom}
 use Rattle.delaunay_paths.specs.Lists.{TurnsOne}
-use Rattle.delaunay_paths.specs.Turning.{AreInMesh}
 use Rattle.delaunay_paths.proofs.Making.{can_turn, free_on, others_and_made, others_left}
 use Rattle.delaunay_paths.proofs.Making.{turns_across, turns_away}
 use Rattle.delaunay_paths.proofs.MovedEdges.{crossing_on, held_with_room, others_wait}
-use Rattle.delaunay_paths.proofs.Walking.{are_in_mesh}
+use Rattle.delaunay_paths.proofs.Walking.{AreInMesh, are_in_mesh}
 
 module _ {V D U F : Type 0} (at : V → Point) {c : Contents V D U F} {i j e : ℕ} {l : CrossingLists}
     (turning : IsToTurn (map at c.vertices) c i j e l) where

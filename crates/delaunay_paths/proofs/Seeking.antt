@@ -1,26 +1,57 @@
 -- The next edge that can be turned is sought among those that cross.
--- Notions: IsSeeking, HaveSeen, AreGoingBack, AreRounds; seeking_begins, seeking_within,
--- seeking_goes_on, seeking_ends, going_back_begins, going_back_goes_on, rounds_begin, round_finds,
--- round_ends.
+-- Notions: AreCorners, IsSeeking, HaveSeen, AreGoingBack, AreRounds; turns_not_at, seeking_begins,
+-- seeking_within, seeking_goes_on, seeking_ends, going_back_begins, going_back_goes_on,
+-- rounds_begin, round_finds, round_ends.
 use Rattle.std.proofs.Common.{◌≡◌, ◌⊎◌, ◌+◌, ◌-◌, ◌<◌, [], ◌∷◌, ◌++◌}
-use Rattle.std.proofs.Common.{ℕ, List, length, map, take, refl, sym, subst, arith}
+use Rattle.std.proofs.Common.{ℕ, List, Option, length, map, take, refl, sym, subst, arith}
 use mathlib.Core.Logic.{inl, inr}
 use Rattle.std.specs.Prelude.{Contains}
 use Rattle.std.proofs.lemmas.List.Elements.{Contains-push_cases}
 use Rattle.delaunay_lines.specs.half_edge_mesh.Contents.{Contents}
+use Rattle.delaunay_lines.specs.half_edge_mesh.Mesh.{Mesh, next, origin}
 use Rattle.delaunay_lines.specs.plane.Fraction.{Point}
+use Rattle.delaunay_lines.specs.delaunay_legalization.Known.{point_at}
 use Rattle.delaunay_lines.proofs.plane_tiling.Totals.{Contains-none}
 use Rattle.delaunay_lines.proofs.mesh_embedding.WorkLists.{contains_last}
 use Rattle.delaunay_paths.specs.declared.crossing.CrossingLists.{CrossingLists}
-use Rattle.delaunay_paths.specs.Crossing.{CrossesFromRight, TurnsNearer}
+use Rattle.delaunay_paths.specs.Crossing.{CornersTurn, CrossesFromRight, IsWayBetween, IsWayMade}
+use Rattle.delaunay_paths.specs.Crossing.{TurnsNearer, ahead, behind}
 use Rattle.delaunay_paths.specs.Lists.{AreToTurn, HasAsEdge, IsOnePiece, IsToTurn, KeepRoom}
 use Rattle.delaunay_paths.specs.Lists.{ListOthers}
-use Rattle.delaunay_paths.specs.Turning.{AreInMesh}
 use Rattle.delaunay_paths.proofs.Making.{edge_if_none_crosses, local}
 use Rattle.delaunay_paths.proofs.MovedEdges.{moved_back, none_taken, none_waits, nothing_left}
 use Rattle.delaunay_paths.proofs.MovedEdges.{others_taken, others_wait, room_on, turn_on}
 use Rattle.delaunay_paths.proofs.Towards.{some_turns_nearer}
-use Rattle.delaunay_paths.proofs.Walking.{are_in_mesh}
+use Rattle.delaunay_paths.proofs.Walking.{AreInMesh, are_in_mesh}
+
+-- ---- the corners
+-- these points are the ends of the segment from i to j and the corners round edge e
+pub record AreCorners (points : List Point) (m : Mesh) (i j e : ℕ)
+    (p q v x y z : Point) : Type 0 where
+  pub from : p ≡ point_at points i
+  pub to : q ≡ point_at points j
+  pub start : v ≡ point_at points (origin m e)
+  pub behind_is : x ≡ point_at points (behind m e)
+  pub end : y ≡ point_at points (origin m (next m e))
+  pub ahead_is : z ≡ point_at points (ahead m e)
+
+module _ {points : List Point} {m : Mesh} {i j e : ℕ} {p q v x y z : Point}
+    (at : AreCorners points m i j e p q v x y z) where
+  -- so they tell whether it can be turned
+  turns_at : CornersTurn p q v x y z → TurnsNearer points m i j e
+  turns_at = subst (λ (s : Point × Point × Point × Point × Point × Point).
+      CornersTurn s.0 s.1 s.2 s.3 s.4 s.5)
+      (λ o. (at.from o, at.to o, at.start o, at.behind_is o, at.end o, at.ahead_is o))
+
+  pub turns_not_at : ¬ CornersTurn p q v x y z → ¬ TurnsNearer points m i j e
+  turns_not_at = subst (λ (s : Point × Point × Point × Point × Point × Point).
+      ¬ CornersTurn s.0 s.1 s.2 s.3 s.4 s.5)
+      (λ o. (at.from o, at.to o, at.start o, at.behind_is o, at.end o, at.ahead_is o))
+
+  -- and which way the edge that is made goes
+  way_at : (r : Option ℕ) → IsWayBetween p q x z e r → IsWayMade points m i j e r
+  way_at r = subst (λ (s : Point × Point × Point × Point). IsWayBetween s.0 s.1 s.2 s.3 e r)
+      (λ o. (at.from o, at.to o, at.behind_is o, at.ahead_is o))
 
 -- ---- the loop
 -- the edges that cross are listed still, and those that came to wait cannot be turned
@@ -182,10 +213,16 @@ module _ {V D U F : Type 0} {at : V → Point} {c : Contents V D U F} {i j round
   -- one is found in the next round
   pub round_finds : {now new : CrossingLists} → IsSeeking (map at c.vertices) c i j begun now
       → KeepRoom now new → (e : ℕ) → now.unseen.items ≡ new.unseen.items ++ e ∷ []
-      → new.waiting.items ≡ now.waiting.items → TurnsNearer (map at c.vertices) c.mesh i j e
-      → IsToTurn (map at c.vertices) c i j e new × KeepRoom was new
-  round_finds seeking step e popped waiting can = (
-    seeking_takes seeking step e popped waiting can,
+      → new.waiting.items ≡ now.waiting.items → (way : Option ℕ) → {p q v x y z : Point}
+      → AreCorners (map at c.vertices) c.mesh i j e p q v x y z
+      → CornersTurn p q v x y z × IsWayBetween p q x z e way
+      → (IsToTurn (map at c.vertices) c i j e new × IsWayMade (map at c.vertices) c.mesh i j e way)
+      × KeepRoom was new
+  round_finds seeking step e popped waiting way corners told = (
+    (
+      seeking_takes seeking step e popped waiting (turns_at corners told.0),
+      way_at corners way told.1,
+    ),
     room_on before.room (room_on seeking.room step),
   )
 

@@ -1,8 +1,9 @@
 -- Points strictly within segments, and the points of vertices.
--- Lemmas: not_start, not_end, nested, in_map, of_map, are_in_mesh, placed_apart.
+-- Notions: AreInMesh; not_start, not_end, nested, in_map, of_map, are_in_mesh, corners_covered,
+-- placed_apart.
 use Rattle.std.proofs.Common.{◌≡◌, ◌⊎◌, ℕ, ◌<◌, List, length, map, sym, subst, arith}
 use mathlib.Core.Logic.{inl, inr}
-use Rattle.std.specs.Prelude.{ℤ, pos, ◌<ℤ◌}
+use Rattle.std.specs.Prelude.{ℤ, pos, ◌<ℤ◌, All, Contains}
 use Rattle.std.proofs.lemmas.Int.{ints}
 use Rattle.std.proofs.lemmas.List.{length-map}
 use Rattle.delaunay_lines.specs.half_edge_mesh.Contents.{Contents}
@@ -17,8 +18,9 @@ use Rattle.delaunay_lines.proofs.plane_tiling.Edges.{within_on}
 use Rattle.delaunay_lines.proofs.plane_segments.Constraints.Pieces.{on_of_mean}
 use Rattle.delaunay_lines.specs.plane_segments.Constraints.{ArePlacedApart}
 use Rattle.delaunay_lines.proofs.plane.Signs.{less_through}
+use Rattle.delaunay_lines.proofs.delaunay_legalization_lemmas.Questions.{covered_in}
 use Rattle.delaunay_paths.specs.Lists.{IsOnePiece}
-use Rattle.delaunay_paths.specs.Turning.{AreInMesh}
+use Rattle.delaunay_paths.specs.Turning.{AreCovered}
 
 -- ---- points strictly within a segment
 module _ (a b : Point) (apart : ¬ (a ≡ b)) where
@@ -82,6 +84,12 @@ module _ {V : Type 0} (at : V → Point) (vs : List V) where
   pub of_map : (k : ℕ) → k < length (map at vs) → k < length vs
   of_map k h = subst (λ (n : ℕ). k < n) (length-map vs at) h
 
+-- directed edge e and the ends of the segment from vertex i to vertex j are in the mesh
+pub record AreInMesh {V D U F : Type 0} (c : Contents V D U F) (i j e : ℕ) : Type 0 where
+  pub edge : e < length c.directed
+  pub from : i < length c.vertices
+  pub to : j < length c.vertices
+
 -- an edge and the ends of a piece are in the mesh
 pub are_in_mesh : {V D U F : Type 0} (at : V → Point) {c : Contents V D U F} {i j e : ℕ}
     → IsOnePiece (map at c.vertices) c i j → e < length c.mesh.half_edges → AreInMesh c i j e
@@ -90,6 +98,23 @@ are_in_mesh at {c = c} {i = i} {j = j} {e = e} piece within = record {
   from = of_map at c.vertices i piece.free.first;
   to = of_map at c.vertices j piece.free.second;
 }
+
+-- points of the mesh are covered where all its points are sites
+pub corners_covered : {IsCovered IsSite : Point → Type 0} (points : List Point)
+    {p q v x y z : Point} → ((r : Point) → IsSite r → IsCovered r) → All IsSite points
+    → Contains points p → Contains points q → Contains points v → Contains points x
+    → Contains points y → Contains points z → AreCovered IsCovered p q v x y z
+corners_covered {IsCovered = IsCovered} {IsSite = IsSite} points covers sites p q v x y z = record {
+  from = at p;
+  to = at q;
+  start = at v;
+  behind = at x;
+  end = at y;
+  ahead = at z;
+}
+  where
+    at : {r : Point} → Contains points r → IsCovered r
+    at {r = r} there = covered_in IsCovered IsSite covers points r sites there
 
 -- no two points of a mesh are the same
 pub placed_apart : (points : List Point) (faces : List Face) (outer : List (ℕ × ℕ))

@@ -5,11 +5,11 @@ ghost use Rattle.delaunay_paths.specs.Leaving.{IsWorkList};
 ghost use Rattle.delaunay_paths.specs.Lists.{AreToTurn, HasAsEdge, IsToTurn, KeepRoom, TurnsOne};
 
 use crate::crossing::CrossingLists;
-use crate::nearer::turning_at;
+use crate::nearer::Turning;
 use delaunay_lines::delaunay_core::math::PlaneTests;
 use delaunay_lines::delaunay_core::point::HasPosition;
-use delaunay_lines::delaunay_legalization::{EdgeSet, Sides, push_side, push_sides};
-use delaunay_lines::half_edge_mesh::{Dcel, FixedDirectedEdgeHandle, FixedVertexHandle};
+use delaunay_lines::delaunay_legalization::{EdgeSet, Sides, position_of, push_side, push_sides};
+use delaunay_lines::half_edge_mesh::{Dcel, FixedDirectedEdgeHandle, FixedVertexHandle, MeshViews};
 
 // Takes out an edge that crosses the segment between two vertices with none strictly between, and
 // can be turned towards it, and tells in which direction the edge that is made crosses from the
@@ -32,7 +32,16 @@ pub(crate) fn next_turn<V: HasPosition, DE, UE, F, P: PlaneTests<V::Scalar>>(
     // Where none of those still to be seen can be turned, all that wait are seen again.
     for _ in 0..2u32 {
         while let Some(edge) = lists.unseen.pop() {
-            let turning = turning_at(dcel, edge, from, to, tests);
+            let here = dcel.directed_edge(edge);
+            let turning = Turning {
+                from: position_of(dcel, from),
+                to: position_of(dcel, to),
+                start: position_of(dcel, here.from().fix()),
+                behind: position_of(dcel, here.rev().prev_from().fix()),
+                end: position_of(dcel, here.next().from().fix()),
+                ahead: position_of(dcel, here.prev_from().fix()),
+                tests,
+            };
             if let Some(way) = turning.way_made(edge) {
                 return Some((edge, way));
             }

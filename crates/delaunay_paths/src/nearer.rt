@@ -1,28 +1,26 @@
 //! Whether an edge that crosses a segment can be turned towards it, and whether the edge that is
 //! made then crosses too.
-ghost use Rattle.std.specs.Prelude.{◌≡◌, ◌↔◌, map, All, IsTrue, MatchOption};
+ghost use Rattle.std.specs.Prelude.{◌↔◌, IsTrue, MatchOption};
 ghost use Rattle.delaunay_lines.specs.plane_segments.Path.{ComesAfterOnRight};
 ghost use Rattle.delaunay_lines.specs.delaunay_core.Place.{place_of};
 ghost use Rattle.delaunay_paths.specs.Crossing.{CornersTurn, IsWayBetween};
-ghost use Rattle.delaunay_paths.specs.Turning.{AreInMesh, corners_round};
 
 use delaunay_lines::delaunay_core::math::PlaneTests;
-use delaunay_lines::delaunay_core::point::{HasPosition, Point2, SpadeNum};
-use delaunay_lines::delaunay_legalization::position_of;
-use delaunay_lines::half_edge_mesh::{Dcel, FixedDirectedEdgeHandle, FixedVertexHandle, MeshViews};
+use delaunay_lines::delaunay_core::point::{Point2, SpadeNum};
+use delaunay_lines::half_edge_mesh::FixedDirectedEdgeHandle;
 use std::marker::Model;
 
 // A segment, and the corners round an edge from `start` to `end`, of which one is ahead of it, on
 // its left, and one behind it. The tests cover all of them.
 #[derive(Drop)]
 pub(crate) struct Turning<'a, S: SpadeNum, P: PlaneTests<S>> {
-    from: Point2<S>,
-    to: Point2<S>,
-    start: Point2<S>,
-    behind: Point2<S>,
-    end: Point2<S>,
-    ahead: Point2<S>,
-    tests: &'a P,
+    pub(crate) from: Point2<S>,
+    pub(crate) to: Point2<S>,
+    pub(crate) start: Point2<S>,
+    pub(crate) behind: Point2<S>,
+    pub(crate) end: Point2<S>,
+    pub(crate) ahead: Point2<S>,
+    pub(crate) tests: &'a P,
 }
 
 impl<'a, S: SpadeNum, P: PlaneTests<S>> Model for Turning<'a, S, P> {
@@ -101,30 +99,5 @@ impl<'a, S: SpadeNum, P: PlaneTests<S>> Turning<'a, S, P> {
             }
         }
         Some(None)
-    }
-}
-
-// An edge of a mesh and the segment between two of its vertices.
-pub(crate) fn turning_at<'a, V: HasPosition, DE, UE, F, P: PlaneTests<V::Scalar>>(
-    dcel: &Dcel<V, DE, UE, F>,
-    edge: FixedDirectedEdgeHandle,
-    from: FixedVertexHandle,
-    to: FixedVertexHandle,
-    tests: &'a P,
-) -> Turning<'a, V::Scalar, P>
-    requires within { AreInMesh dcel.now from to edge }
-    requires sites { All (P.sites tests.now) (map V.place dcel.now.vertices) }
-    ensures { result ≡
-        corners_round (map V.place dcel.now.vertices) dcel.now.mesh from to edge tests.now }
-{
-    let edge = dcel.directed_edge(edge);
-    Turning {
-        from: position_of(dcel, from),
-        to: position_of(dcel, to),
-        start: position_of(dcel, edge.from().fix()),
-        behind: position_of(dcel, edge.rev().prev_from().fix()),
-        end: position_of(dcel, edge.next().from().fix()),
-        ahead: position_of(dcel, edge.prev_from().fix()),
-        tests,
     }
 }

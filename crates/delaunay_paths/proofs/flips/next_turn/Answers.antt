@@ -1,10 +1,13 @@
 use Rattle.std.proofs.Common.{map, refl}
+use Rattle.delaunay_lines.specs.delaunay_core.Place.{place_of}
 use Rattle.delaunay_paths.proofs.MovedEdges.{can_step, can_wait, longer, shorter}
-use Rattle.delaunay_paths.proofs.Seeking.{HaveSeen, going_back_begins, going_back_goes_on}
-use Rattle.delaunay_paths.proofs.Seeking.{round_ends, round_finds, rounds_begin, seeking_begins}
-use Rattle.delaunay_paths.proofs.Seeking.{seeking_ends, seeking_goes_on, seeking_within}
+use Rattle.delaunay_paths.proofs.Seeking.{AreCorners, HaveSeen, going_back_begins}
+use Rattle.delaunay_paths.proofs.Seeking.{going_back_goes_on, round_ends, round_finds, rounds_begin}
+use Rattle.delaunay_paths.proofs.Seeking.{seeking_begins, seeking_ends, seeking_goes_on}
+use Rattle.delaunay_paths.proofs.Seeking.{seeking_within, turns_not_at}
+use Rattle.delaunay_paths.proofs.Walking.{corners_covered}
 use Rattle.delaunay_paths.proofs.flips.next_turn.Given.{Over}
-use Rattle.delaunay_paths.proofs.flips.next_turn.Goals.{In_default}
+use Rattle.delaunay_paths.proofs.flips.next_turn.Goals.{After-position_of-in-Some-5, In_default}
 use Rattle.delaunay_paths.proofs.flips.next_turn.Goals as goal
 
 pub loop-init : goal.loop-init
@@ -14,18 +17,44 @@ loop-init g c = rounds_begin c.requires.turn
 pub loop-edge-init : goal.loop-edge-init
 loop-edge-init g c = seeking_begins c.loop.invariant.turn
 
-pub turning_at-turning-requires-clause-within : goal.turning_at-turning-requires-clause-within
-turning_at-turning-requires-clause-within g c =
-    seeking_within _ c.loop-edge.invariant _ _ c.in-Some.ensures.items
+pub directed_edge-here-requires : goal.directed_edge-here-requires
+directed_edge-here-requires g c =
+    (seeking_within _ c.loop-edge.invariant _ _ c.in-Some.ensures.items).edge
+
+pub position_of-requires : goal.position_of-requires
+position_of-requires g c =
+    (seeking_within _ c.loop-edge.invariant _ _ c.in-Some.ensures.items).from
+
+pub position_of-requires-in-Some : goal.position_of-requires-in-Some
+position_of-requires-in-Some g c =
+    (seeking_within _ c.loop-edge.invariant _ _ c.in-Some.ensures.items).to
+
+pub invariant_of-turning : goal.invariant_of-turning
+invariant_of-turning g c =
+    corners_covered _ (g.met.P.PlaneTests.sites_are_covered c.args.tests.now) c.requires.sites
+    c.position_of.ensures.listed c.position_of-in-Some.ensures.listed
+    c.position_of-in-Some-2.ensures.listed c.position_of-in-Some-3.ensures.listed
+    c.position_of-in-Some-4.ensures.listed c.position_of-in-Some-5.ensures.listed
+
+-- the corners are those round the edge
+corners : (g : Over) (c : After-position_of-in-Some-5 g) →
+    let place = place_of g.V.Scalar.SpadeNum.whole in
+    AreCorners (map g.V.HasPosition.place c.args.dcel.now.vertices) c.args.dcel.now.mesh c.args.from
+    c.args.to c.in-Some.edge (place c.position_of.result) (place c.position_of-in-Some.result)
+    (place c.position_of-in-Some-2.result) (place c.position_of-in-Some-3.result)
+    (place c.position_of-in-Some-4.result) (place c.position_of-in-Some-5.result)
+corners g c =
+    record { from = cc; to = cc; start = cc; behind_is = cc; end = cc; ahead_is = cc }
 
 pub returns-in-Some-way_made : goal.returns-in-Some-way_made
 returns-in-Some-way_made g c =
-    let told = rw c.turning_at-turning.ensures at c.in-Some-way_made.ensures in
     let found = round_finds c.loop.invariant
     {new = record { waiting = c.loop-edge.lists.waiting; unseen = c.pop.new.self }}
     c.loop-edge.invariant (record { waiting = refl; unseen = c.pop.ensures.capacity }) _
-    c.in-Some.ensures.items refl told.0 in
-    record { found = (found.0, told.1); room = found.1 }
+    c.in-Some.ensures.items refl c.in-Some-way_made.way
+    (corners g (goal.at.returns-in-Some-way_made g c).After-position_of-in-Some-5)
+    c.in-Some-way_made.ensures in
+    record { found = found.0; room = found.1 }
 
 pub push_reserved-requires : goal.push_reserved-requires
 push_reserved-requires g c =
@@ -37,7 +66,8 @@ loop-edge-preserved g c =
     c.loop-edge.invariant
     (record { waiting = c.push_reserved.ensures.capacity; unseen = c.pop.ensures.capacity }) _
     c.in-Some.ensures.items c.push_reserved.ensures.items
-    (rw c.turning_at-turning.ensures at c.in_default-way_made.ensures)
+    (turns_not_at (corners g (goal.at.loop-edge-preserved g c).After-position_of-in-Some-5)
+    c.in_default-way_made.ensures)
 
 pub loop-edge-smaller : goal.loop-edge-smaller
 loop-edge-smaller g c = shorter _ _ (longer _ _ _ c.in-Some.ensures.items)
