@@ -102,8 +102,8 @@ module _ {V D U F : Type 0} (place : V → Point) (constraints : List U → List
       (λ e. absurd (ok_is_no_error index OutOfIndexes e)),
       (λ h. absurd (ok_is_no_error room OutOfIndexes (full.1 h.2))),
     );
-    ok = inserted place constraints old new value apart {E = InsertionError} (Ok index) appends.is appends.vertices
-        appends.splits;
+    ok = inserted place constraints old new value apart {E = InsertionError} (Ok index) appends.is
+        appends.vertices appends.splits;
     replaced = λ known. absurd (is_unknown apart known);
     outer = appends.«data».outer;
     «data» = appends.«data»;
@@ -118,8 +118,10 @@ module _ {V D U F : Type 0} (place : V → Point) (constraints : List U → List
       → ¬ IsErrOf {T = R} {E = InsertionError} (Err e) TooLarge → new ≡ old
       → InsertsVertex place constraints value (Err e) old new
   refused e near apart full near_enough same = record {
-    too_large =
-        ((λ h. absurd (near_enough (ap Err (same_error e TooLarge h)))), (λ far. absurd (far near)));
+    too_large = (
+      (λ h. absurd (near_enough (ap Err (same_error e TooLarge h)))),
+      (λ far. absurd (far near)),
+    );
     known = λ _ known. absurd (is_unknown apart known);
     full = (
       (λ h. (near, is_unknown apart, full.0 (ap Err (same_error e OutOfIndexes h)))),
@@ -165,7 +167,8 @@ module _ {V D U F : Type 0} {place : V → Point} (marks : U → Bool) {constrai
   appends {new = new} {more = more} located put turned = record {
     is = put.takes.is;
     vertices = ap (λ c. c.vertices) turned.contents ∙ put.takes.vertices;
-    «data» = appended_keeps old mid new kept put.takes turned.contents turned.indexes turned.legal.kept;
+    «data» = appended_keeps old mid new kept put.takes turned.contents turned.indexes
+        turned.legal.kept;
     splits = λ i j. (
       (λ h. (put.splits i j).0 (subst (λ (ps : List (ℕ × ℕ)). Joins ps i j) turned.constraints h)),
       (λ x. subst (λ (ps : List (ℕ × ℕ)). Joins ps i j) (sym turned.constraints)

@@ -171,8 +171,8 @@ bare_line points m bare (inl l) = absurd (l.some_face (empty_list (faces_of m)
 bare_line points m bare (inr l) = l
 
 -- two points are on a line
-pub few_on_line : (points : List Point) (faces : List Face) (outer : List (ℕ × ℕ)) → length points ≤ 2
-    → IsMesh points faces outer → (faces ≡ []) × LineMesh points outer
+pub few_on_line : (points : List Point) (faces : List Face) (outer : List (ℕ × ℕ))
+    → length points ≤ 2 → IsMesh points faces outer → (faces ≡ []) × LineMesh points outer
 few_on_line points faces outer few (inl m) =
     let s = by_signs points faces outer m in
     let c = s.corners s.some_face.0 s.some_face.1 in

@@ -127,5 +127,6 @@ legalize_vertex-requires g c =
 pub returns-clause-appends : goal.returns-clause-appends
 returns-clause-appends g c =
     appends _ g.met.M.ConstraintMarker.constraints_are_marked c.requires.can.legal.kept
-    c.requires.can.located (put_in g (goal.at.returns-clause-appends g c).After-legalize_vertex-arg-3-1)
+    c.requires.can.located
+    (put_in g (goal.at.returns-clause-appends g c).After-legalize_vertex-arg-3-1)
     c.legalize_vertex.ensures.legalizes
