@@ -14,7 +14,8 @@ returns-then-not-is_ascii_digit-clause-value c = index_from _ None tt λ n h.
     cc
 
 pub overflow_mul-number : goal.overflow_mul-number
-overflow_mul-number c = omega (arith, value_lt 17 c.loop-digit.invariant (omega arith) (omega arith))
+overflow_mul-number c =
+    omega (arith, value_lt 17 c.loop-digit.invariant (omega arith) (omega arith))
 
 pub overflow_add-number : goal.overflow_add-number
 overflow_add-number c =
