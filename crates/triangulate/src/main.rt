@@ -7,7 +7,7 @@ use std::io;
 use std::io::{BufReader, Input, Read};
 use std::process::ExitCode;
 use std::rt::Env;
-use triangulate_run::fault::{RunError, USAGE, exit_status_of, fault_text};
+use triangulate_run::fault::{RunError, USAGE, fault_text};
 use triangulate_run::session::run;
 use triangulate_run::sheet::{Sheet, letter_named};
 use triangulate_watched::Watched;
@@ -54,8 +54,11 @@ fn main(rt: HostRuntime) -> ExitCode {
         Ok(reader) => answer_all(&rt, sheet, reader),
         Err(_) => answer_all(&rt, sheet, rt.reader()),
     };
-    if let Err(fault) = &outcome {
-        let _ = rt.eprintln(fault_text(fault));
+    match outcome {
+        Ok(()) => ExitCode::SUCCESS,
+        Err(fault) => {
+            let _ = rt.eprintln(fault_text(&fault));
+            ExitCode::FAILURE
+        }
     }
-    ExitCode::from(exit_status_of(&outcome))
 }

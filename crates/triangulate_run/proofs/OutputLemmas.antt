@@ -1,7 +1,8 @@
 -- Texts that are written one after another.
--- Lemmas: appends_more, appends_keep, appends_nil, part_behind, part_longer, passes_nil,
--- passes_more, passes_part, passes_at, part_at, part_before, puts_behind, puts_direct, writes_held,
--- writes_flushed, first_fails, second_fails, sends_same, part_same.
+-- Lemmas: appends_more, appends_keep, appends_nil, part_behind, part_longer, held_written,
+-- held_fails, held_more, written_more, after_error, after_success, passes_nil, passes_more,
+-- passes_part, passes_at, part_at, part_before, puts_behind, writes_flushed, first_fails,
+-- second_fails, sends_same, part_same.
 use Rattle.std.proofs.Common.{◌≡◌, [], ◌++◌, ◌∙◌, ◌∷◌, ◌<◌, ◌+◌}
 use Rattle.std.proofs.Common.{ℕ, List, Option, Some, None, sym, ap, append_assoc, append-nil, subst}
 use Rattle.std.proofs.Common.{suc, add-one, length, take, drop, get_or}
@@ -10,8 +11,8 @@ use Rattle.std.proofs.lemmas.Grind.{flat_map-append}
 use Rattle.std.proofs.Math.Seq.{split_at, take-suc}
 use Rattle.std.specs.Io.KnownBytes.{Appends, Keeps}
 use Rattle.triangulate_run.specs.Output.{AppendsPart, Sends}
-use Rattle.std.proofs.Common.{Result, Ok, Err}
-use Rattle.std.specs.Prelude.{MatchResult, OnOk, OnErr}
+use Rattle.std.proofs.Common.{Result, Ok, Err, Bool, true, false}
+use Rattle.std.specs.Prelude.{MatchResult, OnOk, OnErr, is_err}
 
 -- a text that is written behind another one is written with it
 pub appends_more : (a b c : Option (List ℕ)) (s t : List ℕ) → Appends a b s → Appends b c t
@@ -70,6 +71,49 @@ module _ {a b : Option (List ℕ)} where
       → AppendsPart a b (held ++ (s ++ t))
   first_fails held s t x = subst (λ (ys : List ℕ). AppendsPart a b ys) (append_assoc held s t)
       (part_longer t x)
+
+module _ {a b : Option (List ℕ)} {held kept text : List ℕ} (none : held ≡ [])
+    (x : Sends a b held kept text) (c : Option (List ℕ)) where
+  -- where nothing was held before, what is held is written
+  pub held_written : Appends b c kept → Appends a c text
+  held_written wrote = rw (whole_of held text (x.part ++ kept) none x.whole)
+      (appends_more a b c x.part kept x.written wrote)
+
+  -- and where the writer fails at it, a part of the text
+  pub held_fails : AppendsPart b c kept → AppendsPart a c text
+  held_fails part = rw (whole_of held text (x.part ++ kept) none x.whole)
+      (part_behind a b c x.part kept x.written part)
+
+module _ {a : Option (List ℕ)} {held kept s t : List ℕ} (is : s ≡ t) where
+  -- where there is room, the text is held
+  pub held_more : kept ≡ held ++ s → Sends a a held kept t
+  held_more e = rw (← is) record { part = []; whole = sym e; written = appends_nil a }
+
+  -- where there is none, what was held is written, and then the text
+  pub written_more : (b : Option (List ℕ)) {c : Option (List ℕ)} → kept ≡ [] → Appends a b held
+      → Appends b c s → Sends a c held kept t
+  written_more b {c} none first wrote = rw (← is) record {
+    part = held ++ s;
+    whole = sym (append-nil (held ++ s)) ∙ ap (λ ys. (held ++ s) ++ ys) (sym none);
+    written = appends_more a b c held s first wrote;
+  }
+
+module _ {T E X : Type 0} (r : Result T E) {b : Bool} (is : b ≡ is_err r) where
+  -- what holds after an error, by the test for one
+  pub after_error : b ≡ true → OnErr r X → X
+  after_error failed h = at_error r (sym is ∙ failed) h
+    where
+      at_error : (r : Result T E) → is_err r ≡ true → OnErr r X → X
+      at_error (Ok x) e h = cc
+      at_error (Err x) e h = h
+
+  -- and after none
+  pub after_success : b ≡ false → OnOk r X → X
+  after_success fine h = at_success r (sym is ∙ fine) h
+    where
+      at_success : (r : Result T E) → is_err r ≡ false → OnOk r X → X
+      at_success (Ok x) e h = h
+      at_success (Err x) e h = cc
 
 -- nothing was put
 pub passes_nil : (a : Option (List ℕ)) (held : List ℕ) → Sends a a held held []
@@ -139,34 +183,6 @@ module _ {T E : Type 0} (good bad : Type 0) (a b c : Option (List ℕ)) where
       (λ _. AppendsPart a c (held ++ (s ++ t)) × bad)
   puts_behind (Ok y) kept t x (put, works) = (passes_more x put, works)
   puts_behind (Err y) kept t x (part, fails) = (passes_part x t part, fails)
-
-  -- what was held was written, and then the bytes
-  pub puts_direct : (r : Result T E) (held kept bytes : List ℕ) → kept ≡ [] → Appends a b held
-      → MatchResult r (λ _. Appends b c bytes × good) (λ _. AppendsPart b c bytes × bad)
-      → MatchResult r (λ _. Sends a c held kept bytes × good)
-      (λ _. AppendsPart a c (held ++ bytes) × bad)
-  puts_direct (Ok y) held kept bytes none first (wrote, works) = (
-    record {
-      part = held ++ bytes;
-      whole = sym (append-nil (held ++ bytes)) ∙ ap (λ ys. (held ++ bytes) ++ ys) (sym none);
-      written = appends_more a b c held bytes first wrote;
-    },
-    works,
-  )
-  puts_direct (Err y) held kept bytes none first (part, fails) =
-      (part_behind a b c held bytes first part, fails)
-
-  -- what is held at the end is written
-  pub writes_held : (r : Result T E) {held kept text : List ℕ} → held ≡ []
-      → Sends a b held kept text
-      → MatchResult r (λ _. Appends b c kept × good) (λ _. AppendsPart b c kept × bad)
-      → MatchResult r (λ _. Appends a c text × good) (λ _. AppendsPart a c text × bad)
-  writes_held (Ok y) {held} {kept} {text} none x (wrote, works) =
-      let whole = whole_of held text (x.part ++ kept) none x.whole in
-      (rw whole (appends_more a b c x.part kept x.written wrote), works)
-  writes_held (Err y) {held} {kept} {text} none x (part, fails) =
-      let whole = whole_of held text (x.part ++ kept) none x.whole in
-      (rw whole (part_behind a b c x.part kept x.written part), fails)
 
   -- the text is written, and passed on
   pub writes_flushed : (r : Result T E) (text : List ℕ) → Appends a b text → Keeps b c → OnOk r good

@@ -1,16 +1,19 @@
 -- The states of a run, one after another.
--- Notions: IsRunning; consumes_break, kept_more, start, byte_more, line_more, line_fault,
--- end_fault, end_more, read_fault.
+-- Notions: IsRunning; consumes_kept, consumes_first, consumes_break, kept_more, end_none,
+-- end_bad, start, byte_more, line_more, line_fault, end_fault, end_more, read_fault.
 use Rattle.std.proofs.Common.{◌≡◌, ◌≢◌, ◌<◌, ◌≤◌, ◌+◌, [], ◌∷◌, ◌++◌, ◌∙◌, inl, inr}
 use Rattle.std.specs.Prelude.{Result, Ok, Err, IsOk, OnOk, OnErr, ◌↔◌}
 use Rattle.arrayvec.specs.ArrayVec.{ArrayVec}
-use Rattle.std.proofs.Common.{ℕ, true, false, List, Option, Some, None, refl, sym, ap, subst, arith}
-use Rattle.std.proofs.Common.{append_assoc, append-nil, length, length-take}
+use Rattle.std.proofs.Common.{ℕ, Bool, true, false, List, Option, Some, None, refl, sym, ap}
+use Rattle.std.proofs.Common.{append_assoc, append-nil, arith, get_or, length, length-take}
+use Rattle.std.proofs.Common.{subst, take}
 use Rattle.std.specs.List.{flat_map}
-use Rattle.std.specs.Io.KnownBytes.{Appends, Consumes, IsAtEnd}
+use Rattle.std.specs.Io.KnownBytes.{Appends, Consumes, IsAtEnd, Keeps}
 use Rattle.std.proofs.lemmas.Grind.{flat_map-append}
 use Rattle.std.proofs.lemmas.List.Elements.{All-push, All-nil}
-use Rattle.std.proofs.lemmas.List.{length_push, take_all, take-append-le}
+use Rattle.std.proofs.lemmas.Bool.{eqb-true, eqb-false}
+use Rattle.std.proofs.lemmas.List.{length_push, nil_from_length, take_all, take-append-le}
+use Rattle.std.specs.Bool.{◌==◌}
 use Rattle.triangulate_grammar.specs.Grammar.{Spells}
 use Rattle.triangulate_watched.specs.declared.Watched.{Watched}
 use Rattle.triangulate_watched.specs.Watched.{inner_of, has_failed}
@@ -18,8 +21,8 @@ use Rattle.triangulate_run.specs.declared.points.SheetPoint.{SheetPoint}
 use Rattle.triangulate_run.specs.Stage.{Stage, first_stage, Fits}
 use Rattle.triangulate_run.specs.Line.{kept}
 use Rattle.triangulate_run.specs.Output.{AppendsPart}
-use Rattle.triangulate_run.specs.Run.{Cut, IsOneLine, Answers, AnswersAll, IsAllowed, end_text}
-use Rattle.triangulate_run.specs.Run.{RanToEnd, RanToFault, RanInPart}
+use Rattle.triangulate_run.specs.Run.{Cut, IsOneLine, Answers, AnswersAll, IsAllowed, bad_line}
+use Rattle.triangulate_run.specs.Run.{RanToEnd, RanToFault, RanInPart, end_text}
 use Rattle.triangulate_run.proofs.OutputLemmas.{appends_more, appends_nil, part_behind}
 
 -- between two bytes: these lines were read and answered, and this much of the next
@@ -43,6 +46,12 @@ consumes_nil : (a : Option (List ℕ)) → Consumes a a []
 consumes_nil None = tt
 consumes_nil (Some xs) = refl
 
+-- and so it was where the call was refused
+pub consumes_kept : (a b : Option (List ℕ)) → Keeps a b → Consumes a b []
+consumes_kept None b kept = tt
+consumes_kept (Some xs) None kept = absurd kept
+consumes_kept (Some xs) (Some ys) kept = sym kept
+
 -- a text that is read behind another one is read with it
 consumes_more : (a b c : Option (List ℕ)) (s t : List ℕ) → Consumes a b s → Consumes b c t
     → Consumes a c (s ++ t)
@@ -51,6 +60,16 @@ consumes_more (Some xs) None c s t h k = absurd h
 consumes_more (Some xs) (Some ys) None s t h k = absurd k
 consumes_more (Some xs) (Some ys) (Some zs) s t h k =
     h ∙ ap (λ us. s ++ us) k ∙ sym (append_assoc s t zs)
+
+-- where there is room for one byte and some were read, the first was
+pub consumes_first : (a b : Option (List ℕ)) (n : ℕ) (room : List ℕ) (d : ℕ) → n ≢ 0
+    → n ≤ length room → length room ≡ 1 → Consumes a b (take n room)
+    → Consumes a b (get_or room 0 d ∷ [])
+consumes_first a b n (x ∷ []) d some most one h =
+    let all : n ≡ 1 = omega (arith, some, most) in
+    subst (λ (k : ℕ). Consumes a b (take k (x ∷ []))) all h
+consumes_first a b n [] d some most one h = cc
+consumes_first a b n (x ∷ (y ∷ ys)) d some most one h = absurd (omega (arith, one))
 
 -- a byte that is read and equal to 10 is a newline read
 pub consumes_break : (a b : Option (List ℕ)) (byte : ℕ) → byte ≡ 10 → Consumes a b (byte ∷ [])
@@ -95,6 +114,17 @@ answers_whole : {points : List SheetPoint} {old : Stage} {line text : List ℕ} 
 answers_whole {points} {old} {line} {text} {new} whole e answers =
     answers_kept points old whole text new
     (subst (λ (l : List ℕ). Answers points old l text new) e answers)
+
+-- what is written at the end of the input, where nothing is kept of the last line
+pub end_none : (line : List ℕ) {b : Bool} → b ≡ (length line == 0) → b ≡ true → end_text line ≡ []
+end_none line is empty =
+    ap end_text (nil_from_length line (eqb-true (length line) 0 (sym is ∙ empty)))
+
+-- and where something is
+pub end_bad : (line : List ℕ) {b : Bool} → b ≡ (length line == 0) → b ≡ false
+    → end_text line ≡ bad_line
+end_bad [] is some = absurd (eqb-false 0 0 (sym is ∙ some) refl)
+end_bad (byte ∷ line) is some = refl
 
 end_kept : (line : List ℕ) → end_text (kept line) ≡ end_text line
 end_kept [] = refl

@@ -1,9 +1,8 @@
 -- The stages of the two types of triangulations.
--- Lemmas: stage_taken, fits, joins_there, answered_so, walks_there.
+-- Lemmas: stage_taken, fits, joins_there, answered_so.
 use Rattle.std.proofs.Common.{◌≡◌, List, map, refl, ap, subst}
 use Rattle.std.specs.Prelude.{ℕ, ℤ}
 use Rattle.delaunay_edit.specs.plane.Plain.{Unconstrains}
-use Rattle.delaunay_edit.specs.plane.Tiling.{Triangulation}
 use Rattle.delaunay_edit.specs.mesh_embedding.Drawn.{drawn}
 use Rattle.delaunay_edit.specs.delaunay_core.declared.point.Point2.{Point2}
 use Rattle.delaunay_edit.specs.delaunay_legalization.declared.cdt_edge.CdtEdge.{CdtEdge}
@@ -17,7 +16,7 @@ use Rattle.triangulate_grammar.specs.declared.command.Command.TheVariants.{Const
 use Rattle.triangulate_grammar.specs.declared.command.Command.TheVariants.{Nearest, Counts, Faces}
 use Rattle.triangulate_run.specs.declared.points.SheetPoint.{SheetPoint}
 use Rattle.triangulate_run.specs.declared.reply.Reply.{Reply}
-use Rattle.triangulate_run.specs.Answer.{MayAnswer, MayJoin, MayReply, MayWalk}
+use Rattle.triangulate_run.specs.Answer.{MayAnswer, MayJoin, MayReply}
 use Rattle.triangulate_run.specs.Engine.{stage_by}
 use Rattle.triangulate_run.specs.Reply.{reply_text}
 use Rattle.triangulate_run.specs.Stage.{Fits, Stage, position}
@@ -64,11 +63,3 @@ answered_so points old (Nearest p) r new h = (r, h, refl)
 answered_so points old (Line p q) r new h = absurd h
 answered_so points old Counts r new h = (r, h, refl)
 answered_so points old Faces r new h = (r, h, refl)
-
--- what a line meets is the same where its ends are
-pub walks_there : (points : List SheetPoint) (t : Triangulation) (p q u v : Point2 ℤ) → p ≡ u
-    → q ≡ v → (text : List ℕ) → MayWalk points t (position p) (position q) text
-    → MayWalk points t (position u) (position v) text
-walks_there points t p q u v e f text walks =
-    subst (λ (z : Point2 ℤ). MayWalk points t (position u) (position z) text) f
-    (subst (λ (y : Point2 ℤ). MayWalk points t (position y) (position q) text) e walks)

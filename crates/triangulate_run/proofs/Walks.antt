@@ -1,10 +1,10 @@
 -- The items of a line, as they are put one after another.
 -- Notions: PutsSome, PutsEach; puts_begin, puts_one, puts_end, puts_part, line_none,
--- line_first_fails, line_others_fail, line_end_fails, line_passed, walks.
+-- line_first_fails, line_others_fail, line_put, walks.
 use Rattle.std.proofs.Common.{◌≡◌, [], ◌∷◌, ◌++◌, ◌∙◌}
 use Rattle.std.proofs.Common.{ℕ, List, Option, Some, None, refl, sym, ap, subst, append_assoc}
 use Rattle.std.proofs.Common.{append-nil, true, is_some, inl}
-use Rattle.std.specs.Prelude.{ℤ, codes, MatchOption}
+use Rattle.std.specs.Prelude.{ℤ, codes, MatchOption, Result, MatchResult}
 use Rattle.std.specs.List.{flat_map}
 use Rattle.std.proofs.lemmas.Grind.{flat_map-append}
 use Rattle.delaunay_edit.specs.plane.Fraction.{Point, whole}
@@ -20,8 +20,8 @@ use Rattle.triangulate_run.specs.Output.{AppendsPart, Sends}
 use Rattle.triangulate_run.specs.Points.{HoldsAt, IsListed}
 use Rattle.triangulate_run.specs.Reply.{item_text, line_text, next_text}
 use Rattle.triangulate_run.proofs.Insertions.{listed_if_known}
-use Rattle.triangulate_run.proofs.OutputLemmas.{passes_nil, passes_more, passes_part, first_fails}
-use Rattle.triangulate_run.proofs.OutputLemmas.{second_fails}
+use Rattle.triangulate_run.proofs.OutputLemmas.{passes_nil, passes_more, first_fails}
+use Rattle.triangulate_run.proofs.OutputLemmas.{second_fails, puts_behind}
 
 -- of the items that were left, these were put, and those are left
 pub record PutsSome {V D U F P S : Type 0} (at : V → Point) (number : S → ℤ)
@@ -139,21 +139,21 @@ module _ {V D U F P S : Type 0} {at : V → Point} {number : S → ℤ}
           (λ others left. second_fails first (flat_map next_text others) (codes "\n")
           (part others left))
 
-      module _ {d : Option (List ℕ)} {then : List ℕ} (rest : (others : List Item)
+      module _ {then : List ℕ} (rest : (others : List Item)
           → AreLeft at number after others → Sends b c mid then (flat_map next_text others)) where
-        -- so it was where all items were passed on and the writer fails at the end of the line
-        pub line_end_fails : AppendsPart c d (then ++ codes "\n") → (items : List Item)
-            → AreLeft at number it items → AppendsPart a d (held ++ line_text items)
-        line_end_fails part = by_first (λ t. AppendsPart a d (held ++ t))
-            (λ others left. passes_part first (flat_map next_text others ++ codes "\n")
-            (passes_part (rest others left) (codes "\n") part))
-
-        -- where the end of the line is passed on, the line is
-        pub line_passed : {kept : List ℕ} → Sends c d then kept (codes "\n")
-            → (items : List Item) → AreLeft at number it items
-            → Sends a d held kept (line_text items)
-        line_passed {kept} end = by_first (λ t. Sends a d held kept t)
-            (λ others left. passes_more first (passes_more (rest others left) end))
+        -- where all items were passed on, so is the line with its end, or the writer fails at that
+        pub line_put : {T E : Type 0} (good bad : Type 0) (d : Option (List ℕ))
+            (r : Result T E) (kept : List ℕ)
+            → MatchResult r (λ _. Sends c d then kept (codes "\n") × good)
+            (λ _. AppendsPart c d (then ++ codes "\n") × bad) → (items : List Item)
+            → AreLeft at number it items
+            → MatchResult r (λ _. Sends a d held kept (line_text items) × good)
+            (λ _. AppendsPart a d (held ++ line_text items) × bad)
+        line_put good bad d r kept put = by_first
+            (λ t. MatchResult r (λ _. Sends a d held kept t × good)
+            (λ _. AppendsPart a d (held ++ t) × bad))
+            (λ others left. puts_behind _ _ _ _ _ r _ _ first
+            (puts_behind _ _ _ _ _ r _ _ (rest others left) put))
 
 -- ---- a reply
 -- between points that lookups find, the line list is what the way meets

@@ -7,7 +7,6 @@ pub mod Stage
 pub mod Reply
 pub mod Answer
 pub mod Line
-pub mod Input
 pub mod Output
 pub mod Piece
 pub mod Run

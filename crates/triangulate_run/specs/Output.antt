@@ -41,3 +41,9 @@ Puts contents old new held kept result text = MatchResult result
     × (has_failed new ≡ false))
     (λ _. AppendsPart (contents (inner_of old)) (contents (inner_of new)) (held ++ text)
     × (has_failed new ≡ true))
+
+-- so it was with a text for which X holds
+abbrev pub PutsSome : {W T E : Type 0} → (W → Option (List ℕ)) → Watched W → Watched W → List ℕ
+    → List ℕ → Result T E → (List ℕ → Type 0) → Type 0
+PutsSome contents old new held kept result X = (text : List ℕ) × X text
+    × Puts contents old new held kept result text

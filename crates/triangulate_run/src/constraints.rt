@@ -4,66 +4,67 @@ ghost use Rattle.triangulate_watched.specs.Watched.{has_failed};
 ghost use Rattle.delaunay_edit.specs.Constrained.{none, constraint_edges};
 ghost use Rattle.triangulate_run.specs.Answer.{MayJoin, MayRelease};
 ghost use Rattle.triangulate_run.specs.Engine.{stage_by, ends_in, HasSites};
-ghost use Rattle.triangulate_run.specs.Output.{Writes, WritesSome};
+ghost use Rattle.triangulate_run.specs.Output.{Puts, PutsSome};
 ghost use Rattle.triangulate_run.specs.Reply.{path_text};
 
 use crate::engine::{Constrained, Plain};
 use crate::line::put_ends;
-use crate::output::{Held, Written, put_bytes, write_all};
-use crate::reply::{Reply, write_reply};
+use crate::output::Piece::Text;
+use crate::output::{Held, Written, put_pieces};
+use crate::reply::{Reply, put_reply};
 use spade_delaunay::handles::{FixedDirectedEdgeHandle, FixedVertexHandle};
 use spade_delaunay::{HintGenerator, InsertionError, PlaneTests, Triangulation};
 use std::io::Write;
 use triangulate_watched::Watched;
 
-/// Adds the path between two vertices, and writes its edges.
-pub(crate) fn constrain_and_write<L: HintGenerator<i64>, P: PlaneTests<i64>, W: Write>(
+/// Adds the path between two vertices, and puts its edges behind what is held.
+pub(crate) fn constrain<L: HintGenerator<i64>, P: PlaneTests<i64>, W: Write>(
     triangulation: &mut Constrained<L>,
     tests: &P,
     from: FixedVertexHandle,
     to: FixedVertexHandle,
     writer: &mut Watched<W>,
+    held: &mut Held,
 ) -> Written
     requires from_in { from < length triangulation.old.vertices }
     requires to_in { to < length triangulation.old.vertices }
     requires sites { HasSites (P.sites tests.now) (stage_by constraint_edges triangulation.old) }
     requires works { has_failed writer.old ≡ false }
     ensures sites { HasSites (P.sites tests.now) (stage_by constraint_edges triangulation.new) }
-    ensures answered { WritesSome W.contents writer.old writer.new result
-        (λ text. MayJoin (stage_by constraint_edges triangulation.old) from to text
+    ensures answered { PutsSome W.contents writer.old writer.new held.old.items held.new.items
+        result (λ text. MayJoin (stage_by constraint_edges triangulation.old) from to text
         (stage_by constraint_edges triangulation.new)) }
 {
     match triangulation.try_add_constraint(from, to, tests) {
         Ok(edges) => {
             if edges.is_empty() {
-                return write_reply(writer, &Reply::NoPath);
+                return put_reply(writer, held, &Reply::NoPath);
             }
             triangulation.recall_invariant();
-            write_path(triangulation, edges.as_slice(), writer)
+            put_path(triangulation, edges.as_slice(), writer, held)
         }
-        Err(_) => write_reply(writer, &Reply::Refused(InsertionError::OutOfMemory)),
+        Err(_) => put_reply(writer, held, &Reply::Refused(InsertionError::OutOfMemory)),
     }
 }
 
-/// Writes the edges of a path.
-fn write_path<L: HintGenerator<i64>, W: Write>(
+/// Puts the edges of a path.
+fn put_path<L: HintGenerator<i64>, W: Write>(
     triangulation: &Constrained<L>,
     path: &[FixedDirectedEdgeHandle],
     writer: &mut Watched<W>,
+    held: &mut Held,
 ) -> Written
     requires within { All (λ h. h < length triangulation.now.directed) path.now }
     requires works { has_failed writer.old ≡ false }
-    ensures { Writes W.contents writer.old writer.new result
+    ensures { Puts W.contents writer.old writer.new held.old.items held.new.items result
         (path_text (ends_in triangulation.now.mesh path.now)) }
 {
-    let mut held = Held::new();
-    put_bytes(writer, &mut held, b"edges")?;
+    put_pieces(writer, held, &[Text("edges")])?;
     for edge in path {
         let edge = triangulation.directed_edge(*edge);
-        put_ends(writer, &mut held, "", " ", "-", edge)?;
+        put_ends(writer, held, "", " ", "-", edge)?;
     }
-    put_bytes(writer, &mut held, b"\n")?;
-    write_all(writer, held.as_slice())
+    put_pieces(writer, held, &[Text("\n")])
 }
 
 /// Releases the constraint between two vertices.

@@ -3,18 +3,17 @@ ghost use Rattle.std.specs.Prelude.{◌≡◌, true, false, All, MatchOption};
 ghost use Rattle.triangulate_watched.specs.Watched.{has_failed};
 ghost use Rattle.triangulate_run.specs.Stage.{position, first_stage, Fits};
 ghost use Rattle.triangulate_run.specs.Points.{place};
-ghost use Rattle.triangulate_run.specs.Output.{WritesSome};
+ghost use Rattle.triangulate_run.specs.Output.{PutsSome};
 ghost use Rattle.triangulate_run.specs.Engine.{stage_of, IsEngineReady};
-ghost use Rattle.triangulate_run.specs.Answer.{AreVertices, IsReplied, MayAnswer, MayCount};
-ghost use Rattle.triangulate_run.specs.Answer.{MayInsert, MayJoin, MayList, MayLocate, MayMeasure};
-ghost use Rattle.triangulate_run.specs.Answer.{MayRelease, MayRemove, MayReply, MayWalk, point_at};
+ghost use Rattle.triangulate_run.specs.Answer.{AreVertices, IsReplied, MayAnswer, MayCount, MayJoin};
+ghost use Rattle.triangulate_run.specs.Answer.{MayMeasure, MayRelease, MayReply, MayWalk, point_at};
 
-use crate::constraints::{constrain_and_write, release, release_free};
-use crate::line::write_line;
+use crate::constraints::{constrain, release, release_free};
+use crate::line::put_line;
 use crate::nearest::{distance_reply, nearest_of_all, nearest_of_plain};
-use crate::output::Written;
+use crate::output::{Held, Written};
 use crate::points::{SheetPoint, index_of};
-use crate::reply::{Reply, write_reply};
+use crate::reply::{Reply, put_reply};
 use crate::shared::{count_reply, faces, insert, locate, remove, vertices_at};
 use spade_delaunay::handles::FixedVertexHandle;
 use spade_delaunay::{
@@ -79,23 +78,28 @@ impl<'a, P: PlaneTests<i64>, L: HintGenerator<i64>> PointEngine<'a, P, L> {
         }
     }
 
-    /// Does what a command asks for, and writes what there is to tell.
-    pub(crate) fn answer<W: Write>(&mut self, command: Command, writer: &mut Watched<W>) -> Written
+    /// Does what a command asks for, and puts what there is to tell behind what is held.
+    pub(crate) fn answer<W: Write>(
+        &mut self,
+        command: Command,
+        writer: &mut Watched<W>,
+        held: &mut Held,
+    ) -> Written
         requires ready { IsEngineReady P.covered P.sites self.old }
         requires works { has_failed writer.old ≡ false }
         ensures ready { IsEngineReady P.covered P.sites self.new }
         ensures points { self.new.points ≡ self.old.points }
         ensures fits { Fits (stage_of self.new.triangulation) }
-        ensures answered { WritesSome W.contents writer.old writer.new result
-            (λ text. MayAnswer self.old.points.now (stage_of self.old.triangulation) command text
-            (stage_of self.new.triangulation)) }
+        ensures answered { PutsSome W.contents writer.old writer.new held.old.items held.new.items
+            result (λ text. MayAnswer self.old.points.now (stage_of self.old.triangulation) command
+            text (stage_of self.new.triangulation)) }
     {
         let answered = match command {
-            Command::Constrain(from, to) => self.constrain(from, to, writer),
-            Command::Line(from, to) => self.line(placed_point(from), placed_point(to), writer),
+            Command::Constrain(from, to) => self.constrain(from, to, writer, held),
+            Command::Line(from, to) => self.line(from, to, writer, held),
             _ => {
                 let reply = self.reply_to(command);
-                write_reply(writer, &reply)
+                put_reply(writer, held, &reply)
             }
         };
         self.recall_invariant();
@@ -119,43 +123,21 @@ impl<'a, P: PlaneTests<i64>, L: HintGenerator<i64>> PointEngine<'a, P, L> {
             result (stage_of self.new.triangulation) }
     {
         match command {
-            Command::Insert(place) => self.insert(placed_point(place)),
-            Command::Remove(index) => self.remove(index),
+            Command::Insert(Coordinates { x, y }) => on_either!(&mut self.triangulation, it => {
+                insert(it, self.tests, self.points, Point2 { x, y })
+            }),
+            Command::Remove(index) => {
+                on_either!(&mut self.triangulation, it => remove(it, self.tests, index))
+            }
             Command::Release(from, to) => self.release(from, to),
-            Command::Locate(place) => self.locate(placed_point(place)),
-            Command::Nearest(place) => self.nearest(placed_point(place)),
+            Command::Locate(Coordinates { x, y }) => on_either!(&self.triangulation, it => {
+                locate(it, self.tests, self.points, Point2 { x, y })
+            }),
+            Command::Nearest(Coordinates { x, y }) => self.nearest(Point2 { x, y }),
             Command::Counts => self.counts(),
-            Command::Faces => self.faces(),
+            Command::Faces => on_either!(&self.triangulation, it => faces(it, self.alloc)),
             Command::Constrain(_, _) | Command::Line(_, _) => Reply::BadLine,
         }
-    }
-
-    fn insert(&mut self, point: Point2<i64>) -> Reply
-        requires ready { IsEngineReady P.covered P.sites self.old }
-        ensures ready { IsEngineReady P.covered P.sites self.new }
-        ensures points { self.new.points ≡ self.old.points }
-        ensures reply { MayInsert self.old.points.now (stage_of self.old.triangulation) point result
-            (stage_of self.new.triangulation) }
-    {
-        on_either!(&mut self.triangulation, it => insert(it, self.tests, self.points, point))
-    }
-
-    fn remove(&mut self, index: u64) -> Reply
-        requires ready { IsEngineReady P.covered P.sites self.old }
-        ensures ready { IsEngineReady P.covered P.sites self.new }
-        ensures points { self.new.points ≡ self.old.points }
-        ensures reply { MayRemove (stage_of self.old.triangulation) index result
-            (stage_of self.new.triangulation) }
-    {
-        on_either!(&mut self.triangulation, it => remove(it, self.tests, index))
-    }
-
-    fn locate(&self, point: Point2<i64>) -> Reply
-        requires ready { IsEngineReady P.covered P.sites self.now }
-        ensures { MayLocate self.now.points.now (stage_of self.now.triangulation).triangulation
-            (position point) result }
-    {
-        on_either!(&self.triangulation, it => locate(it, self.tests, self.points, point))
     }
 
     fn nearest(&self, point: Point2<i64>) -> Reply
@@ -184,12 +166,6 @@ impl<'a, P: PlaneTests<i64>, L: HintGenerator<i64>> PointEngine<'a, P, L> {
         }
     }
 
-    fn faces(&self) -> Reply
-        ensures reply { MayList (stage_of self.now.triangulation).triangulation result }
-    {
-        on_either!(&self.triangulation, it => faces(it, self.alloc))
-    }
-
     fn release(&mut self, from: u64, to: u64) -> Reply
         requires ready { IsEngineReady P.covered P.sites self.old }
         ensures ready { IsEngineReady P.covered P.sites self.new }
@@ -206,38 +182,57 @@ impl<'a, P: PlaneTests<i64>, L: HintGenerator<i64>> PointEngine<'a, P, L> {
         }
     }
 
-    fn constrain<W: Write>(&mut self, from: u64, to: u64, writer: &mut Watched<W>) -> Written
+    fn constrain<W: Write>(
+        &mut self,
+        from: u64,
+        to: u64,
+        writer: &mut Watched<W>,
+        held: &mut Held,
+    ) -> Written
         requires ready { IsEngineReady P.covered P.sites self.old }
         requires works { has_failed writer.old ≡ false }
         ensures ready { IsEngineReady P.covered P.sites self.new }
         ensures points { self.new.points ≡ self.old.points }
-        ensures answered { WritesSome W.contents writer.old writer.new result
-            (λ text. MayJoin (stage_of self.old.triangulation) from to text
+        ensures answered { PutsSome W.contents writer.old writer.new held.old.items held.new.items
+            result (λ text. MayJoin (stage_of self.old.triangulation) from to text
             (stage_of self.new.triangulation)) }
     {
         let Some((from, to)) = self.vertices_at(from, to) else {
-            return write_reply(writer, &Reply::NoVertex);
+            return put_reply(writer, held, &Reply::NoVertex);
         };
         self.take_constraints();
         match &mut self.triangulation {
             Either::Plain(_) => {
-                write_reply(writer, &Reply::Refused(InsertionError::OutOfMemory))
+                put_reply(writer, held, &Reply::Refused(InsertionError::OutOfMemory))
             }
             Either::Constrained(constrained) => {
-                constrain_and_write(constrained, self.tests, from, to, writer)
+                constrain(constrained, self.tests, from, to, writer, held)
             }
         }
     }
 
-    fn line<W: Write>(&self, from: Point2<i64>, to: Point2<i64>, writer: &mut Watched<W>) -> Written
+    fn line<W: Write>(
+        &self,
+        from: Coordinates,
+        to: Coordinates,
+        writer: &mut Watched<W>,
+        held: &mut Held,
+    ) -> Written
         requires ready { IsEngineReady P.covered P.sites self.now }
         requires works { has_failed writer.old ≡ false }
-        ensures answered { WritesSome W.contents writer.old writer.new result
-            (MayWalk self.now.points.now (stage_of self.now.triangulation).triangulation
-            (position from) (position to)) }
+        ensures answered { PutsSome W.contents writer.old writer.new held.old.items held.new.items
+            result (MayWalk self.now.points.now (stage_of self.now.triangulation).triangulation
+            (position (point_at from)) (position (point_at to))) }
     {
+        let (from, to) = (
+            Point2 {
+                x: from.x,
+                y: from.y,
+            },
+            Point2 { x: to.x, y: to.y },
+        );
         on_either!(&self.triangulation, it => {
-            write_line(it, self.tests, self.points, from, to, writer)
+            put_line(it, self.tests, self.points, from, to, writer, held)
         })
     }
 
@@ -257,27 +252,12 @@ impl<'a, P: PlaneTests<i64>, L: HintGenerator<i64>> PointEngine<'a, P, L> {
         ensures stage { stage_of self.new.triangulation ≡ stage_of self.old.triangulation }
     {
         let empty = Either::Plain(Plain::new(self.alloc));
-        let former = replace(&mut self.triangulation, empty);
-        self.triangulation = with_constraints(former);
+        self.triangulation = match replace(&mut self.triangulation, empty) {
+            Either::Plain(plain) => match Constrained::from_delaunay(plain) {
+                Ok(constrained) => Either::Constrained(constrained),
+                Err(plain) => Either::Plain(plain),
+            },
+            constrained => constrained,
+        };
     }
-}
-
-/// The same with constraints, where memory is not refused.
-fn with_constraints<L: HintGenerator<i64>>(triangulation: Either<L>) -> Either<L>
-    ensures { stage_of result ≡ stage_of triangulation }
-{
-    match triangulation {
-        Either::Plain(plain) => match Constrained::from_delaunay(plain) {
-            Ok(constrained) => Either::Constrained(constrained),
-            Err(plain) => Either::Plain(plain),
-        },
-        constrained => constrained,
-    }
-}
-
-/// The point with these coordinates.
-fn placed_point(place: Coordinates) -> Point2<i64>
-    ensures { result ≡ point_at place }
-{
-    Point2::new(place.x, place.y)
 }

@@ -9,14 +9,14 @@ ghost use Rattle.delaunay_edit.specs.delaunay_lines.Items.{item_in};
 ghost use Rattle.delaunay_edit.specs.delaunay_lines.Walk.{AreLeft, IsReady};
 ghost use Rattle.triangulate_run.specs.Answer.{MayWalk};
 ghost use Rattle.triangulate_run.specs.Engine.{stage_by, IsStageReady};
-ghost use Rattle.triangulate_run.specs.Output.{Puts, WritesSome};
+ghost use Rattle.triangulate_run.specs.Output.{Puts, PutsSome};
 ghost use Rattle.triangulate_run.specs.Reply.{edge_text, item_text, next_text};
 ghost use Rattle.triangulate_run.specs.Stage.{position};
 
 use crate::output::Piece::{Index, Text};
-use crate::output::{Held, Written, put_bytes, put_pieces, write_all};
+use crate::output::{Held, Written, put_pieces};
 use crate::points::{SheetPoint, index_of};
-use crate::reply::{Reply, write_reply};
+use crate::reply::{Reply, put_reply};
 use spade_delaunay::handles::DirectedEdgeHandle;
 use spade_delaunay::{
     EdgeData, HintGenerator, Intersection, LineIntersectionIterator, PlaneTests, Point2,
@@ -25,34 +25,33 @@ use spade_delaunay::{
 use std::io::Write;
 use triangulate_watched::Watched;
 
-/// Writes what the way from one point of the list to another meets, in order.
-pub(crate) fn write_line<L: HintGenerator<i64>, UE, M: EdgeData<UE>, P: PlaneTests<i64>, W: Write>(
+/// Puts what the way from one point of the list to another meets, in order, behind what is held.
+pub(crate) fn put_line<L: HintGenerator<i64>, UE, M: EdgeData<UE>, P: PlaneTests<i64>, W: Write>(
     triangulation: &TriangulationCore<Point2<i64>, (), UE, (), L, M>,
     tests: &P,
     points: &[SheetPoint],
     from: Point2<i64>,
     to: Point2<i64>,
     writer: &mut Watched<W>,
+    held: &mut Held,
 ) -> Written
     requires ready { IsStageReady (P.covered tests.now) (P.sites tests.now) points.now
         (stage_by M.constraints triangulation.now) }
     requires works { has_failed writer.old ≡ false }
-    ensures { WritesSome W.contents writer.old writer.new result
+    ensures { PutsSome W.contents writer.old writer.new held.old.items held.new.items result
         (MayWalk points.now (triangulation_of position triangulation.now) (position from)
         (position to)) }
 {
     if index_of(points, from).is_none() || index_of(points, to).is_none() {
-        return write_reply(writer, &Reply::UnknownPoint);
+        return put_reply(writer, held, &Reply::UnknownPoint);
     }
     let mut line = LineIntersectionIterator::new(triangulation, from, to, tests);
     let Some(first) = line.next() else {
-        return write_all(writer, b"nothing\n");
+        return put_pieces(writer, held, &[Text("nothing\n")]);
     };
-    let mut held = Held::new();
-    put_item(writer, &mut held, "", &first)?;
-    put_items(writer, &mut held, &mut line)?;
-    put_bytes(writer, &mut held, b"\n")?;
-    write_all(writer, held.as_slice())
+    put_item(writer, held, "", &first)?;
+    put_items(writer, held, &mut line)?;
+    put_pieces(writer, held, &[Text("\n")])
 }
 
 /// Puts the items of a line, with a space before each.

@@ -37,34 +37,6 @@ pub(crate) fn write_all<W: Write>(writer: &mut Watched<W>, bytes: &[u8]) -> Writ
     Ok(())
 }
 
-/// Puts the bytes behind what is held.
-pub(crate) fn put_bytes<W: Write>(writer: &mut Watched<W>, held: &mut Held, bytes: &[u8]) -> Written
-    requires works { has_failed writer.old ≡ false }
-    ensures { Puts W.contents writer.old writer.new held.old.items held.new.items result bytes.now }
-{
-    match held.try_extend_from_slice(bytes) {
-        Ok(()) => Ok(()),
-        Err(_) => {
-            write_all(writer, held.as_slice())?;
-            held.clear();
-            write_all(writer, bytes)
-        }
-    }
-}
-
-/// Puts one piece of a reply behind what is held.
-fn put_piece<W: Write>(writer: &mut Watched<W>, held: &mut Held, piece: Piece<'_>) -> Written
-    requires works { has_failed writer.old ≡ false }
-    ensures { Puts W.contents writer.old writer.new held.old.items held.new.items
-        result (text_of piece.entry) }
-{
-    match piece {
-        Piece::Text(text) => put_bytes(writer, held, text.as_bytes()),
-        Piece::Index(index) => put_bytes(writer, held, Buffer::new().format(index).as_bytes()),
-        Piece::Signed(number) => put_bytes(writer, held, Buffer::new().format(number).as_bytes()),
-    }
-}
-
 /// Puts the pieces in a row behind what is held.
 pub(crate) fn put_pieces<W: Write>(
     writer: &mut Watched<W>,
@@ -76,7 +48,17 @@ pub(crate) fn put_pieces<W: Write>(
         result (flat_map text_of pieces.now) }
 {
     for piece in pieces {
-        put_piece(writer, held, *piece)?;
+        let mut buffer = Buffer::new();
+        let text = match *piece {
+            Piece::Text(text) => text,
+            Piece::Index(index) => buffer.format(index),
+            Piece::Signed(number) => buffer.format(number),
+        };
+        if held.try_extend_from_slice(text.as_bytes()).is_err() {
+            write_all(writer, held.as_slice())?;
+            held.clear();
+            write_all(writer, text.as_bytes())?;
+        }
     }
     Ok(())
 }

@@ -2,13 +2,13 @@
 ghost use Rattle.std.specs.Prelude.{◌≡◌, ◌++◌, codes, false};
 ghost use Rattle.std.specs.List.{flat_map};
 ghost use Rattle.triangulate_watched.specs.Watched.{has_failed};
-ghost use Rattle.triangulate_run.specs.Output.{Writes, Puts};
+ghost use Rattle.triangulate_run.specs.Output.{Puts};
 ghost use Rattle.triangulate_run.specs.Reply.{corners_text, reply_text};
 ghost use Rattle.triangulate_run.specs.declared.reply.Reply.TheVariants.{Refused};
 
 use crate::corners::Corners;
 use crate::output::Piece::{Index, Signed, Text};
-use crate::output::{Held, Written, put_bytes, put_pieces, write_all};
+use crate::output::{Held, Written, put_pieces};
 use delaunay_edit::delaunay_core::math::InsertionError;
 use std::io::Write;
 use triangulate_watched::Watched;
@@ -54,26 +54,20 @@ pub enum Reply {
     Faces(Vec<Corners>),
 }
 
-/// Writes the reply, each line of it with its newline, in one call where the writer takes it whole.
-/// A long list of faces takes more.
-pub(crate) fn write_reply<W: Write>(writer: &mut Watched<W>, reply: &Reply) -> Written
-    requires works { has_failed writer.old ≡ false }
-    ensures { Writes W.contents writer.old writer.new result (reply_text reply.now) }
-{
-    let mut held = Held::new();
-    put_reply(writer, &mut held, reply)?;
-    write_all(writer, held.as_slice())
-}
-
-fn put_reply<W: Write>(writer: &mut Watched<W>, held: &mut Held, reply: &Reply) -> Written
+/// Puts the reply behind what is held, each line of it with its newline.
+pub(crate) fn put_reply<W: Write>(
+    writer: &mut Watched<W>,
+    held: &mut Held,
+    reply: &Reply,
+) -> Written
     requires works { has_failed writer.old ≡ false }
     ensures { Puts W.contents writer.old writer.new held.old.items held.new.items
         result (reply_text reply.now) }
 {
     let (space, end) = (Text(" "), Text("\n"));
     match reply {
-        Reply::BadLine => put_bytes(writer, held, b"bad line\n"),
-        Reply::UnknownPoint => put_bytes(writer, held, b"unknown point\n"),
+        Reply::BadLine => put_pieces(writer, held, &[Text("bad line\n")]),
+        Reply::UnknownPoint => put_pieces(writer, held, &[Text("unknown point\n")]),
         Reply::Refused(error) => put_refusal(writer, held, *error),
         Reply::Vertex(i) => put_pieces(writer, held, &[Text("vertex "), Index(*i), end]),
         Reply::Edge(i, j) => {
@@ -81,19 +75,19 @@ fn put_reply<W: Write>(writer: &mut Watched<W>, held: &mut Held, reply: &Reply) 
             put_pieces(writer, held, &line)
         }
         Reply::Face(corners) => put_face(writer, held, "face ", *corners),
-        Reply::Outside => put_bytes(writer, held, b"outside\n"),
-        Reply::NoTriangulation => put_bytes(writer, held, b"no triangulation\n"),
+        Reply::Outside => put_pieces(writer, held, &[Text("outside\n")]),
+        Reply::NoTriangulation => put_pieces(writer, held, &[Text("no triangulation\n")]),
         Reply::Distance(d) => put_pieces(writer, held, &[Text("distance "), Signed(*d), end]),
-        Reply::NoNeighbor => put_bytes(writer, held, b"none\n"),
+        Reply::NoNeighbor => put_pieces(writer, held, &[Text("none\n")]),
         Reply::Removed(x, y) => {
             let line = [Text("removed "), Signed(*x), space, Signed(*y), end];
             put_pieces(writer, held, &line)
         }
-        Reply::NoVertex => put_bytes(writer, held, b"no vertex\n"),
-        Reply::Released => put_bytes(writer, held, b"released\n"),
-        Reply::NotConstrained => put_bytes(writer, held, b"not constrained\n"),
-        Reply::NoEdge => put_bytes(writer, held, b"no edge\n"),
-        Reply::NoPath => put_bytes(writer, held, b"none\n"),
+        Reply::NoVertex => put_pieces(writer, held, &[Text("no vertex\n")]),
+        Reply::Released => put_pieces(writer, held, &[Text("released\n")]),
+        Reply::NotConstrained => put_pieces(writer, held, &[Text("not constrained\n")]),
+        Reply::NoEdge => put_pieces(writer, held, &[Text("no edge\n")]),
+        Reply::NoPath => put_pieces(writer, held, &[Text("none\n")]),
         Reply::Counts(v, e, f, c) => {
             let (v, e, f, c) = (Index(*v), Index(*e), Index(*f), Index(*c));
             put_pieces(writer, held, &[v, space, e, space, f, space, c, end])
@@ -147,5 +141,5 @@ fn put_faces<W: Write>(writer: &mut Watched<W>, held: &mut Held, faces: &[Corner
     for corners in faces {
         put_face(writer, held, "", *corners)?;
     }
-    put_bytes(writer, held, b"end\n")
+    put_pieces(writer, held, &[Text("end\n")])
 }

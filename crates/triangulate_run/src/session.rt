@@ -1,16 +1,15 @@
 //! Lines in, replies out.
 ghost use Rattle.std.specs.Prelude.{◌≡◌, true, false, All};
 ghost use Rattle.triangulate_watched.specs.Watched.{has_failed};
-ghost use Rattle.triangulate_run.specs.Input.{TakesByte};
 ghost use Rattle.triangulate_run.specs.Points.{place};
 ghost use Rattle.triangulate_run.specs.Output.{Writes, WritesSome};
 ghost use Rattle.triangulate_run.specs.Stage.{Fits};
 ghost use Rattle.triangulate_run.specs.Engine.{stage_of, IsEngineReady};
-ghost use Rattle.triangulate_run.specs.Run.{Answers, Ran, end_text};
+ghost use Rattle.triangulate_run.specs.Run.{Answers, Ran, bad_line};
 
 use crate::engine::PointEngine;
 use crate::fault::RunError;
-use crate::output::{Written, write_all};
+use crate::output::{Held, Written, write_all};
 use crate::points::SheetPoint;
 use arrayvec::ArrayVec;
 use spade_delaunay::{HintGenerator, PlaneTests};
@@ -23,26 +22,12 @@ use triangulate_watched::{Failed, Watched};
 /// is kept to be none.
 const LINE_ROOM: usize = MAX_LINE + 1;
 
-/// The next byte, or `None` at the end. No byte behind it is asked for.
-fn next_byte<R: Read>(reader: &mut Watched<R>) -> Result<Option<u8>, Failed>
-    requires works { has_failed reader.old ≡ false }
-    ensures { TakesByte R.remaining reader.old reader.new result }
-{
-    let mut one = [0u8; 1];
-    let count = reader.read(&mut one)?;
-    if count == 0 {
-        Ok(None)
-    } else {
-        Ok(Some(one[0]))
-    }
-}
-
-/// Writes the bytes, and has the writer pass them on.
-fn send<W: Write>(writer: &mut Watched<W>, bytes: &[u8]) -> Written
+/// Answers a line that spells no command, and has the writer pass the answer on.
+fn refuse<W: Write>(writer: &mut Watched<W>) -> Written
     requires works { has_failed writer.old ≡ false }
-    ensures { Writes W.contents writer.old writer.new result bytes.now }
+    ensures { Writes W.contents writer.old writer.new result bad_line }
 {
-    write_all(writer, bytes)?;
+    write_all(writer, b"bad line\n")?;
     writer.flush()
 }
 
@@ -63,21 +48,12 @@ fn answer<P: PlaneTests<i64>, L: HintGenerator<i64>, W: Write>(
         (stage_of engine.new.triangulation)) }
 {
     let Some(command) = parse(line) else {
-        return send(writer, b"bad line\n");
+        return refuse(writer);
     };
-    engine.answer(command, writer)?;
+    let mut held = Held::new();
+    engine.answer(command, writer, &mut held)?;
+    write_all(writer, held.as_slice())?;
     writer.flush()
-}
-
-/// Answers what stands behind the last newline.
-fn finish<W: Write>(line: &[u8], writer: &mut Watched<W>) -> Written
-    requires works { has_failed writer.old ≡ false }
-    ensures { Writes W.contents writer.old writer.new result (end_text line.now) }
-{
-    if line.is_empty() {
-        return Ok(());
-    }
-    send(writer, b"bad line\n")
 }
 
 /// Answers each line of the reader to the writer, and passes the answer on before more is read.
@@ -106,18 +82,20 @@ pub fn run<L: HintGenerator<i64>, P: PlaneTests<i64>, R: Read, W: Write>(
     let mut engine: PointEngine<'_, P, L> = PointEngine::new(alloc, tests, points);
     let mut line: ArrayVec<u8, LINE_ROOM> = ArrayVec::new();
     loop {
-        match next_byte(reader) {
-            Ok(Some(b'\n')) => match answer(&mut engine, line.as_slice(), writer) {
-                Ok(()) => line.clear(),
-                Err(Failed) => return Err(RunError::Write),
-            },
-            Ok(Some(byte)) => {
-                let _ = line.try_push(byte);
-            }
-            Ok(None) => match finish(line.as_slice(), writer) {
+        let mut byte = [0u8; 1];
+        match reader.read(&mut byte) {
+            Ok(0) if line.is_empty() => return Ok(()),
+            Ok(0) => match refuse(writer) {
                 Ok(()) => return Ok(()),
                 Err(Failed) => return Err(RunError::Write),
             },
+            Ok(_) if byte[0] == b'\n' => match answer(&mut engine, line.as_slice(), writer) {
+                Ok(()) => line.clear(),
+                Err(Failed) => return Err(RunError::Write),
+            },
+            Ok(_) => {
+                let _ = line.try_push(byte[0]);
+            }
             Err(Failed) => return Err(RunError::Read),
         }
     }

@@ -5,8 +5,8 @@ use Rattle.triangulate_run.specs.Stage.{Fits}
 use Rattle.triangulate_run.proofs.RunLemmas.{IsRunning}
 use Rattle.triangulate_run.proofs.session.run.Given as goal
 
-abbrev pub invariant-loop-engine : goal.invariant-loop-engine
-invariant-loop-engine g l = record {
+abbrev pub invariant-loop-line : goal.invariant-loop-line
+invariant-loop-line g l = record {
   ready : IsEngineReady g.P.PlaneTests.covered g.P.PlaneTests.sites l.engine;
   points : l.engine.points.now ≡ l.points;
   fits : Fits (stage_of l.engine.triangulation);
@@ -14,5 +14,5 @@ invariant-loop-engine g l = record {
       l.fn.writer l.writer l.line.items (stage_of l.engine.triangulation);
 }
 
-abbrev pub decreases-loop-engine : goal.decreases-loop-engine
-decreases-loop-engine g l = reads_left_of l.reader
+abbrev pub decreases-loop-line : goal.decreases-loop-line
+decreases-loop-line g l = reads_left_of l.reader

@@ -1,7 +1,6 @@
 use Rattle.std.proofs.Common.{refl}
-use Rattle.triangulate_run.specs.Engine.{stage_of}
 use Rattle.triangulate_run.specs.Reply.{reply_text}
-use Rattle.triangulate_run.proofs.Stages.{answered_so, walks_there}
+use Rattle.triangulate_run.proofs.Stages.{answered_so}
 use Rattle.triangulate_run.proofs.engine.PointEngine.answer.Goals as goal
 use Rattle.triangulate_run.proofs.engine.PointEngine.answer.Goals.{in-Constrain, in-Line}
 use Rattle.triangulate_run.proofs.engine.PointEngine.answer.Goals.{in_default+in-Faces-1}
@@ -10,18 +9,15 @@ use Rattle.triangulate_run.proofs.engine.PointEngine.answer.Goals.{in_default+in
 pub returns-clause-answered : goal.returns-clause-answered
 returns-clause-answered g c = elim c.match-command.branch [
   | in-Constrain w ↦
-      rw (w.in-Constrain.is, w.self-is, w.writer-is, w.answered-is)
+      rw (w.in-Constrain.is, w.self-is, w.writer-is, w.held-is, w.answered-is)
       w.constrain-answered.ensures.answered
-  | in-Line w ↦ rw (w.in-Line.is, w.self-is, w.writer-is, w.answered-is) (
+  | in-Line w ↦ rw (w.in-Line.is, w.self-is, w.writer-is, w.held-is, w.answered-is) (
       let told = w.line-answered.ensures.answered in
-      let met = walks_there c.args.self.now.points.now
-      (stage_of c.args.self.now.triangulation).triangulation _ _ _ _ w.placed_point.ensures
-      w.placed_point-in-Line.ensures told.0 told.1 in
-      (told.0, (met, refl), told.2))
-  | in_default+in-Faces-1 w ↦ rw (w.self-is, w.writer-is, w.answered-is) (
+      (told.0, (told.1, refl), told.2))
+  | in_default+in-Faces-1 w ↦ rw (w.self-is, w.writer-is, w.held-is, w.answered-is) (
       let so = answered_so _ _ c.args.command _ _ w.reply_to-reply.ensures.reply in
-      (reply_text w.reply_to-reply.result, so, w.write_reply-answered.ensures))
-  | in_default+in-BadLine-1 w ↦ rw (w.self-is, w.writer-is, w.answered-is) (
+      (reply_text w.reply_to-reply.result, so, w.put_reply-answered.ensures))
+  | in_default+in-BadLine-1 w ↦ rw (w.self-is, w.writer-is, w.held-is, w.answered-is) (
       let so = answered_so _ _ c.args.command _ _ w.reply_to-reply.ensures.reply in
-      (reply_text w.reply_to-reply.result, so, w.write_reply-answered.ensures))
+      (reply_text w.reply_to-reply.result, so, w.put_reply-answered.ensures))
 ]

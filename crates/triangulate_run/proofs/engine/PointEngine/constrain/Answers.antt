@@ -8,7 +8,7 @@ use Rattle.triangulate_run.proofs.engine.PointEngine.constrain.Goals as goal
 
 pub returns-in_default-clause-answered : goal.returns-in_default-clause-answered
 returns-in_default-clause-answered g c =
-    (reply_text NoVertex, inr (NoVertex, (c.in_default.ensures, refl), refl), c.write_reply.ensures)
+    (reply_text NoVertex, inr (NoVertex, (c.in_default.ensures, refl), refl), c.put_reply.ensures)
 
 pub returns-in-Plain-clause-answered : goal.returns-in-Plain-clause-answered
 returns-in-Plain-clause-answered g c =
@@ -19,12 +19,12 @@ returns-in-Plain-clause-answered g c =
     let refused = Refused OutOfMemory in (
       reply_text refused,
       inr (refused, (c.in-Some.ensures.2, inl none, same), refl),
-      c.write_reply-in-Plain.ensures,
+      c.put_reply-in-Plain.ensures,
     )
 
 pub returns-in-Constrained-clause-answered : goal.returns-in-Constrained-clause-answered
 returns-in-Constrained-clause-answered g c =
-    let told = c.constrain_and_write.ensures.answered in
+    let told = c.constrain.ensures.answered in
     let is = c.in-Some.ensures in
     let same = ap stage_of (sym c.in-Constrained.is) ∙ c.take_constraints.ensures.stage in
     (told.0, joins_there _ _ same _ _ _ _ is.0 is.1 _ _ told.1, told.2)

@@ -6,7 +6,7 @@ use Rattle.triangulate_run.specs.Engine.{ends_in}
 use Rattle.triangulate_run.specs.Reply.{path_text, reply_text}
 use Rattle.triangulate_run.proofs.Paths.{no_edges, some_edges, joins_none, joins_some}
 use Rattle.triangulate_run.proofs.Paths.{joins_refused, edges_within}
-use Rattle.triangulate_run.proofs.constraints.constrain_and_write.Goals as goal
+use Rattle.triangulate_run.proofs.constraints.constrain.Goals as goal
 
 pub returns-then-is_empty-clause-answered : goal.returns-then-is_empty-clause-answered
 returns-then-is_empty-clause-answered g c =
@@ -15,17 +15,17 @@ returns-then-is_empty-clause-answered g c =
     c.if-is_empty.true in
     let joins = joins_none _ _ _ _ _ c.in-Ok.ensures.path none c.requires.from_in
     c.requires.to_in in
-    (reply_text NoPath, inr (NoPath, joins, refl), c.write_reply.ensures)
+    (reply_text NoPath, inr (NoPath, joins, refl), c.put_reply.ensures)
 
 pub returns-in-Err-clause-answered : goal.returns-in-Err-clause-answered
 returns-in-Err-clause-answered g c =
     let refused = Refused OutOfMemory in
     let joins = joins_refused _ _ _ _ _ _ c.in-Err.is c.try_add_constraint.ensures.none
     c.requires.from_in c.requires.to_in c.in-Err.ensures.err in
-    (reply_text refused, inr (refused, joins, refl), c.write_reply-in-Err.ensures)
+    (reply_text refused, inr (refused, joins, refl), c.put_reply-in-Err.ensures)
 
-pub write_path-requires-clause-within : goal.write_path-requires-clause-within
-write_path-requires-clause-within g c =
+pub put_path-requires-clause-within : goal.put_path-requires-clause-within
+put_path-requires-clause-within g c =
     let edges = c.in-Ok.edges in
     let some = some_edges edges.items edges.len _ (omega (arith, edges.ok)) c.is_empty.ensures
     c.if-is_empty.false in
@@ -41,4 +41,4 @@ returns-else-is_empty-clause-answered g c =
     c.if-is_empty.false in
     let path = ends_in c.try_add_constraint.new.self.mesh edges.items in
     let joins = joins_some _ _ _ _ _ c.in-Ok.ensures.path some in
-    (path_text path, inl (path, joins, refl), rw c.as_slice.ensures.value at c.write_path.ensures)
+    (path_text path, inl (path, joins, refl), rw c.as_slice.ensures.value at c.put_path.ensures)
