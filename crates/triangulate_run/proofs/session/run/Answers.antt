@@ -1,4 +1,4 @@
-use Rattle.std.proofs.Common.{◌<◌, ◌≡◌, ◌∙◌, ap, sym, length, rules}
+use Rattle.std.proofs.Common.{◌<◌, ◌≡◌, ◌∙◌, ap, length, rules}
 use Rattle.triangulate_run.proofs.OutputLemmas.{appends_nil}
 use Rattle.triangulate_run.proofs.RunLemmas.{start, consumes_kept, consumes_first, consumes_break}
 use Rattle.triangulate_run.proofs.RunLemmas.{kept_more, end_none, end_bad, byte_more, line_more}
