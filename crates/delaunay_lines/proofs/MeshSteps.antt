@@ -1,9 +1,8 @@
 -- From an item that a segment meets to the next, by the links of a mesh.
--- Notions: IsExit; placed_value, not_same, positive, at_ends, side_at, laid, in_mesh, of_mesh,
+-- Notions: IsExit, IsPastFace, IsPastCone, AreEndsOf; placed_value, starts_at, not_same, positive, at_ends, side_at, laid, in_mesh, of_mesh,
 -- joined, tiles_with, bare, face_at, start_in, start_known, twin_within, next_spoke, ends_apart,
--- ends_not_within, twin_of_prev, twin_of_next, last_at_edge, ends_inside, at_corner, through_exit,
--- last_within_overlap, end_of_overlap, last_at_end, last_if_none_leads, overlap_comes, none_comes,
--- far_comes.
+-- ends_not_within, twin_of_prev, twin_of_next, last_at_edge, past_face,
+-- last_within_overlap, end_of_overlap, end_at_end, last_at_end, last_if_none_leads, overlap_comes, past_cone.
 use Rattle.std.proofs.Common.{◌≡◌, ◌≢◌, ◌⊎◌, ◌↔◌, ◌<◌, ◌∙◌, ◌∷◌}
 use Rattle.std.specs.Borrow.{Bor}
 use Rattle.std.proofs.Common.{ℕ, List, length, map, Some, None, sym, ap, subst}
@@ -44,6 +43,7 @@ use Rattle.delaunay_lines.specs.declared.intersection.FixedIntersection.TheVaria
   Vertex,
   Overlap,
 }
+use Rattle.delaunay_lines.specs.Items.{item_of}
 use Rattle.delaunay_lines.specs.Steps.{IsNext, IsLeftOf, IsEdgeAhead}
 use Rattle.delaunay_lines.specs.Steps.{IsInCone, LeadsOn}
 use Rattle.delaunay_lines.proofs.SegmentTests.{differs_if_within}
@@ -54,6 +54,12 @@ pub placed_value : {V D U F P : Type 0} {at : V → Point} {IsSite : P → Point
     → IsPlaced at IsSite fields.dcel fields.tests → IsPlaced at IsSite value.dcel value.tests
 placed_value {V = V} {D = D} {U = U} {F = F} {P = P} {at = at} {IsSite = IsSite} same placed =
     subst (λ (s : Reading V D U F P). IsPlaced at IsSite s.dcel s.tests) same placed
+
+-- so does where an edge starts
+pub starts_at : {V D U F P : Type 0} {fields value : Reading V D U F P} {v : ℕ}
+    → fields ≡ value → (h : ℕ) → v ≡ origin fields.dcel.mesh h → v ≡ origin value.dcel.mesh h
+starts_at {V = V} {D = D} {U = U} {F = F} {P = P} same h is =
+    is ∙ ap (λ (s : Reading V D U F P). origin s.dcel.mesh h) same
 
 -- different points are not at the same place of the plane
 pub not_same : (p q : Point) → p ≢ q → ¬ IsSame (whole p) (whole q)
@@ -78,6 +84,31 @@ side_at p q e is = e ∙ ap (λ (x : Point). side p q (whole x)) is
 -- is on the right, else the one after h
 abbrev pub IsExit : Mesh → ℕ → Side → ℕ → Type 0
 IsExit m h z x = ((z ≡ right) × (x ≡ prev m h)) ⊎ ((z ≢ right) × (x ≡ next m h))
+
+-- after edge h, which the segment from p to q crosses: nothing where q is inside side x of the face
+-- beyond, else corner v of this face where z says that it is on the line, else side x
+pub record IsPastFace {V D U F : Type 0} (at : V → Point) (c : Contents V D U F) (p q : Point)
+    (h v : ℕ) (z : Side) (x : ℕ) : Type 0 where
+  pub inside : IsLeftOf (map at c.vertices) c.mesh q x
+      → IsNext at c p q (item_of c.mesh (Edge h)) None
+  pub corner : ¬ IsLeftOf (map at c.vertices) c.mesh q x → z ≡ on
+      → IsNext at c p q (item_of c.mesh (Edge h)) (Some (Vertex v))
+  pub side : ¬ IsLeftOf (map at c.vertices) c.mesh q x → z ≢ on
+      → IsNext at c p q (item_of c.mesh (Edge h)) (Some (Edge (rev x)))
+
+-- after vertex v, where q is in the cone of a face: nothing where q is inside the face's far side,
+-- else this side
+pub record IsPastCone {V D U F : Type 0} (at : V → Point) (c : Contents V D U F) (p q : Point)
+    (v far : ℕ) : Type 0 where
+  pub inside : IsLeftOf (map at c.vertices) c.mesh q far → IsNext at c p q (at_vertex v) None
+  pub side : ¬ IsLeftOf (map at c.vertices) c.mesh q far
+      → IsNext at c p q (at_vertex v) (Some (Edge (rev far)))
+
+-- a vertex at the end of directed edge h, and two points where the edge starts and ends
+pub record AreEndsOf (points : List Point) (m : Mesh) (h v : ℕ) (u w : Point) : Type 0 where
+  pub start : u ≡ point_at points (origin m h)
+  pub vertex : v ≡ origin m (rev h)
+  pub end : w ≡ point_at points (origin m (rev h))
 
 module _ {V D U F P : Type 0} {at : V → Point} {IsSite : P → Point → Type 0}
     {c : Contents V D U F} {tests : P} (placed : IsPlaced at IsSite c tests) where
@@ -309,7 +340,7 @@ module _ {V D U F P : Type 0} {at : V → Point} {IsSite : P → Point → Type 
         module _ {x : ℕ} {z : Side} (corner : z ≡ side (whole p) (whole q) (place points d))
             (exit : IsExit m h z x) where
           -- q is inside of it: edge h is the last item
-          pub ends_inside : IsLeftOf points m q x → Last (crossed h)
+          ends_inside : IsLeftOf points m q x → Last (crossed h)
           ends_inside l = elim exit [
             | inl e ↦ law.4 (sym corner ∙ e.0) (side_before.0 (subst (IsLeftOf points m q) e.1 l))
             | inr e ↦ law.3 (λ y. e.0 (corner ∙ y))
@@ -318,7 +349,7 @@ module _ {V D U F P : Type 0} {at : V → Point} {IsSite : P → Point → Type 
 
           module _ (outside : ¬ IsLeftOf points m q x) where
             -- q is not, and the corner is on the line: the corner is next
-            pub at_corner : {v : ℕ} → v ≡ d → z ≡ on → IsNext at c p q (crossed h) (Some (Vertex v))
+            at_corner : {v : ℕ} → v ≡ d → z ≡ on → IsNext at c p q (crossed h) (Some (Vertex v))
             at_corner is flat = subst (λ (v : ℕ). (v < length c.vertices)
                 × Next (crossed h) (at_vertex v)) (sym is) (
                   start_known (prev m h)
@@ -334,7 +365,7 @@ module _ {V D U F P : Type 0} {at : V → Point} {IsSite : P → Point → Type 
                 differ e = cc
 
             -- the corner is beside the line: the side is next
-            pub through_exit : z ≢ on → IsNext at c p q (crossed h) (Some (Edge (rev x)))
+            through_exit : z ≢ on → IsNext at c p q (crossed h) (Some (Edge (rev x)))
             through_exit beside = elim exit [
               | inl e ↦ leave (prev m h) e.1 r.prev_in (subst (Next (across a b)) (sym across_prev)
                   (law.1 (sym corner ∙ e.0)
@@ -358,6 +389,14 @@ module _ {V D U F P : Type 0} {at : V → Point} {IsSite : P → Point → Type 
                 is_left left r o = λ _. left
                 is_left right r o = absurd (r (λ _. right))
                 is_left on r o = absurd (o (λ _. on))
+
+          -- the three
+          pub past_face : {v : ℕ} → v ≡ d → IsPastFace at c p q h v z x
+          past_face is = record {
+            inside = ends_inside;
+            corner = λ outside. at_corner outside is;
+            side = through_exit;
+          }
 
     -- ---- after an edge that is overlapped
     abbrev overlapped : ℕ → Item
@@ -386,6 +425,13 @@ module _ {V D U F P : Type 0} {at : V → Point} {IsSite : P → Point → Type 
       end_of_overlap within is x = subst (λ (v : ℕ). (v < length c.vertices)
           × Next (overlapped h) (at_vertex v)) (sym is)
           (start_known (rev h) (twin_within h within), overlap_law.1 x)
+
+      -- so it is where q is one of its ends
+      pub end_at_end : h < length c.directed → {v : ℕ} {u w : Point}
+          → AreEndsOf points m h v u w → (q ≡ u) ⊎ (q ≡ w)
+          → IsNext at c p q (overlapped h) (Some (Vertex v))
+      end_at_end within ends same = end_of_overlap within ends.vertex
+          (ends_not_within h within ends.start ends.end same)
 
     -- ---- after a vertex
     module _ (v : ℕ) (met : Met (at_vertex v)) where
@@ -530,13 +576,13 @@ module _ {V D U F P : Type 0} {at : V → Point} {IsSite : P → Point → Type 
 
       module _ (cone : IsInCone points m q h) {far : ℕ} (is : far ≡ next m h) where
         -- where it is inside the face
-        pub none_comes : IsLeftOf points m q far → IsNext at c p q (at_vertex v) None
+        none_comes : IsLeftOf points m q far → IsNext at c p q (at_vertex v) None
         none_comes l = subst (λ (k : ℕ). Last (at_vertex k)) starts
             (last_in_face h within met_there differs_there cone
             (subst (IsLeftOf points m q) is l))
 
         -- where it is beyond
-        pub far_comes : ¬ IsLeftOf points m q far
+        far_comes : ¬ IsLeftOf points m q far
             → IsNext at c p q (at_vertex v) (Some (Edge (rev far)))
         far_comes l = (
           twin_within far (of_mesh far (subst (λ (k : ℕ). k < length m.half_edges) (sym is)
@@ -546,3 +592,7 @@ module _ {V D U F P : Type 0} {at : V → Point} {IsSite : P → Point → Type 
               (through_far h within met_there differs_there cone
               (λ y. l (subst (IsLeftOf points m q) (sym is) y))),
         )
+
+        -- the two
+        pub past_cone : IsPastCone at c p q v far
+        past_cone = record { inside = none_comes; side = far_comes }

@@ -1,10 +1,10 @@
 -- What a segment meets first from beyond an outer edge, told from this edge and its neighbours.
 -- Lemmas: nothing_on_left, nothing_beyond, vertex_first, end_first, start_first, not_both_on,
--- left_if_neither, right_if_neither, seen_from, neighbour_after,
+-- left_there, right_there, seen_from, neighbour_after,
 -- neighbour_before, stops_after, stops_before, nothing_on_its_left, nothing_past_end,
 -- nothing_past_start, end_met, start_met, edge_met.
-use Rattle.std.proofs.Common.{◌≡◌, ◌≢◌, ◌⊎◌, ◌<◌, ◌∙◌, ℕ, List, [], length, map, Option, Some, None}
-use Rattle.std.proofs.Common.{refl, sym, ap, subst, inl, inr, arith}
+use Rattle.std.proofs.Common.{◌≡◌, ◌≢◌, ◌⊎◌, ◌↔◌, ◌<◌, ◌∙◌, ℕ, List, [], length, map, Option}
+use Rattle.std.proofs.Common.{Some, None, Bool, false, IsTrue, refl, sym, ap, subst, inl, inr, arith}
 use lib.IntN.{neg_ℤ}
 use Rattle.std.specs.Prelude.{IfSome, IfNone}
 use Rattle.std.specs.Prelude.{ℤ, pos, ◌<ℤ◌, ◌≤ℤ◌, ◌+ℤ◌, ◌-ℤ◌, ◌*ℤ◌, Contains}
@@ -65,6 +65,7 @@ use Rattle.delaunay_lines.proofs.MeshSteps.{laid, in_mesh, of_mesh, joined, bare
 use Rattle.delaunay_lines.proofs.MeshSteps.{start_in, start_known, not_same}
 use Rattle.delaunay_lines.proofs.FirstItems.{starts_first, nothing_met}
 use Rattle.delaunay_lines.proofs.OutsideItems.{enters}
+use Rattle.delaunay_lines.proofs.SegmentTests.{unless}
 use Rattle.delaunay_location.proofs.plane_delaunay.Floods.Flooded.{segment_from}
 use Rattle.delaunay_location.proofs.plane_delaunay.Segments.LineItems.{Begins, begins}
 use Rattle.plane_segments.specs.Steps.{IsFirst, IsWalk}
@@ -247,15 +248,23 @@ module _ (t : Triangulation) (h : IsLaid t) (p q : Fraction) (apart : ¬ IsSame 
         (bracket-turned p q A ∙ f) p.positive seen q.positive)
 
 -- ---- sides
-pub left_if_neither : (z : Side) → ¬ (z ≡ right) → ¬ (z ≡ on) → z ≡ left
+left_if_neither : (z : Side) → ¬ (z ≡ right) → ¬ (z ≡ on) → z ≡ left
 left_if_neither left r n = refl
 left_if_neither on r n = absurd (n refl)
 left_if_neither right r n = absurd (r refl)
 
-pub right_if_neither : (z : Side) → ¬ (z ≡ left) → ¬ (z ≡ on) → z ≡ right
+right_if_neither : (z : Side) → ¬ (z ≡ left) → ¬ (z ≡ on) → z ≡ right
 right_if_neither left l n = absurd (l refl)
 right_if_neither on l n = absurd (n refl)
 right_if_neither right l n = refl
+
+-- the third side is this one, where questions deny the other two
+module _ {z s : Side} (is : z ≡ s) {a b : Bool} where
+  pub left_there : IsTrue a ↔ (z ≡ right) → a ≡ false → IsTrue b ↔ (z ≡ on) → b ≡ false → s ≡ left
+  left_there r x n y = sym is ∙ left_if_neither z (unless r x) (unless n y)
+
+  pub right_there : IsTrue a ↔ (z ≡ left) → a ≡ false → IsTrue b ↔ (z ≡ on) → b ≡ false → s ≡ right
+  right_there l x n y = sym is ∙ right_if_neither z (unless l x) (unless n y)
 
 swapped_left : (z : Side) → z ≡ left → opposite z ≡ left → ⊥
 swapped_left z e f = let g : opposite z ≡ right = ap opposite e in cc

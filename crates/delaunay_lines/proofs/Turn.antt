@@ -1,8 +1,8 @@
 -- One call of the iterator along a segment.
 -- Notions: IsAfterItem, IsItemIn; alone_after, apart_after, edge_found, vertex_found,
 -- overlap_found, at_item, counts_more, gives_some, ready_after.
-use Rattle.std.proofs.Common.{◌≡◌, ◌≢◌, ◌-◌, ◌≤◌, ◌∷◌, ◌∙◌}
-use Rattle.std.proofs.Common.{ℕ, List, Option, Some, None, refl, sym, ap, subst}
+use Rattle.std.proofs.Common.{◌≡◌, ◌≢◌, ◌↔◌, ◌-◌, ◌≤◌, ◌∷◌, ◌∙◌}
+use Rattle.std.proofs.Common.{ℕ, List, Option, Some, None, Bool, false, IsTrue, refl, sym, ap, subst}
 use Rattle.std.specs.Borrow.{Bor}
 use Rattle.std.specs.Prelude.{ℤ}
 use Rattle.delaunay_location.specs.half_edge_mesh.Contents.{Contents}
@@ -27,21 +27,26 @@ use Rattle.delaunay_lines.specs.Over.{IsAtItem}
 use Rattle.delaunay_lines.specs.Steps.{IsNext}
 use Rattle.delaunay_lines.specs.Walk.{AreFrom, AreLeft, GivesNext, IsReady}
 use Rattle.delaunay_lines.proofs.Advance.{further, one_fewer, some_left}
+use Rattle.delaunay_lines.proofs.SegmentTests.{unless}
 
--- after item i nothing comes from a point to itself, and r from p to another point q
+-- item j is item i, after which nothing comes from a point to itself, and r from p to another
+-- point q
 pub record IsAfterItem {V D U F : Type 0} (at : V → Point) (c : Contents V D U F) (p q : Point)
-    (i : FixedIntersection) (r : Option FixedIntersection) : Type 0 where
+    (i j : FixedIntersection) (r : Option FixedIntersection) : Type 0 where
+  pub same : j ≡ i
   pub alone : p ≡ q → r ≡ None
   pub next : p ≢ q → IsNext at c p q (item_of c.mesh i) r
 
-pub alone_after : {V D U F : Type 0} {at : V → Point} {c : Contents V D U F} {p q : Point}
-    {i : FixedIntersection} → p ≡ q → IsAfterItem at c p q i None
-alone_after same = record { alone = λ _. refl; next = λ apart. absurd (apart same) }
+module _ {V D U F : Type 0} {at : V → Point} {c : Contents V D U F} {p q : Point}
+    {i j : FixedIntersection} where
+  pub alone_after : p ≡ q → j ≡ i → IsAfterItem at c p q i j None
+  alone_after ends same =
+      record { same = same; alone = λ _. refl; next = λ apart. absurd (apart ends) }
 
-pub apart_after : {V D U F : Type 0} {at : V → Point} {c : Contents V D U F} {p q : Point}
-    {i : FixedIntersection} {r : Option FixedIntersection} → p ≢ q
-    → IsNext at c p q (item_of c.mesh i) r → IsAfterItem at c p q i r
-apart_after apart next = record { alone = λ same. absurd (apart same); next = λ _. next }
+  pub apart_after : {r : Option FixedIntersection} → p ≢ q
+      → IsNext at c p q (item_of c.mesh i) r → j ≡ i → IsAfterItem at c p q i j r
+  apart_after apart next same =
+      record { same = same; alone = λ ends. absurd (apart ends); next = λ _. next }
 
 -- item i, by a handle that has the mesh
 pub record IsItemIn {V D U F : Type 0} (d : Bor (Contents V D U F)) (i : FixedIntersection)
@@ -78,18 +83,19 @@ module _ {V D U F P S : Type 0} {at : V → Point} {number : S → ℤ}
       subst (λ (o : Option FixedIntersection). AreFrom at it.dcel.now p q o items) is left
 
   -- the segment is at the item, if its ends differ
-  pub at_item : p ≢ q → IsAtItem at number (record { dcel = it.dcel.now; tests = it.tests.now })
-      it.from it.to IsCovered i
-  at_item apart = let here = from_here ready.items ready.are_left in
-      record {
+  pub at_item : {k : FixedIntersection} → i ≡ k → {b : Bool} → IsTrue b ↔ (p ≡ q) → b ≡ false
+      → IsAtItem at number (record { dcel = it.dcel.now; tests = it.tests.now }) it.from it.to
+      IsCovered k
+  at_item named same differs = let here = from_here ready.items ready.are_left in
+      rw (← named) (record {
         within = here.0;
         ends = record {
           from_covered = ready.over.from_covered;
           to_covered = ready.over.to_covered;
-          apart = apart;
+          apart = unless same differs;
         };
-        met = here.1.2.met apart;
-      }
+        met = here.1.2.met (unless same differs);
+      })
 
   -- the bound on the items that are left is at least 1
   pub counts_more : 1 ≤ it.left
@@ -97,7 +103,8 @@ module _ {V D U F P S : Type 0} {at : V → Point} {number : S → ℤ}
       (item_of it.dcel.now.mesh i) it.left
       (from_here ready.items ready.are_left).1.1 ready.few
 
-  module _ {r : Option FixedIntersection} (goes : IsAfterItem at it.dcel.now p q i r) where
+  module _ {j : FixedIntersection} {r : Option FixedIntersection}
+      (goes : IsAfterItem at it.dcel.now p q i j r) where
     abbrev after : LineIntersectionIterator V D U F P S
     after = record it { current = r; left = it.left - 1 }
 
@@ -107,13 +114,14 @@ module _ {V D U F P S : Type 0} {at : V → Point} {number : S → ℤ}
         goes.alone goes.next
 
     -- an answer with the current item of the same mesh gives what is next
-    pub gives_some : {x : Intersection V D U F} → IsItemIn it.dcel i x
+    pub gives_some : {x : Intersection V D U F} → IsItemIn it.dcel j x
         → GivesNext at number it (Some x) after
     gives_some found = record {
       same_mesh = refl;
       gives =
           λ items left. let o = others items left in
-          (found.mesh, (o.0, o.1 ∙ ap (λ (k : Item). k ∷ o.0) (sym found.item), o.2));
+          (found.mesh, (o.0, o.1 ∙ ap (λ (k : Item). k ∷ o.0) (sym (found.item
+          ∙ ap (item_of it.dcel.now.mesh) goes.same)), o.2));
       stays = tt;
     }
 

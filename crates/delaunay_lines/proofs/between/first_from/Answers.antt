@@ -9,9 +9,8 @@ use Rattle.delaunay_lines.proofs.PastEnd.{past_if_unseen}
 use Rattle.delaunay_lines.proofs.between.first_from.Goals as goal
 
 pub returns-in-OnVertex : goal.returns-in-OnVertex
-returns-in-OnVertex g c =
-    from_that_vertex (placed_value c.placed.view_is c.placed.invariant) c.in-OnVertex.vertex
-    (rw c.in-OnVertex.is at c.requires.start)
+returns-in-OnVertex g c = from_that_vertex (placed_value c.placed.view_is c.placed.invariant)
+    c.in-OnVertex.vertex (rw c.in-OnVertex.is at c.requires.start)
 
 pub returns-in-OnEdge : goal.returns-in-OnEdge
 returns-in-OnEdge g c =
@@ -21,15 +20,13 @@ returns-in-OnEdge g c =
     (c.is_same_point.ensures.0 c.if-is_same_point.true))
 
 pub returns-in_default : goal.returns-in_default
-returns-in_default g c =
-    rw (← c.placed.view_is) (alone_elsewhere c.placed.invariant _
+returns-in_default g c = rw (← c.placed.view_is) (alone_elsewhere c.placed.invariant _
     (rw (← c.placed.view_is) at c.requires.start) c.in_default.not-OnVertex c.in_default.not-OnEdge
     (c.is_same_point.ensures.0 c.if-is_same_point.true))
 
 pub returns-in-OnVertex-start : goal.returns-in-OnVertex-start
-returns-in-OnVertex-start g c =
-    from_that_vertex (placed_value c.placed.view_is c.placed.invariant) c.in-OnVertex-start.vertex
-    (rw c.in-OnVertex-start.is at c.requires.start)
+returns-in-OnVertex-start g c = from_that_vertex (placed_value c.placed.view_is c.placed.invariant)
+    c.in-OnVertex-start.vertex (rw c.in-OnVertex-start.is at c.requires.start)
 
 pub face-requires : goal.face-requires
 face-requires g c =

@@ -1,8 +1,9 @@
 use Rattle.std.proofs.Common.{◌∙◌}
-use Rattle.delaunay_lines.proofs.MeshSteps.{placed_value, side_at}
-use Rattle.delaunay_lines.proofs.OutlineWalk.{edge_met, end_met, left_if_neither}
-use Rattle.delaunay_lines.proofs.OutlineWalk.{nothing_on_its_left, nothing_past_end}
-use Rattle.delaunay_lines.proofs.OutlineWalk.{nothing_past_start, right_if_neither, start_met}
+use Rattle.delaunay_location.specs.half_edge_mesh.Mesh.{rev}
+use Rattle.delaunay_lines.proofs.MeshSteps.{placed_value, side_at, starts_at}
+use Rattle.delaunay_lines.proofs.OutlineWalk.{edge_met, end_met, left_there, nothing_on_its_left}
+use Rattle.delaunay_lines.proofs.OutlineWalk.{nothing_past_end, nothing_past_start, right_there}
+use Rattle.delaunay_lines.proofs.OutlineWalk.{start_met}
 use Rattle.delaunay_lines.proofs.SegmentTests.{unless}
 use Rattle.delaunay_lines.proofs.outside.first_at.Goals as goal
 
@@ -22,9 +23,8 @@ returns-then-is_on_left_side g c =
 
 pub returns-then-is_on_right_side : goal.returns-then-is_on_right_side
 returns-then-is_on_right_side g c =
-    let right = rw (side_at _ _ c.side-end.ensures c.end_of.ensures.place) at
-    c.is_on_right_side.ensures in
-    let past = right.0 c.if-is_on_right_side.true in
+    let past = rw (side_at _ _ c.side-end.ensures c.end_of.ensures.place) at
+    (c.is_on_right_side.ensures.0 c.if-is_on_right_side.true) in
     nothing_past_end (placed_value c.placed.view_is c.placed.invariant) c.requires.ends.apart
     c.args.edge c.requires.seen past (c.requires.stop.after past)
 
@@ -32,58 +32,47 @@ pub returns-then-is_on_left_side-2 : goal.returns-then-is_on_left_side-2
 returns-then-is_on_left_side-2 g c =
     let right = rw (side_at _ _ c.side-end.ensures c.end_of.ensures.place) at
     c.is_on_right_side.ensures in
-    let left = rw (side_at _ _ c.side-start.ensures c.start_of.ensures.place) at
-    c.is_on_left_side-2.ensures in
-    let past = left.0 c.if-is_on_left_side-2.true in
+    let past = rw (side_at _ _ c.side-start.ensures c.start_of.ensures.place) at
+    (c.is_on_left_side-2.ensures.0 c.if-is_on_left_side-2.true) in
     nothing_past_start (placed_value c.placed.view_is c.placed.invariant) c.requires.ends.apart
     c.args.edge c.requires.seen past
     (c.requires.stop.before (unless right c.if-is_on_right_side.false) past)
 
 pub returns-then-is_on_line : goal.returns-then-is_on_line
 returns-then-is_on_line g c =
-    let seen = rw (← c.placed.view_is) at c.requires.seen in
     let here = c.directed_edge-here.ensures in
     let vertex = rw (here.dcel, here.index) at (c.fix.ensures.value ∙ c.to.ensures.index) in
-    let ends = rw (c.side_along.ensures, ← c.placed.view_is) at c.is_on_left_side.ensures in
-    let end = rw (← c.placed.view_is) at
-    (side_at _ _ c.side-end.ensures c.end_of.ensures.place) in
-    let start = rw (← c.placed.view_is) at
-    (side_at _ _ c.side-start.ensures c.start_of.ensures.place) in
-    let on = rw end at c.is_on_line.ensures in
-    let left = rw start at c.is_on_left_side-2.ensures in
-    rw (vertex, ← c.placed.view_is) (end_met c.placed.invariant c.requires.ends.apart c.args.edge
-    seen (unless ends c.if-is_on_left_side.false) (on.0 c.if-is_on_line.true)
+    let ends = rw c.side_along.ensures at c.is_on_left_side.ensures in
+    let end = side_at _ _ c.side-end.ensures c.end_of.ensures.place in
+    let left = rw (side_at _ _ c.side-start.ensures c.start_of.ensures.place) at
+    c.is_on_left_side-2.ensures in
+    rw (starts_at c.placed.view_is (rev c.args.edge) vertex) (end_met (placed_value
+    c.placed.view_is c.placed.invariant) c.requires.ends.apart c.args.edge c.requires.seen
+    (unless ends c.if-is_on_left_side.false)
+    (rw end at (c.is_on_line.ensures.0 c.if-is_on_line.true))
     (unless left c.if-is_on_left_side-2.false))
 
 pub returns-then-is_on_line-2 : goal.returns-then-is_on_line-2
 returns-then-is_on_line-2 g c =
-    let seen = rw (← c.placed.view_is) at c.requires.seen in
     let here = c.directed_edge-here.ensures in
-    let vertex = rw (here.dcel, here.index) at (c.fix-then-is_on_line-2.ensures.value ∙
-    c.from.ensures.index) in
-    let ends = rw (c.side_along.ensures, ← c.placed.view_is) at c.is_on_left_side.ensures in
-    let end = rw (← c.placed.view_is) at
-    (side_at _ _ c.side-end.ensures c.end_of.ensures.place) in
-    let right = rw end at c.is_on_right_side.ensures in
-    let on = rw end at c.is_on_line.ensures in
-    let start = rw (rw (← c.placed.view_is) at
-    (side_at _ _ c.side-start.ensures c.start_of.ensures.place)) at c.is_on_line-2.ensures in
-    rw (vertex, ← c.placed.view_is) (start_met c.placed.invariant c.requires.ends.apart c.args.edge
-    seen (unless ends c.if-is_on_left_side.false) (start.0 c.if-is_on_line-2.true)
-    (left_if_neither _ (unless right c.if-is_on_right_side.false)
-    (unless on c.if-is_on_line.false)))
+    let vertex = rw (here.dcel, here.index) at
+    (c.fix-then-is_on_line-2.ensures.value ∙ c.from.ensures.index) in
+    let ends = rw c.side_along.ensures at c.is_on_left_side.ensures in
+    let start = side_at _ _ c.side-start.ensures c.start_of.ensures.place in
+    rw (starts_at c.placed.view_is c.args.edge vertex) (start_met (placed_value c.placed.view_is
+    c.placed.invariant) c.requires.ends.apart c.args.edge c.requires.seen
+    (unless ends c.if-is_on_left_side.false)
+    (rw start at (c.is_on_line-2.ensures.0 c.if-is_on_line-2.true))
+    (left_there (side_at _ _ c.side-end.ensures c.end_of.ensures.place) c.is_on_right_side.ensures
+    c.if-is_on_right_side.false c.is_on_line.ensures c.if-is_on_line.false))
 
 pub returns : goal.returns
 returns g c =
-    let end = side_at _ _ c.side-end.ensures c.end_of.ensures.place in
-    let start = side_at _ _ c.side-start.ensures c.start_of.ensures.place in
-    let right = rw end at c.is_on_right_side.ensures in
-    let on = rw end at c.is_on_line.ensures in
-    let left = rw start at c.is_on_left_side-2.ensures in
-    let first = rw start at c.is_on_line-2.ensures in
     let ends = rw c.side_along.ensures at c.is_on_left_side.ensures in
     rw c.rev.ensures (edge_met (placed_value c.placed.view_is c.placed.invariant)
     c.requires.ends.apart c.args.edge c.requires.seen (unless ends c.if-is_on_left_side.false)
-    c.requires.start (right_if_neither _ (unless left c.if-is_on_left_side-2.false)
-    (unless first c.if-is_on_line-2.false)) (left_if_neither _
-    (unless right c.if-is_on_right_side.false) (unless on c.if-is_on_line.false)))
+    c.requires.start (right_there (side_at _ _ c.side-start.ensures c.start_of.ensures.place)
+    c.is_on_left_side-2.ensures c.if-is_on_left_side-2.false c.is_on_line-2.ensures
+    c.if-is_on_line-2.false) (left_there (side_at _ _ c.side-end.ensures c.end_of.ensures.place)
+    c.is_on_right_side.ensures c.if-is_on_right_side.false c.is_on_line.ensures
+    c.if-is_on_line.false))

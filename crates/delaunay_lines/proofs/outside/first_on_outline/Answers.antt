@@ -40,6 +40,5 @@ returns-in-Some-nearest_vertex g c =
 pub returns-in-None-nearest_vertex : goal.returns-in-None-nearest_vertex
 returns-in-None-nearest_vertex g c =
     let over = placed_value c.placed.view_is c.placed.invariant in
-    none_is_first over c.requires.start c.requires.ends.apart
-    (none_entered _ _ over c.loop-outer.invariant c.in-None.ensures.steps.0)
-    c.in-None-nearest_vertex.ensures
+    none_is_first over c.requires.start c.requires.ends.apart (none_entered _ _ over
+    c.loop-outer.invariant c.in-None.ensures.steps.0) c.in-None-nearest_vertex.ensures

@@ -5,9 +5,8 @@ use Rattle.delaunay_lines.proofs.SegmentTests.{unless}
 use Rattle.delaunay_lines.proofs.outside.first_past.Goals as goal
 
 pub carries-requires-clause-covered : goal.carries-requires-clause-covered
-carries-requires-clause-covered g c =
-    covered_in _ _ (g.met.P.PlaneTests.sites_are_covered c.placed.inside.tests.now) _ _
-    c.placed.invariant.sites c.position_of.ensures.listed
+carries-requires-clause-covered g c = covered_in _ _ (g.met.P.PlaneTests.sites_are_covered
+    c.placed.inside.tests.now) _ _ c.placed.invariant.sites c.position_of.ensures.listed
 
 pub returns-then-carries : goal.returns-then-carries
 returns-then-carries g c =

@@ -19,9 +19,8 @@ returns-then-is_on_right_side g c =
     let right = rw c.side_along-side.ensures at c.is_on_right_side.ensures in
     let twin = rw c.directed_edge.ensures.index at
     (c.fix-twin.ensures.value ∙ c.rev.ensures.index) in
-    rw twin (over_twin (placed_value c.placed.view_is c.placed.invariant)
-    c.args.edge c.requires.within c.requires.start c.requires.ends.apart
-    (right.0 c.if-is_on_right_side.true))
+    rw twin (over_twin (placed_value c.placed.view_is c.placed.invariant) c.args.edge
+    c.requires.within c.requires.start c.requires.ends.apart (right.0 c.if-is_on_right_side.true))
 
 pub is_ahead-requires : goal.is_ahead-requires
 is_ahead-requires g c =

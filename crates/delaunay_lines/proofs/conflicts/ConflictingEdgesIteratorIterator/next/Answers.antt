@@ -24,9 +24,8 @@ returns-in-Some-conflict_in-clause-goes g c =
     }
 
 pub loop-item-preserved : goal.loop-item-preserved
-loop-item-preserved g c =
-    searching_goes_on c.loop-item.invariant c.in-Some.ensures.steps c.in-Some.ensures.goes.keeps
-    (c.in-Some.ensures.goes.on tt).2 c.in_default-conflict_in.ensures
+loop-item-preserved g c = searching_goes_on c.loop-item.invariant c.in-Some.ensures.steps
+    c.in-Some.ensures.goes.keeps (c.in-Some.ensures.goes.on tt).2 c.in_default-conflict_in.ensures
 
 pub returns-clause-steps : goal.returns-clause-steps
 returns-clause-steps g c =
