@@ -1,8 +1,9 @@
 -- From an item that a segment meets to the next, by the links of a mesh.
--- Notions: IsExit, IsPastFace, IsPastCone, AreEndsOf; placed_value, starts_at, not_same, positive, at_ends, side_at, laid, in_mesh, of_mesh,
--- joined, tiles_with, bare, face_at, start_in, start_known, twin_within, next_spoke, ends_apart,
--- ends_not_within, twin_of_prev, twin_of_next, last_at_edge, past_face,
--- last_within_overlap, end_of_overlap, end_at_end, last_at_end, last_if_none_leads, overlap_comes, past_cone.
+-- Notions: IsExit, IsPastFace, AreEndsOf; placed_value, starts_at, not_same, positive, at_ends,
+-- side_at, laid, in_mesh, of_mesh, joined, tiles_with, bare, face_at, start_in, start_known,
+-- twin_within, next_spoke, ends_apart, ends_not_within, twin_of_prev, twin_of_next, last_at_edge,
+-- past_face, last_within_overlap, end_of_overlap, end_at_end, last_at_end, last_if_none_leads,
+-- overlap_comes, none_comes, far_comes.
 use Rattle.std.proofs.Common.{◌≡◌, ◌≢◌, ◌⊎◌, ◌↔◌, ◌<◌, ◌∙◌, ◌∷◌}
 use Rattle.std.specs.Borrow.{Bor}
 use Rattle.std.proofs.Common.{ℕ, List, length, map, Some, None, sym, ap, subst}
@@ -95,14 +96,6 @@ pub record IsPastFace {V D U F : Type 0} (at : V → Point) (c : Contents V D U 
       → IsNext at c p q (item_of c.mesh (Edge h)) (Some (Vertex v))
   pub side : ¬ IsLeftOf (map at c.vertices) c.mesh q x → z ≢ on
       → IsNext at c p q (item_of c.mesh (Edge h)) (Some (Edge (rev x)))
-
--- after vertex v, where q is in the cone of a face: nothing where q is inside the face's far side,
--- else this side
-pub record IsPastCone {V D U F : Type 0} (at : V → Point) (c : Contents V D U F) (p q : Point)
-    (v far : ℕ) : Type 0 where
-  pub inside : IsLeftOf (map at c.vertices) c.mesh q far → IsNext at c p q (at_vertex v) None
-  pub side : ¬ IsLeftOf (map at c.vertices) c.mesh q far
-      → IsNext at c p q (at_vertex v) (Some (Edge (rev far)))
 
 -- a vertex at the end of directed edge h, and two points where the edge starts and ends
 pub record AreEndsOf (points : List Point) (m : Mesh) (h v : ℕ) (u w : Point) : Type 0 where
@@ -576,13 +569,13 @@ module _ {V D U F P : Type 0} {at : V → Point} {IsSite : P → Point → Type 
 
       module _ (cone : IsInCone points m q h) {far : ℕ} (is : far ≡ next m h) where
         -- where it is inside the face
-        none_comes : IsLeftOf points m q far → IsNext at c p q (at_vertex v) None
+        pub none_comes : IsLeftOf points m q far → IsNext at c p q (at_vertex v) None
         none_comes l = subst (λ (k : ℕ). Last (at_vertex k)) starts
             (last_in_face h within met_there differs_there cone
             (subst (IsLeftOf points m q) is l))
 
         -- where it is beyond
-        far_comes : ¬ IsLeftOf points m q far
+        pub far_comes : ¬ IsLeftOf points m q far
             → IsNext at c p q (at_vertex v) (Some (Edge (rev far)))
         far_comes l = (
           twin_within far (of_mesh far (subst (λ (k : ℕ). k < length m.half_edges) (sym is)
@@ -592,7 +585,3 @@ module _ {V D U F P : Type 0} {at : V → Point} {IsSite : P → Point → Type 
               (through_far h within met_there differs_there cone
               (λ y. l (subst (IsLeftOf points m q) (sym is) y))),
         )
-
-        -- the two
-        pub past_cone : IsPastCone at c p q v far
-        past_cone = record { inside = none_comes; side = far_comes }

@@ -1,8 +1,8 @@
 -- One call of the iterator along a segment.
 -- Notions: IsAfterItem, IsItemIn; alone_after, apart_after, edge_found, vertex_found,
 -- overlap_found, at_item, counts_more, gives_some, ready_after.
-use Rattle.std.proofs.Common.{◌≡◌, ◌≢◌, ◌↔◌, ◌-◌, ◌≤◌, ◌∷◌, ◌∙◌}
-use Rattle.std.proofs.Common.{ℕ, List, Option, Some, None, Bool, false, IsTrue, refl, sym, ap, subst}
+use Rattle.std.proofs.Common.{◌≡◌, ◌≢◌, ◌↔◌, ◌-◌, ◌≤◌, ◌∷◌, ◌∙◌, Bool, false, IsTrue}
+use Rattle.std.proofs.Common.{ℕ, List, Option, Some, None, refl, sym, ap, subst}
 use Rattle.std.specs.Borrow.{Bor}
 use Rattle.std.specs.Prelude.{ℤ}
 use Rattle.delaunay_location.specs.half_edge_mesh.Contents.{Contents}

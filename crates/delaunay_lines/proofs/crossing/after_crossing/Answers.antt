@@ -33,9 +33,8 @@ past g c =
       )
     ] in
     rw (← c.placed.view_is) (past_face c.placed.invariant c.requires.ends.apart c.args.edge
-    at.within at.met (positive _ (unless outer c.if-is_outer_edge.false))
-    (side_at _ _ c.side-side.ensures (rw corner at c.position_of-opposite.ensures.place)) exit
-    corner)
+    at.within at.met (positive _ (unless outer c.if-is_outer_edge.false)) (side_at _ _
+    c.side-side.ensures (rw corner at c.position_of-opposite.ensures.place)) exit corner)
 
 pub returns-then-is_outer_edge : goal.returns-then-is_outer_edge
 returns-then-is_outer_edge g c =

@@ -2,16 +2,15 @@ use Rattle.std.proofs.Common.{◌≡◌, ◌<◌, ◌∙◌, ap, length}
 use Rattle.delaunay_location.specs.half_edge_mesh.Mesh.{origin}
 use Rattle.delaunay_location.specs.half_edge_mesh.Rounds.{out_edges_left}
 use Rattle.plane_segments.specs.Steps.{IsAhead}
-use Rattle.delaunay_location.specs.delaunay_core.Place.{place_of}
 use Rattle.delaunay_location.proofs.delaunay_legalization_lemmas.Questions.{covered_in}
 use Rattle.delaunay_location.proofs.delaunay_legalization_lemmas.Rounds.{round_begins, round_ends}
 use Rattle.delaunay_location.proofs.delaunay_legalization_lemmas.Rounds.{round_goes_on}
-use Rattle.delaunay_lines.proofs.MeshSteps.{IsPastCone, at_ends, ends_apart, in_mesh, last_at_end}
-use Rattle.delaunay_lines.proofs.MeshSteps.{last_if_none_leads, next_spoke, overlap_comes}
-use Rattle.delaunay_lines.proofs.MeshSteps.{past_cone}
+use Rattle.delaunay_lines.proofs.MeshSteps.{at_ends, ends_apart, far_comes, in_mesh, last_at_end}
+use Rattle.delaunay_lines.proofs.MeshSteps.{last_if_none_leads, next_spoke, none_comes}
+use Rattle.delaunay_lines.proofs.MeshSteps.{overlap_comes}
 use Rattle.delaunay_lines.proofs.SegmentTests.{neither, unless}
 use Rattle.delaunay_lines.proofs.vertex.after_vertex.Given.{Over}
-use Rattle.delaunay_lines.proofs.vertex.after_vertex.Goals.{After-fix-edge, After-side_along}
+use Rattle.delaunay_lines.proofs.vertex.after_vertex.Goals.{After-fix-edge}
 use Rattle.delaunay_lines.proofs.vertex.after_vertex.Goals as goal
 
 -- the next edge of the round starts at the vertex
@@ -74,31 +73,33 @@ returns-then-is_ahead g c =
     rw (← c.placed.view_is) (overlap_comes c.placed.invariant c.requires.ends.apart _ spoke.0
     spoke.1 at.met (unless ends c.if-is_same_point.false) (ahead.0 c.if-is_ahead.true))
 
--- what comes next where the segment ends in the cone of the face
-past : (g : Over) (c : After-side_along g) → IsPastCone g.V.HasPosition.place c.args.placed.now.dcel
-    (place_of g.V.Scalar.SpadeNum.whole c.args.from) (place_of g.V.Scalar.SpadeNum.whole c.args.to)
-    c.args.vertex c.fix-far.result
-past g c =
-    let at = rw (← c.placed.view_is) at c.requires in
-    let round = rw (← c.placed.view_is) at c.loop-edge.invariant in
-    let spoke = next_spoke c.placed.invariant round c.in-Some.ensures.steps in
-    let ends = rw c.position_of-start.ensures.place at c.is_same_point.ensures in
-    let cone = rw (c.fix-edge.ensures.value, ← c.placed.view_is) at c.is_in_cone.ensures in
-    let here = c.directed_edge-here.ensures in
-    let far = rw (here.dcel, here.index, c.fix-edge.ensures.value) at
-    (c.fix-far.ensures.value ∙ c.next-then-is_in_cone.ensures.index) in
-    rw (← c.placed.view_is) (past_cone c.placed.invariant c.requires.ends.apart _ spoke.0 spoke.1
-    at.met (unless ends c.if-is_same_point.false) (cone.0 c.if-is_in_cone.true) far)
-
 pub returns-then-is_on_left_side : goal.returns-then-is_on_left_side
 returns-then-is_on_left_side g c =
-    (past g (goal.at.returns-then-is_on_left_side g c).After-side_along).inside
-    ((rw c.side_along.ensures at c.is_on_left_side.ensures).0 c.if-is_on_left_side.true)
+    let spoke = spoke g (goal.at.returns-then-is_on_left_side g c).After-fix-edge in
+    let at = rw (← c.placed.view_is) at c.requires in
+    let ends = rw c.position_of-start.ensures.place at c.is_same_point.ensures in
+    let cone = rw (← c.placed.view_is) at c.is_in_cone.ensures in
+    let here = c.directed_edge-here.ensures in
+    let far = rw (here.dcel, here.index) at
+    (c.fix-far.ensures.value ∙ c.next-then-is_in_cone.ensures.index) in
+    let left = rw (c.side_along.ensures, ← c.placed.view_is) at c.is_on_left_side.ensures in
+    rw (← c.placed.view_is) (none_comes c.placed.invariant c.requires.ends.apart _ spoke.0
+    spoke.1 at.met (unless ends c.if-is_same_point.false) (cone.0 c.if-is_in_cone.true) far
+    (left.0 c.if-is_on_left_side.true))
 
 pub returns-then-is_in_cone : goal.returns-then-is_in_cone
 returns-then-is_in_cone g c =
-    rw c.rev.ensures ((past g (goal.at.returns-then-is_in_cone g c).After-side_along).side
-    (unless (rw c.side_along.ensures at c.is_on_left_side.ensures) c.if-is_on_left_side.false))
+    let spoke = spoke g (goal.at.returns-then-is_in_cone g c).After-fix-edge in
+    let at = rw (← c.placed.view_is) at c.requires in
+    let ends = rw c.position_of-start.ensures.place at c.is_same_point.ensures in
+    let cone = rw (← c.placed.view_is) at c.is_in_cone.ensures in
+    let here = c.directed_edge-here.ensures in
+    let far = rw (here.dcel, here.index) at
+    (c.fix-far.ensures.value ∙ c.next-then-is_in_cone.ensures.index) in
+    let left = rw (c.side_along.ensures, ← c.placed.view_is) at c.is_on_left_side.ensures in
+    rw (c.rev.ensures, ← c.placed.view_is) (far_comes c.placed.invariant c.requires.ends.apart _
+    spoke.0 spoke.1 at.met (unless ends c.if-is_same_point.false)
+    (cone.0 c.if-is_in_cone.true) far (unless left c.if-is_on_left_side.false))
 
 pub loop-edge-preserved : goal.loop-edge-preserved
 loop-edge-preserved g c =
