@@ -1,8 +1,7 @@
 -- What a segment meets first from beyond an outer edge, told from this edge and its neighbours.
 -- Lemmas: nothing_on_left, nothing_beyond, vertex_first, end_first, start_first, not_both_on,
--- left_there, right_there, seen_from, neighbour_after,
--- neighbour_before, stops_after, stops_before, nothing_on_its_left, nothing_past_end,
--- nothing_past_start, end_met, start_met, edge_met.
+-- left_there, right_there, seen_from, neighbour_after, neighbour_before, stops_after, stops_before,
+-- nothing_on_its_left, nothing_past_end, nothing_past_start, end_met, start_met, edge_met.
 use Rattle.std.proofs.Common.{◌≡◌, ◌≢◌, ◌⊎◌, ◌↔◌, ◌<◌, ◌∙◌, ℕ, List, [], length, map, Option}
 use Rattle.std.proofs.Common.{Some, None, Bool, false, IsTrue, refl, sym, ap, subst, inl, inr, arith}
 use lib.IntN.{neg_ℤ}

@@ -120,8 +120,8 @@ module _ {V D U F P S : Type 0} {at : V → Point} {number : S → ℤ}
       same_mesh = refl;
       gives =
           λ items left. let o = others items left in
-          (found.mesh, (o.0, o.1 ∙ ap (λ (k : Item). k ∷ o.0) (sym (found.item
-          ∙ ap (item_of it.dcel.now.mesh) goes.same)), o.2));
+          let is = found.item ∙ ap (item_of it.dcel.now.mesh) goes.same in
+          (found.mesh, (o.0, o.1 ∙ ap (λ (k : Item). k ∷ o.0) (sym is), o.2));
       stays = tt;
     }
 
