@@ -1,12 +1,13 @@
 -- Numbers that fit their width keep their value as they are passed on, and so do sums, differences
 -- and products of them.
--- Lemmas: kept_is, product_of, sum_of, sum_fits, sum_bound, difference_of, difference_fits,
--- difference_bound, term_of, long_difference_fits, long_difference_of.
+-- Lemmas: kept_is, multiplied, product_of, sum_of, sum_fits, sum_bound, difference_of,
+-- difference_fits, difference_bound, term_of, long_difference_fits, long_difference_of.
 use Rattle.std.proofs.Common.{◌≡◌, ◌≤◌, arith, w64, to_z, of_z}
 use mir.Syntax.{w128}
 use Rattle.std.specs.Prelude.{ℤ, ◌+ℤ◌, ◌-ℤ◌, ◌*ℤ◌, unsigned_abs}
 use Rattle.std.specs.Int.RustNames.{FitsSigned}
 use Rattle.std.proofs.lemmas.Int.{ints, fits_signed_from_abs}
+use Rattle.delaunay_core.proofs.Projections.{product_bound}
 
 -- what 64 bits keep of a number
 abbrev kept : ℤ → ℤ
@@ -20,16 +21,22 @@ kept_long z = to_z w128 (of_z w128 z)
 pub kept_is : (z : ℤ) → unsigned_abs z ≤ 4611686018427387904 → kept z ≡ z
 kept_is z h = omega (arith, ints)
 
+-- a product of numbers of absolute value at most 2^30 keeps its value too
+pub multiplied : (a b : ℤ) → unsigned_abs a ≤ 1073741824 → unsigned_abs b ≤ 1073741824
+    → kept (kept a *ℤ kept b) ≡ a *ℤ b
+multiplied a b h k = rw (kept_is a (omega (arith, h)), kept_is b (omega (arith, k)))
+    (kept_is (a *ℤ b) (omega (arith, product_bound a b h k)))
+
 -- a product of numbers of absolute value at most 2^30 that were kept in 64 bits is exact
-pub product_of : (a b x y z : ℤ) → unsigned_abs a ≤ 1073741824 → unsigned_abs b ≤ 1073741824 → a ≡ x
+pub product_of : {a b x y z : ℤ} → unsigned_abs a ≤ 1073741824 → unsigned_abs b ≤ 1073741824 → a ≡ x
     → b ≡ y → z ≡ kept a *ℤ kept b → z ≡ x *ℤ y
-product_of a b x y z h k e f g =
+product_of {a = a} {b = b} h k e f g =
     let p = kept_is a (omega (arith, h)) in let q = kept_is b (omega (arith, k)) in cc
 
 -- a sum of numbers of absolute value at most 2^60 is exact in 64 bits
-pub sum_of : (a b x y : ℤ) → unsigned_abs a ≤ 1152921504606846976
+pub sum_of : {a b x y : ℤ} → unsigned_abs a ≤ 1152921504606846976
     → unsigned_abs b ≤ 1152921504606846976 → a ≡ x → b ≡ y → kept (kept a +ℤ kept b) ≡ x +ℤ y
-sum_of a b x y h k e f = omega (arith, ints)
+sum_of h k e f = omega (arith, ints)
 
 -- a sum of numbers of absolute value at most 2^60 fits in 64 bits
 pub sum_fits : (a b : ℤ) → unsigned_abs a ≤ 1152921504606846976
@@ -42,9 +49,9 @@ pub sum_bound : (a b : ℤ) → unsigned_abs a ≤ 1152921504606846976 → unsig
 sum_bound a b h k = omega (arith, ints)
 
 -- a difference of numbers of absolute value at most 2^60 is exact in 64 bits
-pub difference_of : (a b x y : ℤ) → unsigned_abs a ≤ 1152921504606846976
+pub difference_of : {a b x y : ℤ} → unsigned_abs a ≤ 1152921504606846976
     → unsigned_abs b ≤ 1152921504606846976 → a ≡ x → b ≡ y → kept (kept a -ℤ kept b) ≡ x -ℤ y
-difference_of a b x y h k e f = omega (arith, ints)
+difference_of h k e f = omega (arith, ints)
 
 -- a difference of numbers of absolute value at most 2^60 fits in 64 bits
 pub difference_fits : (a b : ℤ) → unsigned_abs a ≤ 1152921504606846976
@@ -58,9 +65,9 @@ difference_bound a b h k = omega (arith, ints)
 
 -- ---- 128 bits
 -- a product of numbers of absolute value at most 2^61 that were kept in 64 bits is exact
-pub term_of : (a b x y z : ℤ) → unsigned_abs a ≤ 2305843009213693952
+pub term_of : {a b x y z : ℤ} → unsigned_abs a ≤ 2305843009213693952
     → unsigned_abs b ≤ 2305843009213693952 → a ≡ x → b ≡ y → z ≡ kept a *ℤ kept b → z ≡ x *ℤ y
-term_of a b x y z h k e f g =
+term_of {a = a} {b = b} h k e f g =
     let p = kept_is a (omega (arith, h)) in let q = kept_is b (omega (arith, k)) in cc
 
 -- a difference of numbers of absolute value at most 2^122 fits in 128 bits
@@ -71,7 +78,7 @@ long_difference_fits a b h k =
     fits_signed_from_abs w128 (kept_long a -ℤ kept_long b) (omega (arith, ints))
 
 -- a difference of numbers of absolute value at most 2^122 is exact in 128 bits
-pub long_difference_of : (a b x y : ℤ) → unsigned_abs a ≤ 5316911983139663491615228241121378304 →
+pub long_difference_of : {a b x y : ℤ} → unsigned_abs a ≤ 5316911983139663491615228241121378304 →
     unsigned_abs b ≤ 5316911983139663491615228241121378304 → a ≡ x → b ≡ y →
     kept_long (kept_long a -ℤ kept_long b) ≡ x -ℤ y
-long_difference_of a b x y h k e f = omega (arith, ints)
+long_difference_of h k e f = omega (arith, ints)

@@ -10,11 +10,10 @@ overflow_sub-result g c =
 
 pub returns : goal.returns
 returns g c =
-    long_difference_of _ _ _ _ c.term.ensures.bound c.term-2.ensures.bound
-    (term_of _ _ _ _ _ c.dot_at.ensures.bound c.turn_at.ensures.bound c.dot_at.ensures.value
+    let at = place_of g.S.SpadeNum.whole in
+    long_difference_of c.term.ensures.bound c.term-2.ensures.bound
+    (term_of c.dot_at.ensures.bound c.turn_at.ensures.bound c.dot_at.ensures.value
     c.turn_at.ensures.value c.term.ensures.value)
-    (term_of _ _ _ _ _ c.dot_at-2.ensures.bound c.turn_at-2.ensures.bound c.dot_at-2.ensures.value
+    (term_of c.dot_at-2.ensures.bound c.turn_at-2.ensures.bound c.dot_at-2.ensures.value
     c.turn_at-2.ensures.value c.term-2.ensures.value)
-    ∙ determinant_by_angles (place_of g.S.SpadeNum.whole c.args.u)
-    (place_of g.S.SpadeNum.whole c.args.v)
-    (place_of g.S.SpadeNum.whole c.args.p) (place_of g.S.SpadeNum.whole c.args.q)
+    ∙ determinant_by_angles (at c.args.u) (at c.args.v) (at c.args.p) (at c.args.q)

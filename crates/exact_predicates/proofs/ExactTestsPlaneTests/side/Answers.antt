@@ -16,10 +16,5 @@ returns-then-turn-lt0 g c = c.right.ensures ∙ sym (right_if_negative _ _ _
 
 pub returns-else-turn-lt0 : goal.returns-else-turn-lt0
 returns-else-turn-lt0 g c = c.on_line.ensures ∙ sym (on_if_zero _ _ _
-    (subst (λ z. z ≡ pos 0) c.turn_at-turn.ensures.value (omega (
-      arith,
-      ints,
-      c.if-turn-gt0.false,
-      c.if-turn-lt0.false,
-      c.turn_at-turn.ensures.bound,
-    ))))
+    (subst (λ z. z ≡ pos 0) c.turn_at-turn.ensures.value
+    (omega (arith, ints, c.if-turn-gt0.false, c.if-turn-lt0.false, c.turn_at-turn.ensures.bound))))
