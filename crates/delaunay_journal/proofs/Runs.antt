@@ -23,7 +23,7 @@ use Rattle.delaunay_journal.specs.Journal.{Gives, Replays, edit_made, edits_made
 use Rattle.delaunay_journal.specs.Marking.{Marking}
 
 -- ---- an edit that comes now, and those after it
-module _ {A : Type 0} (left rest : List A) (first : A) (is : left ≡ first ∷ rest) where
+module _ {A : Type 0} {left rest : List A} {first : A} (is : left ≡ first ∷ rest) where
   -- the first of what is left is in it
   pub comes_now : (x : A) → first ≡ x → Contains left x
   comes_now x same = subst (λ (xs : List A). Contains xs x) (sym is)
@@ -36,9 +36,9 @@ module _ {A : Type 0} (left rest : List A) (first : A) (is : left ≡ first ∷ 
       subst (λ (xs : List A). Contains xs x) (sym is) (Contains-append_right (first ∷ []) rest x c)
 
   -- with one more outcome there are as many as there were edits
-  pub counts_on : {B : Type 0} (given more : List B) (next : B) (n : ℕ) → more ≡ given ++ next ∷ []
-      → length given + length left ≡ n → length more + length rest ≡ n
-  counts_on given more next n grown was =
+  pub counts_on : {B : Type 0} (given : List B) (next : B) {more : List B} {n : ℕ}
+      → more ≡ given ++ next ∷ [] → length given + length left ≡ n → length more + length rest ≡ n
+  counts_on given next grown was =
       let taken = ap length is in
       let longer = ap length grown in
       omega (arith, was, taken, longer, length_push given next)
@@ -90,11 +90,11 @@ module _ {V D U F : Type 0} (place : V → Point) (constraints : List U → List
         → Replays place constraints marking es (os ++ more) old new
 
   -- the next edit with its outcome is one more
-  pub one_more : (es left rest : List (Edit V)) (os : List (Outcome V))
-      (old now next : State V D U F) (e : Edit V) (o : Outcome V) → IsReplayed es left os old now
+  pub one_more : {es left rest : List (Edit V)} {os : List (Outcome V)}
+      {old now next : State V D U F} {e : Edit V} (o : Outcome V) → IsReplayed es left os old now
       → left ≡ e ∷ rest → Gives place constraints marking e o now next
       → IsReplayed es rest (os ++ o ∷ []) old next
-  one_more es left rest os old now next e o so is done = record {
+  one_more {es = es} {os = os} {old = old} {now = now} {next = next} {e = e} o so is done = record {
     goes = λ more new r. subst
         (λ (xs : List (Outcome V)). Replays place constraints marking es xs old new)
         (sym (append_assoc os (o ∷ []) more))
@@ -104,10 +104,10 @@ module _ {V D U F : Type 0} (place : V → Point) (constraints : List U → List
   }
 
   -- where no edit is left, all were replayed
-  pub ends : (es left : List (Edit V)) (os : List (Outcome V)) (old now : State V D U F)
+  pub ends : {es left : List (Edit V)} {os : List (Outcome V)} {old now : State V D U F}
       → IsReplayed es left os old now → length left ≡ 0
       → Replays place constraints marking es os old now
-  ends es [] os old now so none =
+  ends {es = es} {left = []} {os = os} {old = old} {now = now} so none =
       subst (λ (xs : List (Outcome V)). Replays place constraints marking es xs old now)
       (append-nil os) (so.goes [] now refl)
-  ends es (e ∷ left) os old now so none = absurd (omega (arith, none))
+  ends {left = e ∷ left} so none = absurd (omega (arith, none))

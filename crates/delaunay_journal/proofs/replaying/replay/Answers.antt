@@ -5,29 +5,27 @@ use Rattle.delaunay_journal.proofs.replaying.replay.Goals as goal
 
 pub make-requires-clause-new_site : goal.make-requires-clause-new_site
 make-requires-clause-new_site g c =
-    λ v is. c.loop-edit.invariant.5 v
-    (comes_now _ _ c.in-Some.edit c.in-Some.ensures.steps.0 (Insert v) is)
+    λ v is. c.loop-edit.invariant.5 v (comes_now c.in-Some.ensures.steps.0 (Insert v) is)
 
 pub loop-edit-preserved : goal.loop-edit-preserved
 loop-edit-preserved g c = (
   tt,
   tt,
   rw c.push_reserved.ensures.items
-      (one_more _ _ _ _ _ _ _ _ _ _ c.in-Some.edit c.make.result c.loop-edit.invariant.2
-      c.in-Some.ensures.steps.0 c.make.ensures.gives),
-  counts_on _ _ c.in-Some.edit c.in-Some.ensures.steps.0 _ _ c.make.result _
-      c.push_reserved.ensures.items
+      (one_more _ _ _ c.make.result c.loop-edit.invariant.2 c.in-Some.ensures.steps.0
+      c.make.ensures.gives),
+  counts_on c.in-Some.ensures.steps.0 _ c.make.result c.push_reserved.ensures.items
       c.loop-edit.invariant.3,
   rw c.push_reserved.ensures.capacity c.loop-edit.invariant.4,
   (λ v later. c.loop-edit.invariant.5 v
-      (comes_later _ _ c.in-Some.edit c.in-Some.ensures.steps.0 (Insert v) later)),
+      (comes_later c.in-Some.ensures.steps.0 (Insert v) later)),
   c.make.ensures.sites,
 )
 
 pub returns-clause-answers : goal.returns-clause-answers
-returns-clause-answers g c = ends _ _ _ _ _ _ _ _ c.loop-edit.invariant.2
+returns-clause-answers g c = ends _ _ _ c.loop-edit.invariant.2
     (omega (arith, c.in-None.ensures.steps, c.loop-edit.edit-iterator.rest.ok))
 
 pub returns-clause-runs : goal.returns-clause-runs
-returns-clause-runs g c = runs _ _ _ _ _ _ _ (ends _ _ _ _ _ _ _ _ c.loop-edit.invariant.2
+returns-clause-runs g c = runs _ _ _ _ _ _ _ (ends _ _ _ c.loop-edit.invariant.2
     (omega (arith, c.in-None.ensures.steps, c.loop-edit.edit-iterator.rest.ok)))

@@ -6,24 +6,20 @@ use Rattle.delaunay_journal.proofs.steps.remove.Goals as goal
 pub returns-then-index-num_vertices-clause-gives : goal.returns-then-index-num_vertices-clause-gives
 returns-then-index-num_vertices-clause-gives g c =
     let past = c.if-index-num_vertices.true in
-    let index = c.index.ensures in
-    let count = c.num_vertices.ensures.value in
-    (omega (arith, past, index, count), refl)
+    (omega (arith, past, c.index.ensures, c.num_vertices.ensures.value), refl)
 
 pub returns-in-Ok-clause-gives : goal.returns-in-Ok-clause-gives
-returns-in-Ok-clause-gives g c = removed_so _ _ _ _ _ _ c.in-Ok.ensures.removes
+returns-in-Ok-clause-gives g c = removed_so c.in-Ok.ensures.removes
 
 pub returns-in-Ok-clause-sites : goal.returns-in-Ok-clause-sites
 returns-in-Ok-clause-sites g c = λ _.
     sites_left g.T.Vertex.HasPosition.place g.T.Constraints.ConstraintMarker.constraints
-    (g.T.Triangulation.state c.args.points.now)
-    (g.T.Triangulation.state c.remove.new.self) c.args.vertex c.in-Ok.value
-    c.in-Ok.ensures.removes.plain
+    (g.T.Triangulation.state c.args.points.now) (g.T.Triangulation.state c.remove.new.self)
+    c.args.vertex c.in-Ok.value c.in-Ok.ensures.removes.plain
     (g.P.PlaneTests.sites c.args.tests.now) (c.requires.sites c.recall_invariant.ensures.in_range)
 
 pub returns-in-Err-clause-gives : goal.returns-in-Err-clause-gives
-returns-in-Err-clause-gives g c =
-    let below = c.if-index-num_vertices.false in
-    let index = c.index.ensures in
-    let count = c.num_vertices.ensures.value in
-    (omega (arith, below, index, count), c.in-Err.ensures.removes.err)
+returns-in-Err-clause-gives g c = (
+  omega (arith, c.if-index-num_vertices.false, c.index.ensures, c.num_vertices.ensures.value),
+  c.in-Err.ensures.removes.err,
+)

@@ -5,9 +5,7 @@ use Rattle.delaunay_journal.proofs.SingleEdits.{pair_released, unjoined_is_free}
 use Rattle.delaunay_journal.proofs.replayable.ConstrainedDelaunayTriangulationReplayable.change_pair.Goals as goal
 
 pub returns-in-Ok-clause-gives : goal.returns-in-Ok-clause-gives
-returns-in-Ok-clause-gives g c =
-    rw c.in-Join.is (pair_joined g.V.HasPosition.place c.args.self.now c.add_constraint.new.self
-    c.in-Join.from c.in-Join.to c.in-Ok.made c.in-Ok.ensures.adds)
+returns-in-Ok-clause-gives g c = rw c.in-Join.is (pair_joined c.in-Ok.ensures.adds)
 
 pub returns-in-Err-clause-gives : goal.returns-in-Err-clause-gives
 returns-in-Err-clause-gives g c =
@@ -25,21 +23,15 @@ returns-then-index-count-3-clause-gives g c =
 
 pub returns-in_default-clause-gives : goal.returns-in_default-clause-gives
 returns-in_default-clause-gives g c =
-    let free =
-    unjoined_is_free g.V.HasPosition.place c.args.self.now c.in-Release.from c.in-Release.to
-    c.recall_invariant.ensures.kept c.in_default.ensures in
+    let free = unjoined_is_free _ _ c.recall_invariant.ensures.kept c.in_default.ensures in
     rw c.in-Release.is ((refl, free), refl)
 
 pub returns-then-not-is_constraint_edge-clause-gives :
     goal.returns-then-not-is_constraint_edge-clause-gives
 returns-then-not-is_constraint_edge-clause-gives g c =
-    let joined =
-    edge_joined_by g.V.HasPosition.place c.args.self.now c.in-Release.from c.in-Release.to
-    c.in-Some.edge.index
-    c.fix-edge.result (c.fix-edge.ensures.value ∙ c.as_undirected.ensures.index) c.in-Some.ensures.1
-    c.in-Some.ensures.2 in
-    let marked = c.is_constraint_edge.ensures.joined.1 in
-    rw c.in-Release.is
+    let joined = edge_joined_by c.args.self.now c.in-Some.edge.index (c.fix-edge.ensures.value
+    ∙ c.as_undirected.ensures.index) c.in-Some.ensures.1 c.in-Some.ensures.2 in
+    let marked = c.is_constraint_edge.ensures.joined.1 in rw c.in-Release.is
     ((refl, (λ j. both_ways _ (marked (joined j)) c.if-not-is_constraint_edge.true)), refl)
 
 pub returns-in-Ok-remove_constraint_edge-clause-gives :
@@ -47,21 +39,14 @@ pub returns-in-Ok-remove_constraint_edge-clause-gives :
 returns-in-Ok-remove_constraint_edge-clause-gives g c =
     let marked = c.is_constraint_edge.ensures.marked.0 c.if-not-is_constraint_edge.false in
     let released = c.in-Ok-remove_constraint_edge.ensures.releases in
-    rw c.in-Release.is
-    (pair_released g.V.HasPosition.place c.args.self.now c.in-Release.from c.in-Release.to
-    c.in-Some.edge.index c.fix-edge.result
-    (c.fix-edge.ensures.value ∙ c.as_undirected.ensures.index)
-    c.in-Some.ensures.1 c.in-Some.ensures.2 c.remove_constraint_edge.new.self
-    (released.plain marked)
-    (released.«data» marked))
+    rw c.in-Release.is (pair_released c.args.self.now c.in-Some.edge.index (c.fix-edge.ensures.value
+    ∙ c.as_undirected.ensures.index) c.in-Some.ensures.1 c.in-Some.ensures.2
+    (released.plain marked) (released.«data» marked))
 
 pub returns-in-Err-remove_constraint_edge-clause-gives :
     goal.returns-in-Err-remove_constraint_edge-clause-gives
 returns-in-Err-remove_constraint_edge-clause-gives g c =
-    let joined =
-    joined_by_edge g.V.HasPosition.place c.args.self.now c.in-Release.from c.in-Release.to
-    c.in-Some.edge.index
-    c.fix-edge.result (c.fix-edge.ensures.value ∙ c.as_undirected.ensures.index) c.in-Some.ensures.1
-    c.in-Some.ensures.2 in
-    let there = joined (c.is_constraint_edge.ensures.joined.0 c.if-not-is_constraint_edge.false) in
+    let there = joined_by_edge c.args.self.now c.in-Some.edge.index (c.fix-edge.ensures.value
+    ∙ c.as_undirected.ensures.index) c.in-Some.ensures.1 c.in-Some.ensures.2
+    (c.is_constraint_edge.ensures.joined.0 c.if-not-is_constraint_edge.false) in
     rw c.in-Release.is ((refl, there), c.in-Err-remove_constraint_edge.ensures.releases.err)
