@@ -69,12 +69,12 @@ not_counted constraints h k e out = elim (both_ways (is_constrained constraints 
 ]
 
 -- ---- lists that edges are put into
-module _ (constraints : List ℕ) where
+module _ {constraints : List ℕ} where
   -- one edge more, that counts nothing
-  pub listed_now : (now later now' later' : List ℕ) (h : ℕ) → weight constraints h ≡ 0
+  pub listed_now : {now later now' later' : List ℕ} {h : ℕ} → weight constraints h ≡ 0
       → now' ≡ now ++ h ∷ [] → later' ≡ later
       → Lists constraints (λ g. g ≡ h) now later now' later'
-  listed_now now later now' later' h free grown same =
+  listed_now {now = now} {later = later} {later' = later'} {h = h} free grown same =
       subst (λ xs. Lists constraints (λ g. g ≡ h) now later xs later') (sym grown)
       (subst (λ xs. Lists constraints (λ g. g ≡ h) now later (now ++ h ∷ []) xs) (sym same)
       (record {
@@ -89,10 +89,10 @@ module _ (constraints : List ℕ) where
       }))
 
   -- one edge more, that is a constraint
-  pub listed_later : (now later now' later' : List ℕ) (h : ℕ) → weight constraints h ≡ 1
+  pub listed_later : {now later now' later' : List ℕ} {h : ℕ} → weight constraints h ≡ 1
       → now' ≡ now → later' ≡ later ++ h ∷ []
       → Lists constraints (λ g. g ≡ h) now later now' later'
-  listed_later now later now' later' h counts same grown =
+  listed_later {now = now} {later = later} {later' = later'} {h = h} counts same grown =
       subst (λ xs. Lists constraints (λ g. g ≡ h) now later xs later') (sym same)
       (subst (λ xs. Lists constraints (λ g. g ≡ h) now later now xs) (sym grown)
       (record {
@@ -184,55 +184,55 @@ module _ (constraints : List ℕ) where
   }
 
 -- ---- the outer edges, one after another
-module _ (m : Mesh) (constraints : List ℕ) where
-  -- one with an index below i that has the outer face on its left
-  abbrev pub IsOuterBelow : ℕ → ℕ → Type 0
-  IsOuterBelow i h = (h < i) × (face m h ≡ 0)
+-- one with an index below i that has the outer face on its left
+abbrev pub IsOuterBelow : Mesh → ℕ → ℕ → Type 0
+IsOuterBelow m i h = (h < i) × (face m h ≡ 0)
 
-  pub puts_none : (s : LayerSearch) → PutsIn constraints (IsOuterBelow 0) s s
-  puts_none s = record {
-    lists = lists_none constraints (IsOuterBelow 0) s.now.items s.later.items
+module _ (m : Mesh) {constraints : List ℕ} where
+  pub puts_none : {s : LayerSearch} → PutsIn constraints (IsOuterBelow m 0) s s
+  puts_none {s = s} = record {
+    lists = lists_none (IsOuterBelow m 0) s.now.items s.later.items
         (λ h p. let w = p.0 in omega (arith, w));
     layers = refl;
     layer = refl;
   }
 
-  module _ {given mid : LayerSearch} {i : ℕ} (k : ℕ)
-      (puts : PutsIn constraints (IsOuterBelow i) given mid) (is : k ≡ i) where
+  module _ {given mid : LayerSearch} {i k : ℕ}
+      (puts : PutsIn constraints (IsOuterBelow m i) given mid) (is : k ≡ i) where
     -- one edge more was looked at, and put in
     pub puts_more : {new : LayerSearch} → PutsIn constraints (λ h. h ≡ k) mid new → face m k ≡ 0
-        → PutsIn constraints (IsOuterBelow (i + 1)) given new
+        → PutsIn constraints (IsOuterBelow m (i + 1)) given new
     puts_more one outer = record {
-      lists = lists_as constraints (λ h. IsOuterBelow i h ⊎ (h ≡ k)) (IsOuterBelow (i + 1))
+      lists = lists_as (λ h. IsOuterBelow m i h ⊎ (h ≡ k)) (IsOuterBelow m (i + 1))
           (λ h. (there h, back h))
-          (lists_both constraints (IsOuterBelow i) (λ h. h ≡ k) puts.lists one.lists);
+          (lists_both (IsOuterBelow m i) (λ h. h ≡ k) puts.lists one.lists);
       layers = one.layers ∙ puts.layers;
       layer = one.layer ∙ puts.layer;
     }
       where
-        there : (h : ℕ) → IsOuterBelow i h ⊎ (h ≡ k) → IsOuterBelow (i + 1) h
+        there : (h : ℕ) → IsOuterBelow m i h ⊎ (h ≡ k) → IsOuterBelow m (i + 1) h
         there h (inl p) = let w = p.0 in (omega (arith, w), p.1)
         there h (inr e) = (omega (arith, e, is), ap (face m) e ∙ outer)
 
-        back : (h : ℕ) → IsOuterBelow (i + 1) h → IsOuterBelow i h ⊎ (h ≡ k)
+        back : (h : ℕ) → IsOuterBelow m (i + 1) h → IsOuterBelow m i h ⊎ (h ≡ k)
         back h p = elim (cases_eq h k) [
           | inl e ↦ inr e
           | inr n ↦ let w = p.0 in inl (omega (arith, w, n, is), p.1)
         ]
 
     -- one that is no outer one
-    pub puts_no_more : face m k ≢ 0 → PutsIn constraints (IsOuterBelow (i + 1)) given mid
+    pub puts_no_more : face m k ≢ 0 → PutsIn constraints (IsOuterBelow m (i + 1)) given mid
     puts_no_more inner = record {
-      lists = lists_as constraints (IsOuterBelow i) (IsOuterBelow (i + 1))
+      lists = lists_as (IsOuterBelow m i) (IsOuterBelow m (i + 1))
           (λ h. (there h, back h)) puts.lists;
       layers = puts.layers;
       layer = puts.layer;
     }
       where
-        there : (h : ℕ) → IsOuterBelow i h → IsOuterBelow (i + 1) h
+        there : (h : ℕ) → IsOuterBelow m i h → IsOuterBelow m (i + 1) h
         there h p = let w = p.0 in (omega (arith, w), p.1)
 
-        back : (h : ℕ) → IsOuterBelow (i + 1) h → IsOuterBelow i h
+        back : (h : ℕ) → IsOuterBelow m (i + 1) h → IsOuterBelow m i h
         back h p = elim (cases_eq h k) [
           | inl e ↦ absurd (inner (ap (face m) (sym e) ∙ p.1))
           | inr n ↦ let w = p.0 in (omega (arith, w, n, is), p.1)
@@ -661,7 +661,7 @@ module _ {V D U F : Type 0} {c : Contents V D U F} {constraints : List ℕ} (s :
                 three.later.items s.layer h (reached c.mesh constraints s.layers.items
                 (s.now.items ++ h ∷ []) s.later.items (three.now.items ++ h ∷ [])
                 three.later.items s.layer f searching.layered within unseen_there small way
-                (lists_beside constraints (IsSideOf c.mesh f) s.now.items s.later.items
+                (lists_beside (IsSideOf c.mesh f) s.now.items s.later.items
                 three.now.items three.later.items h sides))
                 (subst (IsMet (set s.layers.items f s.layer)) is seen);
             outer = get_or-set_other s.layers.items f 0 s.layer unseen (λ e. inner (sym e))
@@ -670,9 +670,9 @@ module _ {V D U F : Type 0} {c : Contents V D U F} {constraints : List ℕ} (s :
         where
           sides : Lists constraints (IsSideOf c.mesh f) s.now.items s.later.items three.now.items
               three.later.items
-          sides = lists_as constraints (λ g. ((g ≡ e1) ⊎ (g ≡ e2)) ⊎ (g ≡ e3)) (IsSideOf c.mesh f)
+          sides = lists_as (λ g. ((g ≡ e1) ⊎ (g ≡ e2)) ⊎ (g ≡ e3)) (IsSideOf c.mesh f)
               (λ g. subst (λ (x : ℕ × ℕ × ℕ). (((g ≡ x.0) ⊎ (g ≡ x.1)) ⊎ (g ≡ x.2))
               ↔ IsSideOf c.mesh f g) (λ i. (sym p i, sym q i, sym r i))
               (three_sides c.mesh searching.whole.valid.sound f g (omega (arith, inner)) few_faces))
-              (lists_both constraints (λ g. (g ≡ e1) ⊎ (g ≡ e2)) (λ g. g ≡ e3)
-              (lists_both constraints (λ g. g ≡ e1) (λ g. g ≡ e2) a b) d)
+              (lists_both (λ g. (g ≡ e1) ⊎ (g ≡ e2)) (λ g. g ≡ e3)
+              (lists_both (λ g. g ≡ e1) (λ g. g ≡ e2) a b) d)

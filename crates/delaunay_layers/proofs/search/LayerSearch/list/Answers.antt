@@ -7,9 +7,7 @@ returns-in_ok-push-clause-lists g c =
     let constraints = g.M.ConstraintMarker.constraints c.args.dcel.now.undirected in
     let half = c.fix-whole.ensures.value ∙ c.as_undirected.ensures.index
     ∙ ap (λ (x : ℕ). x / 2) c.directed_edge.ensures.index in
-    listed_later constraints c.args.self.now.now.items c.args.self.now.later.items
-    c.args.self.now.now.items c.push.new.self.items c.args.edge
-    (counted constraints c.args.edge c.fix-whole.result half
+    listed_later (counted constraints c.args.edge c.fix-whole.result half
     (c.is_constraint_edge.ensures.0 c.if-is_constraint_edge.true)) refl c.in_ok-push.ensures.items
 
 pub returns-in_ok-push-2-clause-lists : goal.returns-in_ok-push-2-clause-lists
@@ -17,8 +15,6 @@ returns-in_ok-push-2-clause-lists g c =
     let constraints = g.M.ConstraintMarker.constraints c.args.dcel.now.undirected in
     let half = c.fix-whole.ensures.value ∙ c.as_undirected.ensures.index
     ∙ ap (λ (x : ℕ). x / 2) c.directed_edge.ensures.index in
-    listed_now constraints c.args.self.now.now.items c.args.self.now.later.items
-    c.push-else-is_constraint_edge.new.self.items c.args.self.now.later.items c.args.edge
-    (not_counted constraints c.args.edge c.fix-whole.result half
-    (λ p. let on = c.is_constraint_edge.ensures.1 p in
-    let off = c.if-is_constraint_edge.false in absurd (cc))) c.in_ok-push-2.ensures.items refl
+    listed_now (not_counted constraints c.args.edge c.fix-whole.result half
+    (λ p. let on = c.is_constraint_edge.ensures.1 p in let off = c.if-is_constraint_edge.false in
+    absurd (cc))) c.in_ok-push-2.ensures.items refl

@@ -5,4 +5,4 @@ use Rattle.delaunay_layers.proofs.search.LayerSearch.list_outer_edges.Given as g
 abbrev pub invariant-loop-index : goal.invariant-loop-index
 invariant-loop-index g l =
     let constraints = g.M.ConstraintMarker.constraints l.dcel.undirected in
-    PutsIn constraints (IsOuterBelow l.dcel.mesh constraints l.index) l.fn.self l.self
+    PutsIn constraints (IsOuterBelow l.dcel.mesh l.index) l.fn.self l.self
