@@ -6,35 +6,29 @@ use Rattle.delaunay_shape_queries.proofs.float_triangulation.FloatTriangulation.
 
 pub new-rectangle-requires : goal.new-rectangle-requires
 new-rectangle-requires g c =
-    let whole = g.Self.Vertex.Scalar.SpadeNum.whole in
     let covered = g.P.PlaneTests.covered c.args.tests.now in
     let in_range = g.met.P.PlaneTests.covered_are_in_range c.args.tests.now in
     record {
-      lower_in_range = in_range _ (lower_corner covered (place_of whole c.args.lower)
-          (place_of whole c.args.upper) c.requires.covered);
-      upper_in_range = in_range _ (upper_corner covered (place_of whole c.args.lower)
-          (place_of whole c.args.upper) c.requires.covered);
+      lower_in_range = in_range _ (lower_corner covered _ _ c.requires.covered);
+      upper_in_range = in_range _ (upper_corner covered _ _ c.requires.covered);
     }
 
 pub get_hint-hint-requires-clause-covered : goal.get_hint-hint-requires-clause-covered
 get_hint-hint-requires-clause-covered g c =
-    let whole = g.Self.Vertex.Scalar.SpadeNum.whole in
-    lower_corner (g.P.PlaneTests.covered c.args.tests.now) (place_of whole c.args.lower)
-    (place_of whole c.args.upper) c.requires.covered
+    lower_corner (g.P.PlaneTests.covered c.args.tests.now) _ _ c.requires.covered
 
 pub edges_in_shape-requires : goal.edges_in_shape-requires
 edges_in_shape-requires g c =
-    let whole = g.Self.Vertex.Scalar.SpadeNum.whole in
+    let covered = g.P.PlaneTests.covered c.args.tests.now in
     record {
       kept = kept_in_mesh _ _ c.s.result c.s.ensures c.recall_invariant.ensures.kept;
       sites = sites_in_mesh _ _ c.s.result c.s.ensures (g.P.PlaneTests.sites c.args.tests.now)
           c.recall_invariant.ensures.kept c.requires.sites;
-      own_covered = same_corners (g.P.PlaneTests.covered c.args.tests.now) (place_of whole)
+      own_covered = same_corners covered (place_of g.Self.Vertex.Scalar.SpadeNum.whole)
           c.new-rectangle.ensures.lower c.new-rectangle.ensures.upper c.requires.covered;
-      start_covered = lower_corner (g.P.PlaneTests.covered c.args.tests.now)
-          (place_of whole c.args.lower) (place_of whole c.args.upper) c.requires.covered;
+      start_covered = lower_corner covered _ _ c.requires.covered;
       begins = rw (c.new-rectangle.ensures.lower, c.new-rectangle.ensures.upper)
-          (rectangle_begins (place_of whole c.args.lower) (place_of whole c.args.upper));
+          (rectangle_begins _ _);
     }
 
 pub returns : goal.returns
