@@ -1,8 +1,8 @@
 -- What layers hold after one of them changed, and after one was added or dropped.
--- Notions: AllBefore, IsVacantBelow; all_from_each, all_with, nothing_contained, all_before_next,
--- sites_with, or_with, sites_or, with_then_with, all_from_held, held_from_all, held_at,
--- held_after_set, held_since, sites_at, vacant_if_all, vacant_one_more, held_in_first,
--- pushed_within.
+-- Notions: AllBefore, IsChanged, IsVacantBelow; all_from_each, all_with, nothing_contained,
+-- all_before_next, site_of, or_with, all_from_held, held_from_all, held_at, held_or, sites_at,
+-- sites_since, sites_there, changed_again, changed_then, vacant_if_all, vacant_one_more,
+-- held_in_first, pushed_within, pushed_first.
 use Rattle.std.proofs.Common.{
   ◌≡◌,
   ◌∙◌,
@@ -10,6 +10,7 @@ use Rattle.std.proofs.Common.{
   ℕ,
   ◌+◌,
   ◌<◌,
+  ◌≤◌,
   List,
   [],
   ◌∷◌,
@@ -24,7 +25,7 @@ use Rattle.std.proofs.Common.{
   arith,
 }
 use Rattle.std.proofs.lemmas.Bool.{cases_eq}
-use Rattle.std.proofs.lemmas.List.{get_or_default}
+use Rattle.std.proofs.lemmas.List.{get_or_default, length-set}
 use mathlib.Core.Logic.{⊎_elim}
 use Rattle.std.specs.Prelude.{if◌then◌else◌}
 use Rattle.std.specs.Prelude.{All, Bool, true, false, Contains, Option, Some, slice_set, take}
@@ -66,11 +67,11 @@ all_before_next P n xs x here within meets before = λ k d under k-in.
     (λ other. before k d (omega (arith, under, other)) k-in)
     (cases_eq k n)
 
--- sites with one more
-pub sites_with : (sites old now : Point → Type 0) (q : Point) → IsAtMost sites old → sites q
-    → IsAtMostWith old now q → IsAtMost sites now
-sites_with sites old now q held site more =
-    λ p h. ⊎_elim (λ o. held p o) (λ e. subst sites (sym e) site) (more p h)
+-- what is held, or is a site, is a site where all that is held is
+pub site_of : {sites held : Point → Type 0} {p q : Point} → IsAtMost sites held → sites q
+    → held p ⊎ (p ≡ q) → sites p
+site_of {sites = sites} all site =
+    ⊎_elim (λ h. all _ h) (λ e. subst sites (sym e) site)
 
 -- the one more is that of a vertex that is swapped in
 pub or_with : (old now : Point → Type 0) (q : Point) (swapped : Option Point)
@@ -78,25 +79,31 @@ pub or_with : (old now : Point → Type 0) (q : Point) (swapped : Option Point)
 or_with old now q swapped more is =
     λ p h. ⊎_elim (λ o. inl o) (λ e. inr (is ∙ ap (λ x. Some x) (sym e))) (more p h)
 
--- sites with that of such a vertex, if any
-pub sites_or : (sites old now : Point → Type 0) (swapped : Option Point) → IsAtMost sites old
-    → ((p : Point) → swapped ≡ Some p → sites p) → IsAtMostOr old now swapped → IsAtMost sites now
-sites_or sites old now swapped held site more =
-    λ p h. ⊎_elim (λ o. held p o) (λ e. site p e) (more p h)
-
--- one more, twice the same
-pub with_then_with : (old now later : Point → Type 0) (q : Point) → IsAtMostWith old now q
-    → IsAtMostWith now later q → IsAtMostWith old later q
-with_then_with old now later q first second =
-    λ p h. ⊎_elim (λ o. first p o) (λ e. inr e) (second p h)
-
 -- what each point of a list meets, each of another does that has at most one more, which meets it
 pub all_with : (P : Point → Type 0) (old new : List Point) (q : Point) → All P old → P q
     → IsAtMostWith (Contains old) (Contains new) q → All P new
 all_with P old new q all one more = all_from_each P new
-    (sites_with P (Contains old) (Contains new) q (λ p h. All-contains P old p all h) one more)
+    (λ p h. ⊎_elim (λ o. All-contains P old p all o) (λ e. subst P (sym e) one) (more p h))
+
+-- as many layers as before, of which each position is an old one or is among those of X
+pub record IsChanged {L : Type 0} (positions_of : L → List Point) (X : Point → Type 0)
+    (before layers : List L) (many : ℕ) : Type 0 where
+  pub as_many : length layers ≡ many
+  pub more : (p : Point) → IsInSome positions_of layers p → IsInSome positions_of before p ⊎ X p
 
 module _ {L : Type 0} (positions_of : L → List Point) where
+  -- none of the layers before one has a vertex at q
+  abbrev pub IsVacantBelow : Point → ℕ → List L → Type 0
+  IsVacantBelow q level layers = AllBefore (λ l. ¬ Contains (positions_of l) q) level layers
+
+  -- one layer more
+  pub vacant_one_more : {q : Point} (level : ℕ) (layers : List L) {layer : L} → layer
+      ≡ get_or layers level layer → level < length layers → ¬ Contains (positions_of layer) q
+      → IsVacantBelow q level layers → IsVacantBelow q (level + 1) layers
+  vacant_one_more {q = q} level layers {layer = layer} =
+      all_before_next (λ l. ¬ Contains (positions_of l) q) level layers layer
+
+module _ {L : Type 0} {positions_of : L → List Point} where
   -- what is held, as a fact of each layer
   pub all_from_held : (P : Point → Type 0) (layers : List L)
       → IsAtMost P (IsInSome positions_of layers) → All (λ l. All P (positions_of l)) layers
@@ -112,82 +119,97 @@ module _ {L : Type 0} (positions_of : L → List Point) where
       All-contains P (positions_of h.layer) p
       (All-contains (λ l. All P (positions_of l)) layers h.layer all h.among) h.vertex
 
-  -- the layer at an index that is read
-  pub held_at : (layers : List L) (i : ℕ) (layer : L) → layer ≡ get_or layers i layer
-      → i < length layers → (p : Point) → Contains (positions_of layer) p
-      → IsInSome positions_of layers p
-  held_at layers i layer here below p at =
-      record { layer = layer; among = (i, below, sym here); vertex = at }
+  module _ {layers : List L} (i : ℕ) {layer : L} (here : layer ≡ get_or layers i layer)
+      (below : i < length layers) where
+    -- the layer at an index that is read
+    pub held_at : (p : Point) → Contains (positions_of layer) p → IsInSome positions_of layers p
+    held_at p at = record { layer = layer; among = (i, below, sym here); vertex = at }
 
-  -- a layer takes the place of one
-  pub held_after_set : (X : Point → Type 0) (layers : List L) (i : ℕ) (old new : L)
-      → i < length layers → old ≡ get_or layers i old
-      → ((p : Point) → Contains (positions_of new) p → Contains (positions_of old) p ⊎ X p)
-      → (p : Point) → IsInSome positions_of (slice_set layers i new) p
-      → IsInSome positions_of layers p ⊎ X p
-  held_after_set X layers i old new below here more =
-      let P : Point → Type 0 = λ p. IsInSome positions_of layers p ⊎ X p in
-      held_from_all P (slice_set layers i new)
-      (All-set (λ l. All P (positions_of l)) layers i new
-      (all_from_each P (positions_of new)
-      (λ p at. ⊎_elim (λ o. inl (held_at layers i old here below p o)) (λ x. inr x) (more p at)))
-      (all_from_held P layers (λ p h. inl h)))
+    -- what it has, or something else
+    pub held_or : {p : Point} {A : Type 0} → Contains (positions_of layer) p ⊎ A
+        → IsInSome positions_of layers p ⊎ A
+    held_or = ⊎_elim (λ at. inl (held_at _ at)) (λ a. inr a)
 
-  -- the same after changes that each add at most X
-  pub held_since : (X : Point → Type 0) (before layers : List L) (i : ℕ) (old new : L)
-      → old ≡ get_or layers i old → i < length layers
-      → ((p : Point) → Contains (positions_of new) p → Contains (positions_of old) p ⊎ X p)
-      → ((p : Point) → IsInSome positions_of layers p → IsInSome positions_of before p ⊎ X p)
-      → (p : Point) → IsInSome positions_of (slice_set layers i new) p
-      → IsInSome positions_of before p ⊎ X p
-  held_since X before layers i old new here below more former = λ p h.
-      ⊎_elim (λ o. former p o) (λ x. inr x) (held_after_set X layers i old new below here more p h)
+    -- its positions are sites where all that is held is
+    pub sites_at : {sites : Point → Type 0} → IsAtMost sites (IsInSome positions_of layers)
+        → All sites (positions_of layer)
+    sites_at {sites = sites} held =
+        all_from_each sites (positions_of layer) (λ p at. held p (held_at p at))
 
-  -- the positions of a layer that is read are sites where all that is held is
-  pub sites_at : (sites : Point → Type 0) (layers : List L) (i : ℕ) (layer : L)
-      → layer ≡ get_or layers i layer → i < length layers
-      → IsAtMost sites (IsInSome positions_of layers) → All sites (positions_of layer)
-  sites_at sites layers i layer here below held =
-      all_from_each sites (positions_of layer)
-      (λ p at. held p (held_at layers i layer here below p at))
+  module _ {X : Point → Type 0} {before layers : List L} {many : ℕ}
+      (changed : IsChanged positions_of X before layers many) where
+    -- what is held are sites still
+    pub sites_since : {sites : Point → Type 0} → IsAtMost sites (IsInSome positions_of before)
+        → ((p : Point) → X p → sites p) → IsAtMost sites (IsInSome positions_of layers)
+    sites_since held site = λ p h. ⊎_elim (λ o. held p o) (λ x. site p x) (changed.more p h)
 
-  -- none of the layers before one has a vertex at q
-  abbrev pub IsVacantBelow : Point → ℕ → List L → Type 0
-  IsVacantBelow q level layers = AllBefore (λ l. ¬ Contains (positions_of l) q) level layers
+    -- and as much more is held again
+    pub changed_then : {later : Point → Type 0} → ((p : Point) → later p
+        → IsInSome positions_of layers p ⊎ X p) → (p : Point) → later p
+        → IsInSome positions_of before p ⊎ X p
+    changed_then more = λ p h. ⊎_elim (λ o. changed.more p o) (λ x. inr x) (more p h)
+
+    module _ (i : ℕ) {old : L} (here : old ≡ get_or layers i old) (below : i < many) where
+      within : i < length layers
+      within = let same = changed.as_many in omega (arith, below, same)
+
+      -- and so are the positions of a layer that is read
+      pub sites_there : {sites : Point → Type 0} → IsAtMost sites (IsInSome positions_of before)
+          → ((p : Point) → X p → sites p) → All sites (positions_of old)
+      sites_there held site = sites_at i here within (sites_since held site)
+
+      -- a layer takes its place
+      pub changed_again : (new : L)
+          → ((p : Point) → Contains (positions_of new) p → Contains (positions_of old) p ⊎ X p)
+          → IsChanged positions_of X before (slice_set layers i new) many
+      changed_again new more =
+          let P : Point → Type 0 = λ p. IsInSome positions_of before p ⊎ X p in record {
+            as_many = length-set layers i new ∙ changed.as_many;
+            more = held_from_all P (slice_set layers i new)
+                (All-set (λ l. All P (positions_of l)) layers i new
+                (all_from_each P (positions_of new) (λ p at. ⊎_elim
+                (λ o. changed.more p (held_at i here within p o)) (λ x. inr x) (more p at)))
+                (all_from_held P layers changed.more));
+          }
 
   -- no layer is left out
-  pub vacant_if_all : (q : Point) (layers : List L) → IsVacantBelow q (length layers) layers
-      → ¬ IsInSome positions_of layers q
-  vacant_if_all q layers vacant h =
-      vacant h.among.0 h.layer h.among.1 h.among.1
-      (subst (λ (l : L). Contains (positions_of l) q) (sym h.among.2) h.vertex)
-
-  -- one layer more
-  pub vacant_one_more : (q : Point) (level : ℕ) (layers : List L) (layer : L) → layer
-      ≡ get_or layers level layer → level < length layers → ¬ Contains (positions_of layer) q
-      → IsVacantBelow q level layers → IsVacantBelow q (level + 1) layers
-  vacant_one_more q level layers layer here within apart vacant =
-      all_before_next (λ l. ¬ Contains (positions_of l) q) level layers layer here within apart
-      vacant
+  pub vacant_if_all : {q : Point} {layers read : List L} (n : ℕ) → read ≡ layers
+      → length read ≤ n → IsVacantBelow positions_of q n read → ¬ IsInSome positions_of layers q
+  vacant_if_all {q = q} n same all vacant = subst (λ (ls : List L). ¬ IsInSome positions_of ls q)
+      same (λ h. let under = h.among.1 in
+      vacant h.among.0 h.layer (omega (arith, under, all)) under
+      (subst (λ (l : L). Contains (positions_of l) q) (sym h.among.2) h.vertex))
 
   -- the first n layers
-  pub held_in_first : (n : ℕ) (layers later : List L) → later ≡ take n layers
+  pub held_in_first : (n : ℕ) {layers later : List L} → later ≡ take n layers
       → IsAtMost (IsInSome positions_of layers) (IsInSome positions_of later)
-  held_in_first n layers later e =
+  held_in_first n {layers = layers} {later = later} e =
       let held = IsInSome positions_of layers in
       held_from_all held later
       (subst (All (λ l. All held (positions_of l))) (sym e)
       (All-take (λ l. All held (positions_of l)) n layers (all_from_held held layers (λ p h. h))))
 
   -- a layer is added, if it is, to such whose positions are all among those of H
-  pub pushed_within : (H : Point → Type 0) (layers later : List L) (b : Bool) (layer : L) → later
+  pub pushed_within : {H : Point → Type 0} {layers later : List L} (b : Bool) (layer : L) → later
       ≡ (if b then layers ++ layer ∷ [] else layers) → IsAtMost H (IsInSome positions_of layers)
       → ((p : Point) → Contains (positions_of layer) p → H p)
       → IsAtMost H (IsInSome positions_of later)
-  pushed_within H layers later true layer e within more =
+  pushed_within {H = H} {layers = layers} {later = later} true layer e within more =
       held_from_all H later
       (subst (All (λ l. All H (positions_of l))) (sym e)
       (All-push (λ l. All H (positions_of l)) layers layer
       (all_from_held H layers within) (all_from_each H (positions_of layer) more)))
-  pushed_within H layers later false layer e within more =
+  pushed_within {H = H} false layer e within more =
       subst (λ (ls : List L). IsAtMost H (IsInSome positions_of ls)) (sym e) within
+
+  -- one of a single position is added, which is held or is q
+  pub pushed_first : {layers later : List L} (b : Bool) (layer : L) {none : List Point}
+      {first q : Point} → later ≡ (if b then layers ++ layer ∷ [] else layers) → none ≡ []
+      → IsAtMostWith (Contains none) (Contains (positions_of layer)) first
+      → IsInSome positions_of layers first ⊎ (first ≡ q)
+      → IsAtMostWith (IsInSome positions_of layers) (IsInSome positions_of later) q
+  pushed_first {layers = layers} b layer {first = first} {q = q} is empty one at =
+      let H : Point → Type 0 = λ p. IsInSome positions_of layers p ⊎ (p ≡ q) in
+      pushed_within {H = H} b layer is (λ p h. inl h) (λ p h. ⊎_elim
+      (λ o. absurd (nothing_contained p (subst (λ (ps : List Point). Contains ps p) empty o)))
+      (λ e. subst H (sym e) at) (one p h))

@@ -1,13 +1,15 @@
--- What a hierarchy holds when it is made from positions, and a copy of a layer.
--- Lemmas: element_is_listed, of_then_with, sites_of, same_place.
+-- What a hierarchy holds when it is made from positions, a copy of a layer, and what is not in one.
+-- Lemmas: element_is_listed, of_then_with, sites_of, same_place, none_found.
 use Rattle.std.proofs.Common.{◌≡◌, ◌∙◌, ℕ, ◌<◌, ℤ, List, length, map, get_or, sym, ap, subst, arith}
 use mathlib.Core.Logic.{⊎_elim}
-use Rattle.std.specs.Prelude.{All, Contains}
-use Rattle.std.proofs.lemmas.List.{length-map, get_or-map}
+use Rattle.std.specs.Prelude.{All, Contains, Option, Some, None, Bool, true, false, not}
+use Rattle.std.specs.Prelude.{IsTrue, MatchOption, is_some, pos}
+use Rattle.std.proofs.lemmas.List.{length-map, get_or-map, get_or_default}
 use Rattle.std.proofs.lemmas.List.Elements.{All-contains}
 use Rattle.delaunay_interface.specs.plane.Fraction.{Point}
 use Rattle.delaunay_interface.specs.delaunay_core.declared.point.Point2.{Point2}
 use Rattle.delaunay_interface.specs.delaunay_core.Place.{place_of}
+use Rattle.delaunay_interface.specs.delaunay_legalization.Known.{IsKnown}
 use Rattle.delaunay_interface.specs.plane.Hint.{IsAtMost, IsAtMostOf, IsAtMostWith}
 
 -- the position of an element is one of those of the list
@@ -37,3 +39,13 @@ pub same_place : {S : Type 0} (number : S → ℤ) (clone : S → S → Type 0)
 same_place number clone same v w h =
     ap (λ a. place_of number (record { x = a; y = w.y })) (same v.x w.x h.0)
     ∙ ap (λ b. place_of number (record { x = v.x; y = b })) (same v.y w.y h.1)
+
+-- where a search that finds each vertex found none, no point of the list is there
+pub none_found : {X : Type 0} (points : List Point) (q : Point) (P : X → Type 0) (found : Option X)
+    (vacant : Bool) → MatchOption found (¬ IsKnown points q) P → is_some found ≡ not vacant
+    → IsTrue vacant → ¬ Contains points q
+none_found points q P None vacant unknown same is at =
+    let e = get_or_default points at.0 (record { x = pos 0; y = pos 0 }) q at.1 in
+    unknown (record { index = at.0; below = at.1; here = e ∙ at.2 })
+none_found points q P (Some x) true unknown same is at = absurd (cc same)
+none_found points q P (Some x) false unknown same is at = absurd (cc is)

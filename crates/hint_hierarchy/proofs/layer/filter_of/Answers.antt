@@ -1,6 +1,4 @@
-use Rattle.std.proofs.Common.{◌≡◌, ◌∙◌, length, arith}
-use Rattle.std.proofs.lemmas.List.{length-map}
-use Rattle.std.proofs.lemmas.Grind.{common_steps}
+use Rattle.std.proofs.Common.{◌∙◌}
 use Rattle.delaunay_interface.specs.delaunay_core.Place.{place_of}
 use Rattle.hint_hierarchy.proofs.Filtered.{filtered_next}
 use Rattle.hint_hierarchy.proofs.layer.filter_of.Goals as goal
@@ -12,10 +10,3 @@ loop-index-preserved g c =
     (rw (← c.vertex-vertex.ensures.state)
     (rw (c.vertex-vertex.ensures.index ∙ c.from_index.ensures) at c.data.ensures))
     c.add.ensures.has c.add.ensures.others c.loop-index.invariant
-
-pub returns : goal.returns
-returns g c = λ k d below.
-    let points = c.args.triangulation.now.vertices in
-    let many = length-map points (place_of g.S.SpadeNum.whole) in
-    let count : c.loop-index.index ≡ length points = grind (arith, common_steps) in
-    c.loop-index.invariant k d (omega (arith, below, many, count)) below

@@ -4,6 +4,5 @@ use Rattle.hint_hierarchy.proofs.Held.{IsVacantBelow}
 use Rattle.hint_hierarchy.proofs.hierarchy.HierarchyHintGeneratorWithBranchFactor.is_vacant.Given as goal
 
 abbrev pub invariant-loop-layer : goal.invariant-loop-layer
-invariant-loop-layer g l =
-    IsVacantBelow (positions g.S.SpadeNum.whole) (place_of g.S.SpadeNum.whole l.position)
-    l.layer-index l.self.layers.items
+invariant-loop-layer g l = IsVacantBelow (positions g.S.SpadeNum.whole)
+    (place_of g.S.SpadeNum.whole l.position) l.layer-index l.layer-items
