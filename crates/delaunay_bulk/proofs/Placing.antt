@@ -3,6 +3,9 @@
 use Rattle.std.proofs.Common.{◌≡◌, ◌+◌, ◌-◌, ◌<◌, ◌≤◌, [], ◌∷◌, ◌++◌, ◌∙◌}
 use Rattle.std.proofs.Common.{ℕ, ℤ, zero, suc, List, length, map, Some, false}
 use Rattle.std.proofs.Common.{rules, sym, ap, subst, refl, arith, append_assoc, length-append}
+use Rattle.std.proofs.Common.{w64, to_z, of_z}
+use Rattle.std.specs.Int.RustNames.{FitsSigned}
+use Rattle.std.proofs.lemmas.Int.{to_z-of_z}
 use Rattle.std.specs.Prelude.{All, IsPermutation, slice_get, slice_index_or}
 use Rattle.std.specs.Ordering.{nat_cmp, is_lt}
 use Rattle.std.specs.List.Sorted.{IsNonDecreasingBy, IsSortedByKey, IsStableByKey}
@@ -58,10 +61,13 @@ sorted_from_rise n xs up k d low within =
     (up k (k + 1) d (omega arith) within)
 
 -- a key by the coordinates of the position
-pub key_by : {key : ℕ} {x y : ℤ} {q p : Point} → key ≡ key_at x y → x ≡ q.x → y ≡ q.y → q ≡ p
-    → key ≡ key_at p.x p.y
-key_by {q = q} is at_x at_y same = is ∙ ap (λ (z : ℤ × ℤ). key_at z.0 z.1)
-    (λ i. (at_x i, at_y i)) ∙ ap (λ (r : Point). key_at r.x r.y) same
+pub key_by : {key : ℕ} {x y : ℤ} {q p : Point}
+    → key ≡ key_at (to_z w64 (of_z w64 x)) (to_z w64 (of_z w64 y)) → FitsSigned w64 x
+    → FitsSigned w64 y → x ≡ q.x → y ≡ q.y → q ≡ p → key ≡ key_at p.x p.y
+key_by {x = x} {y = y} {q = q} is fits_x fits_y at_x at_y same =
+    let near_x = to_z-of_z w64 x fits_x ∙ at_x in let near_y = to_z-of_z w64 y fits_y ∙ at_y in
+    is ∙ ap (λ (z : ℤ × ℤ). key_at z.0 z.1) (λ i. (near_x i, near_y i))
+    ∙ ap (λ (r : Point). key_at r.x r.y) same
 
 module _ {V : Type 0} (place : V → Point) where
   -- the key of a vertex
@@ -151,7 +157,7 @@ module _ {V : Type 0} (place : V → Point) where
   fused [] = refl
   fused (p ∷ ps) = ap (λ (ns : List ℕ). p.place ∷ ns) (fused ps)
 
-  module _ (vertices left : List V) (placed sorted : List (Placed V))
+  module _ {vertices left : List V} {placed sorted : List (Placed V)}
       (a : ArePlaced vertices left placed) (none : length left ≡ 0)
       (moved : IsPermutation placed sorted)
       (up : IsNonDecreasingBy (λ (p : Placed V). p.key) sorted)

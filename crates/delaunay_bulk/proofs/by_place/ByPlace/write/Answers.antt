@@ -12,17 +12,12 @@ write_entries-requires g c = pushed_within _ _ _ c.self.view_is c.requires c.sel
     c.push_reserved.ensures.items
 
 pub invariant_of-self-else-len-eq-WAITING : goal.invariant_of-self-else-len-eq-WAITING
-invariant_of-self-else-len-eq-WAITING g c = (
-  pushed_within _ _ _ c.self.view_is c.requires c.self.invariant.0 c.push_reserved.ensures.items,
-  λ some. omega (arith, c.push_reserved.ensures.capacity, c.self.invariant.1 some),
-  omega (
-    arith,
-    c.if-len-eq-WAITING.false,
-    c.len.ensures,
-    c.push_reserved.ensures.len,
-    c.self.invariant.2,
-  ),
-)
+invariant_of-self-else-len-eq-WAITING g c =
+    let pushed = c.push_reserved.ensures in let waits = c.self.invariant in (
+      pushed_within _ _ _ c.self.view_is c.requires waits.0 pushed.items,
+      λ some. omega (arith, pushed.capacity, waits.1 some),
+      omega (arith, c.if-len-eq-WAITING.false, c.len.ensures, pushed.len, waits.2),
+    )
 
 pub returns-then-len-eq-WAITING : goal.returns-then-len-eq-WAITING
 returns-then-len-eq-WAITING g c =
