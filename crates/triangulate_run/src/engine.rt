@@ -1,12 +1,12 @@
 //! The answers of a triangulation to commands.
-ghost use Rattle.std.specs.Prelude.{◌≡◌, true, false, All, MatchOption};
+ghost use Rattle.std.specs.Prelude.{◌≡◌, false, MatchOption};
 ghost use Rattle.triangulate_watched.specs.Watched.{has_failed};
-ghost use Rattle.triangulate_run.specs.Stage.{position, first_stage, Fits};
-ghost use Rattle.triangulate_run.specs.Points.{place};
+ghost use Rattle.triangulate_run.specs.Stage.{position, Fits};
 ghost use Rattle.triangulate_run.specs.Output.{PutsSome};
 ghost use Rattle.triangulate_run.specs.Engine.{stage_of, IsEngineReady};
-ghost use Rattle.triangulate_run.specs.Answer.{AreVertices, IsReplied, MayAnswer, MayCount, MayJoin};
-ghost use Rattle.triangulate_run.specs.Answer.{MayMeasure, MayRelease, MayReply, MayWalk, point_at};
+ghost use Rattle.triangulate_run.specs.Answer.{AreVertices, IsReplied, MayAnswer, MayCount};
+ghost use Rattle.triangulate_run.specs.Answer.{MayJoin, MayMeasure, MayRelease, MayReply, MayWalk};
+ghost use Rattle.triangulate_run.specs.Answer.{point_at};
 
 use crate::constraints::{constrain, release, release_free};
 use crate::line::put_line;
@@ -59,25 +59,6 @@ pub(crate) struct PointEngine<'a, P, L: HintGenerator<i64>> {
 }
 
 impl<'a, P: PlaneTests<i64>, L: HintGenerator<i64>> PointEngine<'a, P, L> {
-    /// An engine without vertices.
-    pub(crate) fn new(alloc: Global, tests: &'a P, points: &'a [SheetPoint]) -> Self
-        requires covered { All (λ s. P.covered tests.now (place s)) points.now }
-        requires sites { All (λ s. s.site ≡ true → P.sites tests.now (place s)) points.now }
-        ensures ready { IsEngineReady P.covered P.sites result }
-        ensures points { result.points.now ≡ points.now }
-        ensures stage { stage_of result.triangulation ≡ first_stage }
-        ensures fits { Fits (stage_of result.triangulation) }
-    {
-        let triangulation = Plain::new(alloc);
-        triangulation.recall_invariant();
-        PointEngine {
-            triangulation: Either::Plain(triangulation),
-            tests,
-            points,
-            alloc,
-        }
-    }
-
     /// Does what a command asks for, and puts what there is to tell behind what is held.
     pub(crate) fn answer<W: Write>(
         &mut self,
@@ -107,7 +88,7 @@ impl<'a, P: PlaneTests<i64>, L: HintGenerator<i64>> PointEngine<'a, P, L> {
     }
 
     /// What holds of each triangulation between commands.
-    fn recall_invariant(&self)
+    pub(crate) fn recall_invariant(&self)
         ensures { Fits (stage_of self.now.triangulation) }
     {
         on_either!(&self.triangulation, it => it.recall_invariant())

@@ -7,12 +7,12 @@ ghost use Rattle.triangulate_run.specs.Stage.{Fits};
 ghost use Rattle.triangulate_run.specs.Engine.{stage_of, IsEngineReady};
 ghost use Rattle.triangulate_run.specs.Run.{Answers, Ran, bad_line};
 
-use crate::engine::PointEngine;
+use crate::engine::{Either, Plain, PointEngine};
 use crate::fault::RunError;
 use crate::output::{Held, Written, write_all};
 use crate::points::SheetPoint;
 use arrayvec::ArrayVec;
-use spade_delaunay::{HintGenerator, PlaneTests};
+use spade_delaunay::{HintGenerator, PlaneTests, Triangulation};
 use std::alloc::Global;
 use std::io::{Read, Write};
 use triangulate_grammar::{MAX_LINE, parse};
@@ -38,7 +38,6 @@ fn answer<P: PlaneTests<i64>, L: HintGenerator<i64>, W: Write>(
     writer: &mut Watched<W>,
 ) -> Written
     requires ready { IsEngineReady P.covered P.sites engine.old }
-    requires fits { Fits (stage_of engine.old.triangulation) }
     requires works { has_failed writer.old ≡ false }
     ensures ready { IsEngineReady P.covered P.sites engine.new }
     ensures points { engine.new.points ≡ engine.old.points }
@@ -48,6 +47,7 @@ fn answer<P: PlaneTests<i64>, L: HintGenerator<i64>, W: Write>(
         (stage_of engine.new.triangulation)) }
 {
     let Some(command) = parse(line) else {
+        engine.recall_invariant();
         return refuse(writer);
     };
     let mut held = Held::new();
@@ -79,7 +79,12 @@ pub fn run<L: HintGenerator<i64>, P: PlaneTests<i64>, R: Read, W: Write>(
     ensures { Ran points.now R.remaining W.contents reader.old reader.new writer.old writer.new
         result }
 {
-    let mut engine: PointEngine<'_, P, L> = PointEngine::new(alloc, tests, points);
+    let mut engine: PointEngine<'_, P, L> = PointEngine {
+        triangulation: Either::Plain(Plain::new(alloc)),
+        tests,
+        points,
+        alloc,
+    };
     let mut line: ArrayVec<u8, LINE_ROOM> = ArrayVec::new();
     loop {
         let mut byte = [0u8; 1];

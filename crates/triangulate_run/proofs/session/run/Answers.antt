@@ -1,4 +1,5 @@
-use Rattle.std.proofs.Common.{◌<◌, ◌≡◌, ◌∙◌, ap, length, rules}
+use Rattle.std.proofs.Common.{◌<◌, ◌≡◌, ◌∙◌, ap, refl, length, rules}
+use Rattle.std.proofs.lemmas.List.Elements.{All-nil}
 use Rattle.triangulate_run.proofs.OutputLemmas.{appends_nil}
 use Rattle.triangulate_run.proofs.RunLemmas.{start, consumes_kept, consumes_first, consumes_break}
 use Rattle.triangulate_run.proofs.RunLemmas.{kept_more, end_none, end_bad, byte_more, line_more}
@@ -6,25 +7,29 @@ use Rattle.triangulate_run.proofs.RunLemmas.{line_fault, end_fault, end_more, re
 use Rattle.triangulate_run.proofs.session.run.Goals as goal
 
 pub loop-line-init : goal.loop-line-init
-loop-line-init g c = record {
-  ready = c.new-engine.ensures.ready;
-  points = c.new-engine.ensures.points;
-  fits = c.new-engine.ensures.fits;
-  running = start _ _ c.args.reader.now c.args.writer.now _ _ _ c.new-line.ensures
-      c.new-engine.ensures.stage c.requires.reader_works c.requires.writer_works;
-}
+loop-line-init g c =
+    let first = c.new.ensures.empty in
+    record {
+      ready = record {
+        points_covered = c.requires.covered;
+        points_sites = c.requires.sites;
+        vertices_sites = rw first.vertices (All-nil _);
+      };
+      points = refl;
+      running = start _ _ c.args.reader.now c.args.writer.now _ _ _ c.new-line.ensures
+          (rw (first.vertices, first.mesh) refl) c.requires.reader_works c.requires.writer_works;
+    }
 
 pub loop-line-preserved : goal.loop-line-preserved
 loop-line-preserved g c =
     let i = c.loop-line.invariant in
     let room : length c.read.new.buf ≡ 1 = search rules in
-    let took = consumes_first _ _ _ c.read.new.buf 0 c.in-Ok.field-0-test.1 c.in-Ok.ensures.bound.0 room
+    let took = consumes_first _ _ _ _ 0 c.in-Ok.field-0-test.1 c.in-Ok.ensures.bound.0 room
     c.in-Ok.ensures.bytes.0 in
     let p = c.try_push.ensures in
     record {
       ready = i.ready;
       points = i.points;
-      fits = i.fits;
       running = byte_more i.running c.read.new.self _ c.try_push.new.self.items took
           c.in-Ok.ensures.ok c.if-byte-eq10.false
           (kept_more c.try_push.result _ _ i.running.held p.variant p.ok p.full p.err);
@@ -34,14 +39,13 @@ pub loop-line-preserved-then-byte-eq10 : goal.loop-line-preserved-then-byte-eq10
 loop-line-preserved-then-byte-eq10 g c =
     let i = c.loop-line.invariant in
     let room : length c.read.new.buf ≡ 1 = search rules in
-    let took = consumes_first _ _ _ c.read.new.buf 0 c.in-Ok.field-0-test.1 c.in-Ok.ensures.bound.0 room
+    let took = consumes_first _ _ _ _ 0 c.in-Ok.field-0-test.1 c.in-Ok.ensures.bound.0 room
     c.in-Ok.ensures.bytes.0 in
     let newline = consumes_break _ _ _ c.if-byte-eq10.true took in
     let told = c.in-Ok-answer.ensures.answered in
     record {
       ready = c.in-Ok-answer.ensures.ready;
       points = ap (λ ps. ps.now) c.in-Ok-answer.ensures.points ∙ i.points;
-      fits = c.in-Ok-answer.ensures.fits;
       running = line_more i.running c.read.new.self c.answer.new.writer told.0 _
           c.clear.new.self.items newline c.in-Ok.ensures.ok
           (rw (i.points, c.as_slice.ensures.value) at told.1) c.in-Ok-answer.ensures.fits told.2.0
@@ -52,7 +56,7 @@ pub returns-in-Err-answer : goal.returns-in-Err-answer
 returns-in-Err-answer g c =
     let i = c.loop-line.invariant in
     let room : length c.read.new.buf ≡ 1 = search rules in
-    let took = consumes_first _ _ _ c.read.new.buf 0 c.in-Ok.field-0-test.1 c.in-Ok.ensures.bound.0 room
+    let took = consumes_first _ _ _ _ 0 c.in-Ok.field-0-test.1 c.in-Ok.ensures.bound.0 room
     c.in-Ok.ensures.bytes.0 in
     let newline = consumes_break _ _ _ c.if-byte-eq10.true took in
     let told = c.in-Err-answer.ensures.answered in

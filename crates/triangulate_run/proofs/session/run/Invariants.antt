@@ -1,7 +1,6 @@
 use Rattle.std.proofs.Common.{◌≡◌}
 use Rattle.triangulate_watched.specs.Watched.{reads_left_of}
 use Rattle.triangulate_run.specs.Engine.{stage_of, IsEngineReady}
-use Rattle.triangulate_run.specs.Stage.{Fits}
 use Rattle.triangulate_run.proofs.RunLemmas.{IsRunning}
 use Rattle.triangulate_run.proofs.session.run.Given as goal
 
@@ -9,7 +8,6 @@ abbrev pub invariant-loop-line : goal.invariant-loop-line
 invariant-loop-line g l = record {
   ready : IsEngineReady g.P.PlaneTests.covered g.P.PlaneTests.sites l.engine;
   points : l.engine.points.now ≡ l.points;
-  fits : Fits (stage_of l.engine.triangulation);
   running : IsRunning l.points g.R.Read.remaining g.W.Write.contents l.fn.reader l.reader
       l.fn.writer l.writer l.line.items (stage_of l.engine.triangulation);
 }
