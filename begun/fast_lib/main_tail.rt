@@ -1,0 +1,51 @@
+
+use c_calls::{Handle, RawCounts, RawEdge, RawFace, RawMeeting, RawPlace, RawPoint, RawSegment};
+
+fn main(rt: HostRuntime) {
+    let a = rt.alloc();
+    let mut h = Handle::closed();
+    let mut n = 0usize;
+    let mut m = 0usize;
+    let mut v = 0u32;
+    let p = RawPoint { x: 0, y: 0 };
+    let q = RawPoint { x: 1, y: 1 };
+    let ps = [p, q];
+    let mut qs = [p, q];
+    let mut bytes = [0u8; 100];
+    let mut us = [0u32, 1];
+    let vs = [0u32, 1];
+    let mut ns = [0u64, 1];
+    let mut places = [RawPlace { kind: 0, index: 0 }];
+    let mut es = [RawEdge { from: 0, to: 0, constrained: 0 }];
+    let mut ms = [RawMeeting { kind: 0, from: 0, to: 0, constrained: 0 }];
+    let mut fs = [RawFace { corner_0: 0, corner_1: 0, corner_2: 0, neighbor_0: 0, neighbor_1: 0, neighbor_2: 0, constrained_0: 0, constrained_1: 0, constrained_2: 0 }];
+    let ss = [RawSegment { from: 0, to: 1 }];
+    let mut c = RawCounts { vertices: 0, edges: 0, faces: 0, constraints: 0 };
+    let _ = reads::tevasulim_version();
+    let _ = reads::tevasulim_status_text(3, &mut bytes, &mut n);
+    let _ = reads::tevasulim_open(a, &mut h, 0);
+    let _ = edits::tevasulim_insert(a, &mut h, 0, 0, &mut v);
+    let _ = edits::tevasulim_insert_all(a, &mut h, &ps, &mut us);
+    let _ = reads::tevasulim_count(a, &mut h, &mut c);
+    let _ = reads::tevasulim_positions(a, &mut h, &mut qs, &mut n);
+    let _ = reads::tevasulim_numbers(a, &mut h, &mut ns, &mut n);
+    let _ = reads::tevasulim_edges(a, &mut h, &mut es, &mut n);
+    let _ = reads::tevasulim_faces(a, &mut h, &mut fs, &mut n);
+    let _ = reads::tevasulim_locate(a, &mut h, &ps, &mut places);
+    let _ = reads::tevasulim_nearest(a, &mut h, &ps, &mut us);
+    let _ = reads::tevasulim_line(a, &mut h, &p, &q, &mut ms, &mut n);
+    let _ = reads::tevasulim_vertices_in_circle(a, &mut h, &p, 4, &mut us, &mut n);
+    let _ = reads::tevasulim_edges_in_circle(a, &mut h, &p, 4, &mut us, &mut n);
+    let _ = reads::tevasulim_vertices_in_rectangle(a, &mut h, &p, &q, &mut us, &mut n);
+    let _ = reads::tevasulim_edges_in_rectangle(a, &mut h, &p, &q, &mut us, &mut n);
+    let _ = reads::tevasulim_triangulate(a, &ps, &ss, &mut fs, &mut n, &mut m);
+    let _ = edits::tevasulim_allow_constraints(a, &mut h);
+    let _ = edits::tevasulim_constrain(a, &mut h, 0, 1);
+    let _ = edits::tevasulim_constrain_chain(a, &mut h, &vs, false, &mut n);
+    let _ = edits::tevasulim_release(a, &mut h, 0, 1);
+    let _ = edits::tevasulim_set_numbers(a, &mut h, &vs, &ns);
+    let _ = edits::tevasulim_remove(a, &mut h, 0);
+    let _ = edits::tevasulim_clear(a, &mut h);
+    reads::tevasulim_close(a, &mut h);
+    h.end(a);
+}

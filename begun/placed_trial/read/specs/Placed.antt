@@ -1,0 +1,21 @@
+-- What holds of a mesh over its points.
+use Rattle.std.specs.Prelude.{◌≡◌, ℕ, ◌<◌, ◌≤◌, List, length, map, get_or, All}
+use Rattle.t24.specs.Contents.{Contents}
+
+-- a mesh with tests
+pub record Reading (V P : Type 0) : Type 0 where
+  pub mesh : Contents V
+  pub tests : P
+
+pub record IsKept {V : Type 0} (place : V → ℕ) (c : Contents V) : Type 0 where
+  pub in_range : All (λ v. place v < 100) c.vertices
+  pub two : 2 ≤ length c.edges
+  pub same : get_or c.edges 0 0 ≡ get_or c.edges 1 0
+
+pub record IsPlaced {V P : Type 0} (place : V → ℕ) (IsSite : P → ℕ → Type 0) (c : Contents V)
+    (t : P) : Type 0 where
+  pub kept : IsKept place c
+  pub sites : All (IsSite t) (map place c.vertices)
+
+abbrev pub start_place : {V : Type 0} → (V → ℕ) → Contents V → ℕ → ℕ
+start_place place c e = get_or (map place c.vertices) (get_or c.edges e 0) 0
