@@ -1,7 +1,8 @@
 -- A walk along the path between two vertices counts the pieces that are no constraints, and finds
 -- the constraints that cross it.
 -- Notions: ArePathEnds, IsCountingPath; half_listed, half_unlisted, crossed_item, crossed_within,
--- vertex_item, counting_path_begins, path_is_free, path_counted, path_is_barred, counting_crosses,
+-- vertex_item, counting_path_begins, path_is_free, path_counted, crossed_half_in, path_is_barred,
+-- counting_crosses,
 -- counting_along, counting_stays, counting_goes_past, counting_goes_on.
 use Rattle.std.proofs.Common.{◌≡◌, ◌≢◌, ◌⊎◌, ◌+◌, ◌*◌, ◌/◌, ◌<◌, [], ◌∷◌, ◌++◌, ◌∙◌}
 use Rattle.std.proofs.Common.{ℕ, Bool, List, length, map, Some, None, refl, sym, ap, subst, inl, inr}
@@ -333,6 +334,17 @@ module _ {V D U F : Type 0} (at : V → Point) (marks : U → Bool) (constraints
           → item_in x ≡ across (origin c.mesh h) (origin c.mesh (rev h))
       crossed h is = subst (λ (s : State V D U F). item_in x
           ≡ across (origin s.mesh h) (origin s.mesh (rev h))) same_mesh is
+
+      -- the undirected edge of one that is crossed is one of the mesh
+      pub crossed_half_in : (h : ℕ) → h < length (mesh_of x).now.directed → {f u : ℕ} → f ≡ h
+          → u ≡ f / 2 → u < length c.undirected
+      crossed_half_in h within {f = f} {u = u} is half =
+          let there : h < length c.directed =
+          subst (λ (s : State V D U F). h < length s.directed) same_mesh within in
+          let all : 2 * length c.undirected ≡ length c.directed =
+          kept.fits.undirected_fit ∙ sym kept.fits.directed_fit in
+          let is_half : u ≡ h / 2 = half ∙ ap (λ (k : ℕ). k / 2) is in
+          omega (arith, there, all, is_half)
 
       -- a constraint that is crossed bars the path
       pub path_is_barred : (h : ℕ) → Crosses h → Contains ks (h / 2)

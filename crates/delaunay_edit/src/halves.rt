@@ -1,5 +1,5 @@
 //! The halves of a straight constraint, whose middle is a vertex.
-ghost use Rattle.std.specs.Prelude.{◌≡◌, ◌⊎◌, ◌↔◌, ◌<◌, length, map, All, IfNone, IfSome, IsTrue};
+ghost use Rattle.std.specs.Prelude.{◌≡◌, ◌⊎◌, ◌↔◌, ◌<◌, length, IfNone, IfSome, IsTrue};
 ghost use Rattle.delaunay_paths.specs.half_edge_mesh.Mesh.{origin, rev};
 ghost use Rattle.delaunay_paths.specs.delaunay_legalization.Constraints.{constraints_by};
 ghost use Rattle.delaunay_paths.specs.delaunay_legalization.Constraints.{points_and_constraints_by};
@@ -11,7 +11,7 @@ ghost use Rattle.delaunay_edit.specs.Halves.{LeadsBeside};
 use delaunay_paths::delaunay_core::math::PlaneTests;
 use delaunay_paths::delaunay_core::point::HasPosition;
 use delaunay_paths::delaunay_legalization::{
-    ConstraintMarker, is_constraint_edge, is_strictly_within, position_of,
+    ConstraintMarker, Placed, is_constraint_edge, is_strictly_within, position_of,
 };
 use delaunay_paths::half_edge_mesh::{Dcel, FixedDirectedEdgeHandle, FixedVertexHandle, MeshViews};
 use delaunay_removal::VertexPair;
@@ -94,15 +94,14 @@ pub fn straight_halves<
     UE,
     F,
     P: PlaneTests<V::Scalar>,
->(dcel: &Dcel<V, DE, UE, F>, vertex: FixedVertexHandle, tests: &P) -> Option<VertexPair>
-    requires within { vertex < length dcel.now.vertices }
-    requires kept { IsTriangulated V.place (state_of dcel.now) }
-    requires sites { All (P.sites tests.now) (map V.place dcel.now.vertices) }
-    ensures { AreHalvesAt V.place (points_and_constraints_by M.constraints (state_of dcel.now))
-        vertex result }
+>(placed: &Placed<'_, V, DE, UE, F, P>, vertex: FixedVertexHandle) -> Option<VertexPair>
+    requires { vertex < length placed.now.dcel.vertices }
+    ensures { AreHalvesAt V.place
+        (points_and_constraints_by M.constraints (state_of placed.now.dcel)) vertex result }
 {
+    let dcel = placed.dcel;
     let (first, second) = two_constraint_ends::<M, _, _, _, _>(dcel, vertex)?;
     let from = position_of(dcel, first);
     let to = position_of(dcel, second);
-    is_strictly_within(from, to, position_of(dcel, vertex), tests).then_some((first, second))
+    is_strictly_within(from, to, position_of(dcel, vertex), placed.tests).then_some((first, second))
 }

@@ -13,7 +13,9 @@ use delaunay_edit::count_path;
 use delaunay_edit::delaunay_core::HintGenerator;
 use delaunay_edit::delaunay_core::math::PlaneTests;
 use delaunay_edit::delaunay_core::point::HasPosition;
-use delaunay_edit::delaunay_legalization::{EdgeConstraints, Sides, is_constraint_edge, legalize};
+use delaunay_edit::delaunay_legalization::{
+    EdgeConstraints, Placed, Sides, is_constraint_edge, legalize,
+};
 use delaunay_edit::delaunay_paths::{add_path, constrain_edge};
 use delaunay_edit::half_edge_mesh::{FixedDirectedEdgeHandle, FixedVertexHandle, MeshViews};
 use std::alloc::AllocError;
@@ -109,8 +111,9 @@ impl<V: HasPosition, DE, UE, F, L: HintGenerator<V::Scalar>> ConstrainedDelaunay
             let edge = edge.fix();
             return Ok(Some(self.constrain(edge)));
         }
-        let counted = count_path::<EdgeConstraints, _, _, _, _, _>(&self.dcel, from, to, tests);
-        let Some(missing) = counted else {
+        let dcel = &self.dcel;
+        let placed = Placed { dcel, tests };
+        let Some(missing) = count_path::<EdgeConstraints, _, _, _, _, _>(&placed, from, to) else {
             return Ok(None);
         };
         if missing == 0 {

@@ -26,7 +26,7 @@ use delaunay_edit::delaunay_core::HintGenerator;
 use delaunay_edit::delaunay_core::math::PlaneTests;
 use delaunay_edit::delaunay_core::point::{HasPosition, Point2};
 use delaunay_edit::delaunay_legalization::{
-    CdtEdge, EdgeConstraints, free_edge_data, is_constraint_edge,
+    CdtEdge, EdgeConstraints, Placed, free_edge_data, is_constraint_edge,
 };
 use delaunay_edit::delaunay_lines::{ConflictingEdgesIterator, HasMesh, intersects_constraint};
 use delaunay_edit::delaunay_paths::{
@@ -58,7 +58,8 @@ impl<V: HasPosition, DE, UE, F, L: HintGenerator<V::Scalar>> ConstrainedDelaunay
         requires sites { AreSites V.place (P.sites tests.now) self.now.vertices }
         ensures { IsTrue result ↔ CanAddConstraint V.place self.now from to }
     {
-        can_add_path::<EdgeConstraints, _, _, _, _, _>(self.mesh(), from, to, tests)
+        let dcel = self.mesh();
+        can_add_path::<EdgeConstraints, _, _, _, _, _>(&Placed { dcel, tests }, from, to)
     }
 
     /// Makes constraints of the edges between neighbours among the vertices on the segment between
@@ -124,14 +125,16 @@ impl<V: HasPosition, DE, UE, F, L: HintGenerator<V::Scalar>> ConstrainedDelaunay
             self.constrain(edge);
             return Ok(edges);
         }
-        let counted = count_path::<EdgeConstraints, _, _, _, _, _>(&self.dcel, from, to, tests);
-        let Some(missing) = counted else {
+        let dcel = &self.dcel;
+        let placed = Placed { dcel, tests };
+        let Some(missing) = count_path::<EdgeConstraints, _, _, _, _, _>(&placed, from, to) else {
             return Ok(edges);
         };
         edges.reserve(self.dcel.num_vertices())?;
         self.join_path(from, to, missing, tests)?;
         self.recall_well_formed();
-        edges_along(&self.dcel, from, to, tests, &mut edges);
+        let dcel = &self.dcel;
+        edges_along(&Placed { dcel, tests }, from, to, &mut edges);
         Ok(edges)
     }
 

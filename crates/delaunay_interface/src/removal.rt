@@ -9,6 +9,7 @@ use crate::triangulation_core::TriangulationCore;
 use delaunay_edit::delaunay_core::HintGenerator;
 use delaunay_edit::delaunay_core::math::PlaneTests;
 use delaunay_edit::delaunay_core::point::HasPosition;
+use delaunay_edit::delaunay_legalization::Placed;
 use delaunay_edit::delaunay_removal::{VertexPair, sides_of_hole};
 use delaunay_edit::half_edge_mesh::FixedVertexHandle;
 use delaunay_edit::{EdgeData, count_constraints_at, straight_halves};
@@ -54,7 +55,8 @@ impl<
         if self.num_constraints == 0 {
             return None;
         }
-        straight_halves::<M, _, _, _, _, _>(&self.dcel, vertex, tests)
+        let dcel = &self.dcel;
+        straight_halves::<M, _, _, _, _, _>(&Placed { dcel, tests }, vertex)
     }
 
     // How many constraints fewer there are when a vertex goes. Where there is none it looks at no

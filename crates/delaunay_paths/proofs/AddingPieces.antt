@@ -1,6 +1,6 @@
 -- Pieces of a path that become edges and constraints, one after another.
 -- Notions: AddsPiece, LeavesPiece, IsAddingTo, IsAddingPieces; half_ends, piece_whole, piece_added,
--- adding_to_begins, adding_starts, piece_made, same, adding_sites, adding_between, adding_piece,
+-- adding_to_begins, adding_starts, piece_made, same, adding_placed, adding_between, adding_piece,
 -- adding_to_goes_on, adding_shortens, adding_to_ends, adding_room, adding_work,
 -- adding_goes_on_by, cleared_work.
 use Rattle.std.proofs.Common.{◌≡◌, ◌≢◌, ◌⊎◌, ◌↔◌, ◌*◌, ◌/◌, ◌%◌, ◌<◌, ◌≤◌, [], ◌∙◌}
@@ -41,6 +41,7 @@ use Rattle.delaunay_lines.specs.delaunay_legalization.Constraints.{marked_edges,
 use Rattle.delaunay_lines.specs.delaunay_legalization.Constraints.{constraints_by}
 use Rattle.delaunay_lines.specs.delaunay_legalization.Constraints.{points_and_constraints_by}
 use Rattle.delaunay_lines.specs.delaunay_legalization.Marking.{HasEdgeData}
+use Rattle.delaunay_lines.specs.delaunay_legalization.Placed.{IsPlaced}
 use Rattle.delaunay_lines.specs.delaunay_legalization.Shape.{IsTriangulated}
 use Rattle.delaunay_lines.specs.delaunay_legalization.State.{state_of}
 use Rattle.delaunay_lines.proofs.delaunay_legalization_lemmas.ConstraintEdges.{constraints_are_edges}
@@ -328,9 +329,12 @@ module _ {U V D F : Type 0} {marks : U → Bool} {constraints : List U → List 
   same = ap (λ (c : Contents V D U F). c.vertices) p.contents
 
   -- so they are sites if they were
-  pub adding_sites : (IsSite : Point → Type 0) → All IsSite (map at old.vertices)
-      → All IsSite (map at now.vertices)
-  adding_sites IsSite sites = subst (λ (vs : List V). All IsSite (map at vs)) (sym same) sites
+  pub adding_placed : {P : Type 0} {IsSite : P → Point → Type 0} {t : P}
+      → All (IsSite t) (map at old.vertices) → IsPlaced at IsSite now t
+  adding_placed {IsSite = IsSite} {t = t} sites = record {
+    kept = p.kept;
+    sites = subst (λ (vs : List V). All (IsSite t) (map at vs)) (sym same) sites;
+  }
 
   -- the vertex that was reached and the end are vertices
   pub adding_between : (w < length now.vertices) × (j < length now.vertices)

@@ -1,8 +1,8 @@
 -- The loop that turns edges until none crosses.
 -- Notions: MakesEdge, IsMaking; free_on, kept_on, faces_kept_on, e_in, local, can_turn, turn_keeps,
 -- turn_keeps_faces, turn_lowers, turn_has_shape, edges_on, turns_away, others_left, turns_across,
--- others_and_made, edge_if_none_crosses, making_begins, making_work, making_ends, making_goes_on,
--- making_falls.
+-- others_and_made, edge_if_none_crosses, making_begins, making_work, making_placed, making_ends,
+-- making_goes_on, making_falls.
 use Rattle.std.proofs.Common.{◌≡◌, ◌⊎◌, ◌*◌, ◌/◌, ◌<◌, ◌≤◌, ◌∙◌}
 use Rattle.std.proofs.Common.{ℕ, List, length, map, refl, sym, ap, subst}
 use mathlib.Core.Logic.{inl, inr}
@@ -12,7 +12,7 @@ use Rattle.delaunay_lines.specs.half_edge_mesh.Mesh.{Mesh, IsValidMesh, origin, 
 use Rattle.delaunay_lines.specs.half_edge_mesh.Flip.{IsFlippable, Flips, flipped}
 use Rattle.delaunay_lines.specs.half_edge_mesh.Outline.{KeepsOuter}
 use Rattle.delaunay_lines.specs.half_edge_mesh.Triangles.{FlipsTriangles}
-use Rattle.delaunay_lines.specs.half_edge_mesh.Contents.{Contents, IsMeshWithData}
+use Rattle.delaunay_lines.specs.half_edge_mesh.Contents.{Contents, FitsMesh, IsMeshWithData}
 use Rattle.delaunay_lines.proofs.half_edge_links.Faces.FlipLemmas.{flips_is}
 use Rattle.delaunay_lines.proofs.half_edge_links.Lists.Rev.{rev-rev, rev_within}
 use Rattle.delaunay_lines.specs.plane.Crossing.{Cross}
@@ -28,6 +28,7 @@ use Rattle.delaunay_lines.specs.mesh_embedding.Legal.{AreEdges, GainsRound, pair
 use Rattle.delaunay_lines.proofs.mesh_embedding.MeshEdits.{flipped_faces}
 use Rattle.delaunay_lines.proofs.mesh_embedding.MeshStays.{halved}
 use Rattle.delaunay_lines.specs.delaunay_legalization.Known.{point_at}
+use Rattle.delaunay_lines.specs.delaunay_legalization.Placed.{IsPlaced}
 use Rattle.delaunay_paths.specs.Crossing.{AreAllCrossing, AreOthersCrossing, CrossesFromRight}
 use Rattle.delaunay_paths.specs.Crossing.{GoesFromRight, TurnsNearer, ahead, behind}
 use Rattle.delaunay_paths.specs.Kept.{KeepsUncrossed, KeepsUncrossedFaces}
@@ -342,6 +343,24 @@ module _ {V D U F : Type 0} {at : V → Point} {old now : Contents V D U F} {i j
   -- the segment is a piece of the mesh of these vertices
   piece : IsOnePiece (map at old.vertices) now i j
   piece = subst (λ (vs : List V). IsOnePiece (map at vs) now i j) same making.turn.piece
+
+  -- so the mesh is that of a triangulation with the same sites
+  pub making_placed : {P : Type 0} {IsSite : P → Point → Type 0} {t : P}
+      → IsPlaced at IsSite old t → IsPlaced at IsSite now t
+  making_placed {P = P} {IsSite = IsSite} {t = t} placed =
+      subst (λ (c : Contents V D U F). IsPlaced at IsSite c t) (sym making.contents) (record {
+        kept = record {
+          in_range = placed.kept.in_range;
+          few_edges = placed.kept.few_edges;
+          few_faces = placed.kept.few_faces;
+          valid = making.turn.piece.whole.valid;
+          fits = subst (λ (c : Contents V D U F). FitsMesh now.mesh (length c.vertices)
+              (length c.directed) (length c.undirected) (length c.faces)) making.contents
+              making.turn.piece.whole.fits;
+          shape = piece.shape;
+        };
+        sites = placed.sites;
+      })
 
   -- where it is an edge, it is made one
   pub making_ends : HasAsEdge (map at now.vertices) now i j

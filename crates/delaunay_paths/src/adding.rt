@@ -11,29 +11,29 @@ use crate::flips::{next_turn, turn};
 use delaunay_lines::ConflictingEdgesIterator;
 use delaunay_lines::delaunay_core::math::PlaneTests;
 use delaunay_lines::delaunay_core::point::HasPosition;
-use delaunay_lines::delaunay_legalization::{ConstraintMarker, EdgeSet};
+use delaunay_lines::delaunay_legalization::{ConstraintMarker, EdgeSet, Placed};
 use delaunay_lines::half_edge_mesh::{Dcel, FixedVertexHandle, MeshViews};
 
 /// Whether no constraint crosses the segment between two vertices. Where an edge joins them, a look
 /// round the first tells.
 pub fn can_add_path<M: ConstraintMarker<UE>, V: HasPosition, DE, UE, F, P: PlaneTests<V::Scalar>>(
-    dcel: &Dcel<V, DE, UE, F>,
+    placed: &Placed<'_, V, DE, UE, F, P>,
     from: FixedVertexHandle,
     to: FixedVertexHandle,
-    tests: &P,
 ) -> bool
-    requires from_in { from < length dcel.now.vertices }
-    requires to_in { to < length dcel.now.vertices }
-    requires kept { IsTriangulated V.place (state_of dcel.now) }
-    requires sites { All (P.sites tests.now) (map V.place dcel.now.vertices) }
+    requires from_in { from < length placed.now.dcel.vertices }
+    requires to_in { to < length placed.now.dcel.vertices }
 
-    ensures { IsTrue result ↔ CanAddPath V.place M.constraints dcel.now from to }
+    ensures { IsTrue result ↔ CanAddPath V.place M.constraints placed.now.dcel from to }
 {
-    if dcel.get_edge_from_neighbors(from, to).is_some() {
+    if placed.dcel.get_edge_from_neighbors(from, to).is_some() {
         return true;
     }
     let mut conflicts = ConflictingEdgesIterator::<M, _, _, _, _, _>::between_vertices(
-        dcel, from, to, tests,
+        placed.dcel,
+        from,
+        to,
+        placed.tests,
     );
     conflicts.next().is_none()
 }
@@ -65,8 +65,8 @@ pub fn add_path<M: ConstraintMarker<UE>, V: HasPosition, DE, UE, F, P: PlaneTest
     ensures capacity { work.new.room ≡ work.old.room }
 {
     let mut at = from;
-    while let Some(next) = lists.list_piece(dcel, at, to, tests) {
-        while let Some((edge, way)) = next_turn(dcel, at, next, tests, lists) {
+    while let Some(next) = lists.list_piece(&Placed { dcel, tests }, at, to) {
+        while let Some((edge, way)) = next_turn(&Placed { dcel, tests }, at, next, lists) {
             turn(dcel, edge, way, at, next, lists, work);
         }
         let Some(edge) = dcel.get_edge_from_neighbors(at, next) else {

@@ -1,12 +1,11 @@
 //! The edges that cross a segment between two vertices, in the lists from which they are turned.
-ghost use Rattle.std.specs.Prelude.{◌≡◌, ◌<◌, [], length, map, All, MatchOption, OnOk};
-ghost use Rattle.delaunay_lines.specs.delaunay_legalization.Shape.{IsTriangulated};
-ghost use Rattle.delaunay_lines.specs.delaunay_legalization.State.{state_of};
+ghost use Rattle.std.specs.Prelude.{◌≡◌, ◌<◌, [], length, map, MatchOption, OnOk};
 ghost use Rattle.delaunay_paths.specs.Lists.{HaveRoom, KeepRoom, ListPiece};
 
 use delaunay_lines::delaunay_core::math::PlaneTests;
 use delaunay_lines::delaunay_core::point::HasPosition;
-use delaunay_lines::half_edge_mesh::{Dcel, FixedDirectedEdgeHandle, FixedVertexHandle};
+use delaunay_lines::delaunay_legalization::Placed;
+use delaunay_lines::half_edge_mesh::{FixedDirectedEdgeHandle, FixedVertexHandle};
 use delaunay_lines::{Intersection, line_between_vertices};
 use std::alloc::{AllocError, Global};
 
@@ -47,17 +46,15 @@ impl CrossingLists {
     // their order on the way. It is one walk, which stops at that vertex.
     pub(crate) fn list_piece<V: HasPosition, DE, UE, F, P: PlaneTests<V::Scalar>>(
         &mut self,
-        dcel: &Dcel<V, DE, UE, F>,
+        placed: &Placed<'_, V, DE, UE, F, P>,
         from: FixedVertexHandle,
         to: FixedVertexHandle,
-        tests: &P,
     ) -> Option<FixedVertexHandle>
-        requires ends { (from < length dcel.now.vertices) × (to < length dcel.now.vertices) }
-        requires kept { IsTriangulated V.place (state_of dcel.now) }
-        requires sites { All (P.sites tests.now) (map V.place dcel.now.vertices) }
-        requires room { HaveRoom (length dcel.now.undirected) self.old }
+        requires ends { let vertices = placed.now.dcel.vertices in
+            (from < length vertices) × (to < length vertices) }
+        requires room { HaveRoom (length placed.now.dcel.undirected) self.old }
         ensures piece { MatchOption result (from ≡ to) (λ v. ListPiece
-            (map V.place dcel.now.vertices) dcel.now from to v self.new) }
+            (map V.place placed.now.dcel.vertices) placed.now.dcel from to v self.new) }
         ensures room { KeepRoom self.old self.new }
     {
         if from == to {
@@ -65,7 +62,7 @@ impl CrossingLists {
         }
         self.waiting.clear();
         self.unseen.clear();
-        let mut line = line_between_vertices(dcel, from, to, tests);
+        let mut line = line_between_vertices(placed.dcel, from, to, placed.tests);
         while let Some(item) = line.next() {
             match item {
                 Intersection::EdgeIntersection(edge) => {

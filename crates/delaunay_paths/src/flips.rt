@@ -1,5 +1,5 @@
 //! Flips towards a segment between two vertices.
-ghost use Rattle.std.specs.Prelude.{◌≡◌, map, All, MatchOption};
+ghost use Rattle.std.specs.Prelude.{◌≡◌, map, MatchOption};
 ghost use Rattle.delaunay_paths.specs.Crossing.{IsWayMade};
 ghost use Rattle.delaunay_paths.specs.Leaving.{IsWorkList};
 ghost use Rattle.delaunay_paths.specs.Lists.{AreToTurn, HasAsEdge, IsToTurn, KeepRoom, TurnsOne};
@@ -8,39 +8,39 @@ use crate::crossing::CrossingLists;
 use crate::nearer::Turning;
 use delaunay_lines::delaunay_core::math::PlaneTests;
 use delaunay_lines::delaunay_core::point::HasPosition;
-use delaunay_lines::delaunay_legalization::{EdgeSet, Sides, position_of, push_side, push_sides};
+use delaunay_lines::delaunay_legalization::{
+    EdgeSet, Placed, Sides, position_of, push_side, push_sides,
+};
 use delaunay_lines::half_edge_mesh::{Dcel, FixedDirectedEdgeHandle, FixedVertexHandle, MeshViews};
 
 // Takes out an edge that crosses the segment between two vertices with none strictly between, and
 // can be turned towards it, and tells in which direction the edge that is made crosses from the
 // right, if it does. If there is none, no edge crosses, and the segment is one.
 pub(crate) fn next_turn<V: HasPosition, DE, UE, F, P: PlaneTests<V::Scalar>>(
-    dcel: &Dcel<V, DE, UE, F>,
+    placed: &Placed<'_, V, DE, UE, F, P>,
     from: FixedVertexHandle,
     to: FixedVertexHandle,
-    tests: &P,
     lists: &mut CrossingLists,
 ) -> Option<(FixedDirectedEdgeHandle, Option<FixedDirectedEdgeHandle>)>
-    requires turn { AreToTurn (map V.place dcel.now.vertices) dcel.now from to lists.old }
-    requires sites { All (P.sites tests.now) (map V.place dcel.now.vertices) }
-    ensures found { let points = map V.place dcel.now.vertices in
-        MatchOption result (HasAsEdge points dcel.now from to)
-        (λ t. IsToTurn points dcel.now from to t.0 lists.new ×
-        IsWayMade points dcel.now.mesh from to t.0 t.1) }
+    requires turn { let d = placed.now.dcel in
+        AreToTurn (map V.place d.vertices) d from to lists.old }
+    ensures found { let d = placed.now.dcel in let points = map V.place d.vertices in
+        MatchOption result (HasAsEdge points d from to)
+        (λ t. IsToTurn points d from to t.0 lists.new × IsWayMade points d.mesh from to t.0 t.1) }
     ensures room { KeepRoom lists.old lists.new }
 {
     // Where none of those still to be seen can be turned, all that wait are seen again.
     for _ in 0..2u32 {
         while let Some(edge) = lists.unseen.pop() {
-            let here = dcel.directed_edge(edge);
+            let here = placed.dcel.directed_edge(edge);
             let turning = Turning {
-                from: position_of(dcel, from),
-                to: position_of(dcel, to),
-                start: position_of(dcel, here.from().fix()),
-                behind: position_of(dcel, here.rev().prev_from().fix()),
-                end: position_of(dcel, here.next().from().fix()),
-                ahead: position_of(dcel, here.prev_from().fix()),
-                tests,
+                from: position_of(placed.dcel, from),
+                to: position_of(placed.dcel, to),
+                start: position_of(placed.dcel, here.from().fix()),
+                behind: position_of(placed.dcel, here.rev().prev_from().fix()),
+                end: position_of(placed.dcel, here.next().from().fix()),
+                ahead: position_of(placed.dcel, here.prev_from().fix()),
+                tests: placed.tests,
             };
             if let Some(way) = turning.way_made(edge) {
                 return Some((edge, way));

@@ -1,9 +1,10 @@
-use Rattle.std.proofs.Common.{◌∙◌, ap, sym}
-use Rattle.delaunay_paths.proofs.AddingPieces.{adding_between, adding_goes_on_by, adding_room}
-use Rattle.delaunay_paths.proofs.AddingPieces.{adding_shortens, adding_sites, adding_starts}
+use Rattle.std.proofs.Common.{◌∙◌, sym}
+use Rattle.delaunay_paths.proofs.AddingPieces.{adding_between, adding_goes_on_by, adding_placed}
+use Rattle.delaunay_paths.proofs.AddingPieces.{adding_room, adding_shortens, adding_starts}
 use Rattle.delaunay_paths.proofs.AddingPieces.{adding_to_ends, adding_work}
 use Rattle.delaunay_paths.proofs.JoinedPairs.{first_joined, index_found, some_joins}
-use Rattle.delaunay_paths.proofs.Making.{making_begins, making_falls, making_goes_on, making_work}
+use Rattle.delaunay_paths.proofs.Making.{making_begins, making_falls, making_goes_on}
+use Rattle.delaunay_paths.proofs.Making.{making_placed, making_work}
 use Rattle.delaunay_paths.proofs.Marks.{gets_mark, has_mark}
 use Rattle.delaunay_paths.proofs.adding.add_path.Goals as goal
 
@@ -11,27 +12,26 @@ pub loop-next-init : goal.loop-next-init
 loop-next-init g c = adding_starts _ _ g.met.M.ConstraintMarker.constraints_are_marked
     c.requires.kept c.requires.way c.requires.room.0
 
+pub invariant_of-list_piece : goal.invariant_of-list_piece
+invariant_of-list_piece g c = adding_placed c.loop-next.invariant.so_far c.requires.sites
+
 pub list_piece-requires : goal.list_piece-requires
-list_piece-requires g c =
-    let so_far = c.loop-next.invariant.so_far in record {
-      ends = adding_between so_far;
-      kept = so_far.kept;
-      sites = adding_sites so_far (g.P.PlaneTests.sites c.args.tests.now) c.requires.sites;
-      room = adding_room c.loop-next.invariant c.requires.room.1;
-    }
+list_piece-requires g c = record {
+  ends = adding_between c.loop-next.invariant.so_far;
+  room = adding_room c.loop-next.invariant c.requires.room.1;
+}
 
 -- ---- turns until a piece is an edge
 pub loop-edge-init : goal.loop-edge-init
 loop-edge-init g c =
     making_begins c.in-Some.ensures.piece.turn (adding_work c.loop-next.invariant c.requires.room.0)
 
+pub invariant_of-next_turn : goal.invariant_of-next_turn
+invariant_of-next_turn g c = making_placed c.loop-edge.invariant
+    (adding_placed c.loop-next.invariant.so_far c.requires.sites)
+
 pub next_turn-requires : goal.next_turn-requires
-next_turn-requires g c = record {
-  turn = c.loop-edge.invariant.turn;
-  sites = rw (ap (λ d. d.vertices) c.loop-edge.invariant.contents)
-      (adding_sites c.loop-next.invariant.so_far (g.P.PlaneTests.sites c.args.tests.now)
-      c.requires.sites);
-}
+next_turn-requires g c = record { turn = c.loop-edge.invariant.turn }
 
 pub turn-requires : goal.turn-requires
 turn-requires g c = record {

@@ -7,11 +7,13 @@ use Rattle.delaunay_paths.proofs.adding.can_add_path.Goals as goal
 
 pub returns-then-is_some : goal.returns-then-is_some
 returns-then-is_some g c =
+    let kept = c.placed.invariant.kept in
     let edge = found _ _ _ c.is_some.ensures c.if-is_some.true
     c.get_edge_from_neighbors.ensures.some in
-    let at = index_found edge.1 refl edge.0.in_range in (
-      (λ t. joined_is_free g.V.HasPosition.place (state_of c.args.dcel.now) c.requires.kept _
-          (subst (λ (n : ℕ). edge.0.index < n) c.requires.kept.fits.directed_fit at.0)
+    let at = index_found edge.1 refl edge.0.in_range in
+    rw (← c.placed.view_is) (
+      (λ t. joined_is_free g.V.HasPosition.place (state_of c.placed.inside.dcel.now) kept _
+          (subst (λ (n : ℕ). edge.0.index < n) kept.fits.directed_fit at.0)
           g.M.ConstraintMarker.marks _ g.met.M.ConstraintMarker.constraints_are_marked _ _ at.1
           at.2),
       (λ free. refl),
@@ -19,8 +21,9 @@ returns-then-is_some g c =
 
 pub returns : goal.returns
 returns g c =
+    let ends = rw (← c.placed.view_is) at c.requires in
     let conflicts = c.between_vertices-conflicts.ensures in
-    first_decides g.V.HasPosition.place g.M.ConstraintMarker.marks _
-    g.met.M.ConstraintMarker.constraints_are_marked c.args.dcel.now c.requires.kept _ _
-    c.requires.from_in c.requires.to_in _ _ _ _ _ conflicts.ready conflicts.line _ _
-    c.is_none.ensures c.next.ensures.steps.0
+    rw (← c.placed.view_is) (first_decides g.V.HasPosition.place g.M.ConstraintMarker.marks _
+    g.met.M.ConstraintMarker.constraints_are_marked c.placed.inside.dcel.now
+    c.placed.invariant.kept _ _ ends.from_in ends.to_in _ _ _ _ _ conflicts.ready conflicts.line _ _
+    c.is_none.ensures c.next.ensures.steps.0)

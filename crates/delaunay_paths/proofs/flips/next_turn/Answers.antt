@@ -1,4 +1,4 @@
-use Rattle.std.proofs.Common.{map, refl}
+use Rattle.std.proofs.Common.{ap, map, refl}
 use Rattle.delaunay_lines.specs.delaunay_core.Place.{place_of}
 use Rattle.delaunay_paths.proofs.MovedEdges.{can_step, can_wait, longer, shorter}
 use Rattle.delaunay_paths.proofs.Seeking.{AreCorners, HaveSeen, going_back_begins}
@@ -18,20 +18,20 @@ pub loop-edge-init : goal.loop-edge-init
 loop-edge-init g c = seeking_begins c.loop.invariant.turn
 
 pub directed_edge-here-requires : goal.directed_edge-here-requires
-directed_edge-here-requires g c =
+directed_edge-here-requires g c = rw (ap (λ s. s.dcel) c.placed.view_is)
     (seeking_within _ c.loop-edge.invariant _ _ c.in-Some.ensures.items).edge
 
 pub position_of-requires : goal.position_of-requires
-position_of-requires g c =
+position_of-requires g c = rw (ap (λ s. s.dcel) c.placed.view_is)
     (seeking_within _ c.loop-edge.invariant _ _ c.in-Some.ensures.items).from
 
 pub position_of-requires-in-Some : goal.position_of-requires-in-Some
-position_of-requires-in-Some g c =
+position_of-requires-in-Some g c = rw (ap (λ s. s.dcel) c.placed.view_is)
     (seeking_within _ c.loop-edge.invariant _ _ c.in-Some.ensures.items).to
 
 pub invariant_of-turning : goal.invariant_of-turning
 invariant_of-turning g c =
-    corners_covered _ (g.met.P.PlaneTests.sites_are_covered c.args.tests.now) c.requires.sites
+    corners_covered _ (g.met.P.PlaneTests.sites_are_covered _) c.placed.invariant.sites
     c.position_of.ensures.listed c.position_of-in-Some.ensures.listed
     c.position_of-in-Some-2.ensures.listed c.position_of-in-Some-3.ensures.listed
     c.position_of-in-Some-4.ensures.listed c.position_of-in-Some-5.ensures.listed
@@ -39,12 +39,13 @@ invariant_of-turning g c =
 -- the corners are those round the edge
 corners : (g : Over) (c : After-position_of-in-Some-5 g) →
     let place = place_of g.V.Scalar.SpadeNum.whole in
-    AreCorners (map g.V.HasPosition.place c.args.dcel.now.vertices) c.args.dcel.now.mesh c.args.from
-    c.args.to c.in-Some.edge (place c.position_of.result) (place c.position_of-in-Some.result)
+    AreCorners (map g.V.HasPosition.place c.args.placed.now.dcel.vertices)
+    c.args.placed.now.dcel.mesh c.args.from c.args.to c.in-Some.edge
+    (place c.position_of.result) (place c.position_of-in-Some.result)
     (place c.position_of-in-Some-2.result) (place c.position_of-in-Some-3.result)
     (place c.position_of-in-Some-4.result) (place c.position_of-in-Some-5.result)
-corners g c =
-    record { from = cc; to = cc; start = cc; behind_is = cc; end = cc; ahead_is = cc }
+corners g c = rw (← c.placed.view_is)
+    (record { from = cc; to = cc; start = cc; behind_is = cc; end = cc; ahead_is = cc })
 
 pub returns-in-Some-way_made : goal.returns-in-Some-way_made
 returns-in-Some-way_made g c =
@@ -73,8 +74,9 @@ pub loop-edge-smaller : goal.loop-edge-smaller
 loop-edge-smaller g c = shorter _ _ (longer _ _ _ c.in-Some.ensures.items)
 
 -- none of them can be turned
-seen : (g : Over) (c : In_default g) → HaveSeen (map g.V.HasPosition.place c.args.dcel.now.vertices)
-    c.args.dcel.now c.args.from c.args.to c.loop.lists
+seen : (g : Over) (c : In_default g)
+    → HaveSeen (map g.V.HasPosition.place c.args.placed.now.dcel.vertices) c.args.placed.now.dcel
+    c.args.from c.args.to c.loop.lists
     (record { waiting = c.loop-edge.lists.waiting; unseen = c.pop.new.self })
 seen g c = seeking_ends c.loop-edge.invariant
     (record { waiting = refl; unseen = c.pop.ensures.capacity }) _ c.in_default.ensures.items

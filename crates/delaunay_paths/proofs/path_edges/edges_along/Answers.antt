@@ -1,7 +1,6 @@
-use Rattle.std.proofs.Common.{◌≡◌, ◌<◌, ◌∙◌, ap, eq-eqb, eqb-true, length, rules, sym}
+use Rattle.std.proofs.Common.{◌≡◌, ◌∙◌, ap, eq-eqb, eqb-true, rules, sym}
 use Rattle.std.proofs.lemmas.List.{length-map}
 use Rattle.delaunay_lines.specs.Items.{item_in}
-use Rattle.delaunay_lines.specs.half_edge_mesh.Mesh.{origin, rev}
 use Rattle.delaunay_lines.specs.mesh_embedding.Drawn.{edges_of}
 use Rattle.delaunay_lines.specs.plane.Pairs.{Joins}
 use Rattle.delaunay_lines.proofs.delaunay_legalization_lemmas.Questions.{both_ways}
@@ -12,7 +11,7 @@ use Rattle.delaunay_paths.proofs.ListingPath.{listing_walk_along, listing_walk_c
 use Rattle.delaunay_paths.proofs.ListingPath.{listing_walk_next, listing_walk_stays}
 use Rattle.delaunay_paths.proofs.NextVertex.{vertex_item}
 use Rattle.delaunay_paths.proofs.path_edges.edges_along.Given.{Over}
-use Rattle.delaunay_paths.proofs.path_edges.edges_along.Goals.{After-fix, Then-ne}
+use Rattle.delaunay_paths.proofs.path_edges.edges_along.Goals.{Then-ne}
 use Rattle.delaunay_paths.proofs.path_edges.edges_along.Goals as goal
 
 pub returns-then-eq : goal.returns-then-eq
@@ -20,57 +19,51 @@ returns-then-eq g c = rw c.clear.ensures.items (eqb-true _ _ (sym c.eq.ensures �
 
 pub loop-item-init : goal.loop-item-init
 loop-item-init g c =
-    let line = c.line_between_vertices-line.ensures in
-    listing_walk_begins c.requires.kept.shape c.requires.from_in c.requires.to_in
+    let kept = rw (ap (λ s. s.dcel) c.placed.view_is) at c.placed.invariant.kept in
+    let line = rw (ap (λ s. s.dcel) c.placed.view_is) at c.line_between_vertices-line.ensures in
+    listing_walk_begins kept.shape c.requires.from_in c.requires.to_in
     (λ same. both_ways _ (c.eq.ensures ∙ eq-eqb _ _ same) c.if-eq.false) line.ready line.line
     c.clear.ensures.items c.clear.ensures.capacity
 
 -- the next vertex is joined to the one before
 joined : (g : Over) (c : Then-ne g)
-    → Joins (edges_of c.args.dcel.now.mesh) c.loop-item.at c.fix-next.result
-joined g c = c.requires.joined _ _ (c.loop-item.invariant.listing.rest _ _
-    (listing_walk_next c.loop-item.invariant c.in-Some.ensures.steps
-    (vertex_item c.in-VertexIntersection.is c.fix-next.ensures.value)
-    (search (rules, c.ne.ensures, c.if-ne.true))))
-
--- and its edge is one of the mesh
-found : (g : Over) (c : After-fix g) → (c.fix.result < length c.args.dcel.now.mesh.half_edges)
-    × (origin c.args.dcel.now.mesh c.fix.result ≡ c.loop-item.at)
-    × (origin c.args.dcel.now.mesh (rev c.fix.result) ≡ c.fix-next.result)
-found g c =
-    let at = index_found c.in-Some-get_edge_from_neighbors.ensures.some c.fix.ensures.value
-    c.fix.ensures.in_range in
-    (rw c.requires.kept.fits.directed_fit at at.0, at.1, at.2)
+    → Joins (edges_of c.placed.inside.dcel.now.mesh) c.loop-item.at c.fix-next.result
+joined g c = rw (ap (λ s. s.dcel) c.placed.view_is) (c.requires.joined _ _
+    (c.loop-item.invariant.listing.rest _ _ (listing_walk_next c.loop-item.invariant
+    c.in-Some.ensures.steps (vertex_item c.in-VertexIntersection.is c.fix-next.ensures.value)
+    (search (rules, c.ne.ensures, c.if-ne.true)))))
 
 pub get_edge_from_neighbors-requires : goal.get_edge_from_neighbors-requires
 get_edge_from_neighbors-requires g c =
-    first_joined {c = c.args.dcel.now}
-    (record { valid = c.requires.kept.valid; fits = c.requires.kept.fits })
+    let kept = c.placed.invariant.kept in
+    first_joined {c = c.placed.inside.dcel.now} (record { valid = kept.valid; fits = kept.fits })
     (joined g (goal.at.get_edge_from_neighbors-requires g c).Then-ne)
 
 pub unreachable-requires : goal.unreachable-requires
 unreachable-requires g c =
-    some_joins {c = c.args.dcel.now}
-    (record { valid = c.requires.kept.valid; fits = c.requires.kept.fits })
+    let kept = c.placed.invariant.kept in
+    some_joins {c = c.placed.inside.dcel.now} (record { valid = kept.valid; fits = kept.fits })
     (joined g (goal.at.unreachable-requires g c).Then-ne)
     c.in_default-get_edge_from_neighbors.ensures.none
 
 pub push_reserved-requires : goal.push_reserved-requires
 push_reserved-requires g c =
-    let edge = found g (goal.at.push_reserved-requires g c).After-fix in
     listing_has_room c.loop-item.invariant.listing (listing_walk_next c.loop-item.invariant
     c.in-Some.ensures.steps (vertex_item c.in-VertexIntersection.is c.fix-next.ensures.value)
-    (λ same. c.requires.kept.valid.apart _ edge.0 (edge.1 ∙ sym same ∙ sym edge.2)))
-    (length-map c.args.dcel.now.vertices g.V.HasPosition.place) c.requires.room
+    (search (rules, c.ne.ensures, c.if-ne.true)))
+    (length-map c.args.placed.now.dcel.vertices g.V.HasPosition.place) c.requires.room
     c.loop-item.edges.ok.0
 
 pub loop-item-preserved-then-ne : goal.loop-item-preserved-then-ne
 loop-item-preserved-then-ne g c =
-    let edge = found g (goal.at.loop-item-preserved-then-ne g c).After-fix in
+    let kept = rw (ap (λ s. s.dcel) c.placed.view_is) at c.placed.invariant.kept in
+    let edge = rw (ap (λ s. s.dcel) c.placed.view_is) at (index_found
+    c.in-Some-get_edge_from_neighbors.ensures.some c.fix.ensures.value c.fix.ensures.in_range) in
+    let within = rw kept.fits.directed_fit at edge.0 in
     listing_walk_goes_on c.loop-item.invariant c.in-Some.ensures.steps
     (vertex_item c.in-VertexIntersection.is c.fix-next.ensures.value)
-    (λ same. c.requires.kept.valid.apart _ edge.0 (edge.1 ∙ sym same ∙ sym edge.2))
-    c.in-Some.ensures.goes.keeps _ edge.0 edge.1 edge.2 c.push_reserved.ensures.items
+    (λ same. kept.valid.apart _ within (edge.1 ∙ sym same ∙ sym edge.2))
+    c.in-Some.ensures.goes.keeps _ within edge.1 edge.2 c.push_reserved.ensures.items
     c.push_reserved.ensures.capacity
 
 pub loop-item-preserved-else-ne : goal.loop-item-preserved-else-ne

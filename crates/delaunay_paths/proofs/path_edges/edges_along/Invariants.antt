@@ -4,7 +4,7 @@ use Rattle.delaunay_paths.proofs.path_edges.edges_along.Given as goal
 
 abbrev pub invariant-loop-item : goal.invariant-loop-item
 invariant-loop-item g l = IsListingWalk g.V.HasPosition.place g.V.Scalar.SpadeNum.whole
-    g.P.PlaneTests.sites g.P.PlaneTests.covered l.dcel l.fn.from l.fn.to l.at l.edges.items
+    g.P.PlaneTests.sites g.P.PlaneTests.covered l.placed.dcel l.fn.from l.fn.to l.at l.edges.items
     (vec_capacity l.fn.edges) (vec_capacity l.edges) l.line
 
 abbrev pub decreases-loop-item : goal.decreases-loop-item

@@ -22,27 +22,27 @@ returns-in-Some-clause-adds g c =
     edge_told c.constrain.ensures.adds (rw (← c.self.view_is) found.1)
     (rw (← c.self.view_is) found.2)
 
-pub returns-in_default-counted-clause-adds : goal.returns-in_default-counted-clause-adds
-returns-in_default-counted-clause-adds g c =
-    (rw (← c.self.view_is) c.in_default-counted.ensures.barred, refl)
+pub returns-in_default-count_path-clause-adds : goal.returns-in_default-count_path-clause-adds
+returns-in_default-count_path-clause-adds g c =
+    (rw (← c.self.view_is) c.in_default-count_path.ensures.barred, refl)
 
 pub returns-then-missing-eq0-clause-adds : goal.returns-then-missing-eq0-clause-adds
 returns-then-missing-eq0-clause-adds g c =
-    let counted = c.in-Some-counted.ensures in
+    let counted = c.in-Some-count_path.ensures in
     rw (← c.self.view_is) (nothing_added _ _ _ _ _ refl (rw (← c.self.view_is) at
     c.requires.from_in) (rw (← c.self.view_is) at c.requires.to_in) counted.free
     (none_missing _ _ _ _ _ counted.missing c.if-missing-eq0.true))
 
 pub join_path-requires-clause-free : goal.join_path-requires-clause-free
-join_path-requires-clause-free g c = rw (← c.self.view_is) c.in-Some-counted.ensures.free
+join_path-requires-clause-free g c = rw (← c.self.view_is) c.in-Some-count_path.ensures.free
 
 pub returns-in_err-join_path-clause-adds : goal.returns-in_err-join_path-clause-adds
 returns-in_err-join_path-clause-adds g c =
     let p = err_from_is_err_and c.from_residual.result c.from_residual.ensures.1 in
-    rw p.1 (rw (← c.self.view_is) c.in-Some-counted.ensures.free, c.in_err-join_path.ensures.err)
+    rw p.1 (rw (← c.self.view_is) c.in-Some-count_path.ensures.free, c.in_err-join_path.ensures.err)
 
 pub returns-clause-adds : goal.returns-clause-adds
 returns-clause-adds g c =
     let added = c.in_ok-join_path.ensures in
     path_added _ _ _ _ _ added.plain _ refl (rw (← c.self.view_is) (some_missing _ _ _ _ _
-    c.in-Some-counted.ensures.missing c.if-missing-eq0.false)) added.«data»
+    c.in-Some-count_path.ensures.missing c.if-missing-eq0.false)) added.«data»

@@ -2,6 +2,6 @@ use Rattle.delaunay_interface.proofs.constraints.ConstrainedDelaunayTriangulatio
 
 pub returns : goal.returns
 returns g c = (
-  (λ yes. record { free = rw (← c.mesh.ensures.state) (c.can_add_path.ensures.0 yes) }),
-  (λ can. c.can_add_path.ensures.1 (rw (← c.mesh.ensures.state) at can.free)),
+  (λ yes. record { free = rw (← c.mesh-dcel.ensures.state) (c.can_add_path.ensures.0 yes) }),
+  (λ can. c.can_add_path.ensures.1 (rw (← c.mesh-dcel.ensures.state) at can.free)),
 )

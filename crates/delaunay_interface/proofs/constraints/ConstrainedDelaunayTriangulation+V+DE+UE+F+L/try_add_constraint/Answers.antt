@@ -48,24 +48,24 @@ returns-in-Some-clause-path g c =
     (origin old.mesh (rev edge)) c.args.from c.args.to
     (rw (← c.self.view_is) found.1) (rw (← c.self.view_is) found.2) listed
 
-pub returns-in_default-counted-clause-path : goal.returns-in_default-counted-clause-path
-returns-in_default-counted-clause-path g c =
+pub returns-in_default-count_path-clause-path : goal.returns-in_default-count_path-clause-path
+returns-in_default-count_path-clause-path g c =
     none_listed _ _ _ _ _ c.new-edges.ensures.items
-    (inr (rw (← c.self.view_is) c.in_default-counted.ensures.barred))
+    (inr (rw (← c.self.view_is) c.in_default-count_path.ensures.barred))
 
 pub join_path-requires-clause-free : goal.join_path-requires-clause-free
-join_path-requires-clause-free g c = rw (← c.self.view_is) c.in-Some-counted.ensures.free
+join_path-requires-clause-free g c = rw (← c.self.view_is) c.in-Some-count_path.ensures.free
 
 pub returns-in_err-reserve-clause-none : goal.returns-in_err-reserve-clause-none
 returns-in_err-reserve-clause-none g c = λ barred. absurd (elim barred as (λ _. ⊥) [
   | inl same ↦ both_ways _ (c.eq.ensures ∙ eq-eqb _ _ same) c.if-eq.false
-  | inr none ↦ none (rw (← c.self.view_is) c.in-Some-counted.ensures.free)
+  | inr none ↦ none (rw (← c.self.view_is) c.in-Some-count_path.ensures.free)
 ])
 
 pub returns-in_err-join_path-clause-none : goal.returns-in_err-join_path-clause-none
 returns-in_err-join_path-clause-none g c = λ barred. absurd (elim barred as (λ _. ⊥) [
   | inl same ↦ both_ways _ (c.eq.ensures ∙ eq-eqb _ _ same) c.if-eq.false
-  | inr none ↦ none (rw (← c.self.view_is) c.in-Some-counted.ensures.free)
+  | inr none ↦ none (rw (← c.self.view_is) c.in-Some-count_path.ensures.free)
 ])
 
 pub edges_along-requires-clause-joined : goal.edges_along-requires-clause-joined
@@ -78,7 +78,7 @@ pub returns-clause-path : goal.returns-clause-path
 returns-clause-path g c = record {
   refused = λ barred. absurd (elim barred as (λ _. ⊥) [
     | inl same ↦ both_ways _ (c.eq.ensures ∙ eq-eqb _ _ same) c.if-eq.false
-    | inr none ↦ none (rw (← c.self.view_is) c.in-Some-counted.ensures.free)
+    | inr none ↦ none (rw (← c.self.view_is) c.in-Some-count_path.ensures.free)
   ]);
   plain = λ apart free. c.in_ok-join_path.ensures.plain;
   along = λ apart free. rw (← c.self-2.view_is) c.edges_along.ensures;
