@@ -51,7 +51,7 @@ pub fn count_path<M: ConstraintMarker<UE>, V: HasPosition, DE, UE, F, P: PlaneTe
 {
     let mut count = 0;
     let mut at = from;
-    let mut line = line_between_vertices(placed.dcel, from, to, placed.tests);
+    let mut line = line_between_vertices(placed, from, to);
     while let Some(item) = line.next() {
         match item {
             Intersection::EdgeIntersection(edge) => {

@@ -272,7 +272,9 @@ impl<V: HasPosition, DE, UE, F, L: HintGenerator<V::Scalar>> ConstrainedDelaunay
             (constraints_of self.now) (place_of whole from) (place_of whole to) }
     {
         let start = self.search_start(from, tests);
-        intersects_constraint::<EdgeConstraints, _, _, _, _, _>(self.mesh(), from, to, start, tests)
+        let dcel = self.mesh();
+        let placed = Placed { dcel, tests };
+        intersects_constraint::<EdgeConstraints, _, _, _, _, _>(&placed, from, to, start)
     }
 
     /// The constraints that the segment from one position to another meets in one point strictly
@@ -299,7 +301,8 @@ impl<V: HasPosition, DE, UE, F, L: HintGenerator<V::Scalar>> ConstrainedDelaunay
         ensures ready { IsReady V.place V.Scalar.whole P.sites P.covered result.line }
     {
         let start = self.search_start(from, tests);
-        ConflictingEdgesIterator::between_points(self.mesh(), from, to, start, tests)
+        let dcel = self.mesh();
+        ConflictingEdgesIterator::between_points(&Placed { dcel, tests }, from, to, start)
     }
 
     /// The same for the segment from one vertex to another.
@@ -317,6 +320,7 @@ impl<V: HasPosition, DE, UE, F, L: HintGenerator<V::Scalar>> ConstrainedDelaunay
             result.line }
         ensures ready { IsReady V.place V.Scalar.whole P.sites P.covered result.line }
     {
-        ConflictingEdgesIterator::between_vertices(self.mesh(), from, to, tests)
+        let dcel = self.mesh();
+        ConflictingEdgesIterator::between_vertices(&Placed { dcel, tests }, from, to)
     }
 }

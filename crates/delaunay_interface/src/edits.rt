@@ -11,6 +11,7 @@ use delaunay_edit::delaunay_core::HintGenerator;
 use delaunay_edit::delaunay_core::math::{InsertionError, PlaneTests, validate_vertex};
 use delaunay_edit::delaunay_core::point::HasPosition;
 use delaunay_edit::delaunay_insertion::{FreeByDefault, reserve_for_vertices};
+use delaunay_edit::delaunay_legalization::Placed;
 use delaunay_edit::delaunay_location::{PositionInTriangulation, locate_with_hint};
 use delaunay_edit::half_edge_mesh::FixedVertexHandle;
 use delaunay_edit::{EdgeData, insert_at};
@@ -76,7 +77,11 @@ impl<
             Some(vertex) => vertex,
             None => self.hint_generator.get_hint(position, tests),
         };
-        let location = locate_with_hint(&self.dcel, position, start, tests);
+        let placed = Placed {
+            dcel: &self.dcel,
+            tests,
+        };
+        let location = locate_with_hint(&placed, position, start);
         match location {
             PositionInTriangulation::OnVertex(vertex) => {
                 let _ = self.dcel.update_vertex(vertex, value);

@@ -40,6 +40,7 @@ use delaunay_edit::EdgeData;
 use delaunay_edit::delaunay_core::HintGenerator;
 use delaunay_edit::delaunay_core::math::{InsertionError, PlaneTests};
 use delaunay_edit::delaunay_core::point::{HasPosition, Point2};
+use delaunay_edit::delaunay_legalization::Placed;
 use delaunay_edit::delaunay_lines::HasMesh;
 use delaunay_edit::delaunay_location::{PositionInTriangulation, locate_with_hint};
 use delaunay_edit::half_edge_mesh::{
@@ -669,9 +670,9 @@ pub trait Triangulation: Drop
             (place_of Self.Vertex.Scalar.whole point) result }
     {
         self.recall_invariant();
-        let mesh = self.s();
-        let answer = locate_with_hint(mesh, point, hint, tests);
-        let vertex = vertex_near(mesh, &answer);
+        let dcel = self.s();
+        let answer = locate_with_hint(&Placed { dcel, tests }, point, hint);
+        let vertex = vertex_near(dcel, &answer);
         self.hint_generator().notify_vertex_lookup(vertex);
         answer
     }

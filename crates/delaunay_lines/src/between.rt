@@ -1,7 +1,6 @@
 //! The walk along a segment, from wherever its start is.
-ghost use Rattle.std.specs.Prelude.{◌<◌, length, map, All};
+ghost use Rattle.std.specs.Prelude.{◌<◌, length, map};
 ghost use Rattle.delaunay_location.specs.delaunay_core.Place.{place_of};
-ghost use Rattle.delaunay_location.specs.delaunay_legalization.Shape.{IsTriangulated};
 ghost use Rattle.delaunay_location.specs.delaunay_legalization.State.{state_of};
 ghost use Rattle.delaunay_location.specs.Location.{Locates};
 ghost use Rattle.delaunay_lines.specs.Over.{BeginsWith};
@@ -14,7 +13,7 @@ use crate::starts::{first_in_face, first_on_edge};
 use delaunay_location::delaunay_core::math::PlaneTests;
 use delaunay_location::delaunay_core::point::{HasPosition, Point2};
 use delaunay_location::delaunay_legalization::{Placed, is_same_point, position_of};
-use delaunay_location::half_edge_mesh::{Dcel, FixedVertexHandle, MeshViews};
+use delaunay_location::half_edge_mesh::{FixedVertexHandle, MeshViews};
 use delaunay_location::{PositionInTriangulation, locate_with_hint};
 
 // What a segment meets first, from the location of its start. Where its ends are one point, it is
@@ -58,25 +57,23 @@ fn first_from<V: HasPosition, DE, UE, F, P: PlaneTests<V::Scalar>>(
 /// What the segment from one position to another meets. Where it starts is looked for from the
 /// vertex `hint` on, or from vertex 0 where there is no such vertex.
 pub fn line_between<'a, V: HasPosition, DE, UE, F, P: PlaneTests<V::Scalar>>(
-    dcel: &'a Dcel<V, DE, UE, F>,
+    placed: &Placed<'a, V, DE, UE, F, P>,
     from: Point2<V::Scalar>,
     to: Point2<V::Scalar>,
     hint: FixedVertexHandle,
-    tests: &'a P,
 ) -> LineIntersectionIterator<'a, V, DE, UE, F, P>
-    requires kept { IsTriangulated V.place (state_of dcel.now) }
-    requires sites { All (P.sites tests.now) (map V.place dcel.now.vertices) }
-    requires from_covered { P.covered tests.now (place_of V.Scalar.whole from) }
-    requires to_covered { P.covered tests.now (place_of V.Scalar.whole to) }
-    ensures line { WalksLine V.place V.Scalar.whole (state_of dcel.now)
+    requires from_covered { P.covered placed.now.tests (place_of V.Scalar.whole from) }
+    requires to_covered { P.covered placed.now.tests (place_of V.Scalar.whole to) }
+    ensures line { WalksLine V.place V.Scalar.whole (state_of placed.now.dcel)
         (place_of V.Scalar.whole from) (place_of V.Scalar.whole to) result }
     ensures ready { IsReady V.place V.Scalar.whole P.sites P.covered result }
 {
-    let placed = Placed { dcel, tests };
-    let current = first_from(&placed, from, to, locate_with_hint(dcel, from, hint, tests));
+    let start = locate_with_hint(placed, from, hint);
+    let current = first_from(placed, from, to, start);
+    let dcel = placed.dcel;
     LineIntersectionIterator {
         dcel,
-        tests,
+        tests: placed.tests,
         from,
         to,
         current,
@@ -87,22 +84,20 @@ pub fn line_between<'a, V: HasPosition, DE, UE, F, P: PlaneTests<V::Scalar>>(
 /// What the segment from one vertex to another meets, from the vertex on: of a vertex to itself,
 /// that vertex alone.
 pub fn line_between_vertices<'a, V: HasPosition, DE, UE, F, P: PlaneTests<V::Scalar>>(
-    dcel: &'a Dcel<V, DE, UE, F>,
+    placed: &Placed<'a, V, DE, UE, F, P>,
     from: FixedVertexHandle,
     to: FixedVertexHandle,
-    tests: &'a P,
 ) -> LineIntersectionIterator<'a, V, DE, UE, F, P>
-    requires from_in { from < length dcel.now.vertices }
-    requires to_in { to < length dcel.now.vertices }
-    requires kept { IsTriangulated V.place (state_of dcel.now) }
-    requires sites { All (P.sites tests.now) (map V.place dcel.now.vertices) }
-    ensures line { WalksBetween V.place V.Scalar.whole (state_of dcel.now) from to result }
+    requires from_in { from < length placed.now.dcel.vertices }
+    requires to_in { to < length placed.now.dcel.vertices }
+    ensures line { WalksBetween V.place V.Scalar.whole (state_of placed.now.dcel) from to result }
     ensures ready { IsReady V.place V.Scalar.whole P.sites P.covered result }
 {
+    let dcel = placed.dcel;
     let (start, end) = (position_of(dcel, from), position_of(dcel, to));
     LineIntersectionIterator {
         dcel,
-        tests,
+        tests: placed.tests,
         from: start,
         to: end,
         current: Some(FixedIntersection::Vertex(from)),

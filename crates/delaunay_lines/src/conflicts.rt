@@ -1,11 +1,10 @@
 //! The constraints that a segment crosses.
-ghost use Rattle.std.specs.Prelude.{◌↔◌, ◌/◌, ◌<◌, length, map, All, Contains};
+ghost use Rattle.std.specs.Prelude.{◌↔◌, ◌/◌, ◌<◌, length, map, Contains};
 ghost use Rattle.std.specs.Prelude.{IfNone, IsTrue};
 ghost use Rattle.std.specs.Iterator.{at_most};
 ghost use Rattle.delaunay_location.specs.delaunay_core.Place.{place_of};
 ghost use Rattle.delaunay_location.specs.delaunay_legalization.Constraints.{constraints_by};
 ghost use Rattle.delaunay_location.specs.delaunay_legalization.Known.{point_at};
-ghost use Rattle.delaunay_location.specs.delaunay_legalization.Shape.{IsTriangulated};
 ghost use Rattle.delaunay_location.specs.delaunay_legalization.State.{state_of, triangulation_of};
 ghost use Rattle.delaunay_lines.specs.Conflicts.{GivesConflict, IntersectsConstraint, IsConflictOf};
 ghost use Rattle.delaunay_lines.specs.Walk.{IsReady, WalksLine};
@@ -15,8 +14,8 @@ use crate::intersection::Intersection;
 use crate::iterator::LineIntersectionIterator;
 use delaunay_location::delaunay_core::math::PlaneTests;
 use delaunay_location::delaunay_core::point::{HasPosition, Point2};
-use delaunay_location::delaunay_legalization::ConstraintMarker;
-use delaunay_location::half_edge_mesh::{Dcel, DirectedEdgeHandle, FixedVertexHandle};
+use delaunay_location::delaunay_legalization::{ConstraintMarker, Placed};
+use delaunay_location::half_edge_mesh::{DirectedEdgeHandle, FixedVertexHandle};
 use std::marker::PhantomData;
 
 // The edge of an item, if the segment crosses it and it is a constraint.
@@ -65,22 +64,19 @@ impl<
 > ConflictingEdgesIterator<'a, M, V, DE, UE, F, P> {
     /// The constraints that the segment between two vertices crosses.
     pub fn between_vertices(
-        dcel: &'a Dcel<V, DE, UE, F>,
+        placed: &Placed<'a, V, DE, UE, F, P>,
         from: FixedVertexHandle,
         to: FixedVertexHandle,
-        tests: &'a P,
     ) -> Self
-        requires from_in { from < length dcel.now.vertices }
-        requires to_in { to < length dcel.now.vertices }
-        requires kept { IsTriangulated V.place (state_of dcel.now) }
-        requires sites { All (P.sites tests.now) (map V.place dcel.now.vertices) }
-        ensures line { let points = map V.place dcel.now.vertices in
-            WalksLine V.place V.Scalar.whole (state_of dcel.now) (point_at points from)
+        requires from_in { from < length placed.now.dcel.vertices }
+        requires to_in { to < length placed.now.dcel.vertices }
+        ensures line { let d = placed.now.dcel in let points = map V.place d.vertices in
+            WalksLine V.place V.Scalar.whole (state_of d) (point_at points from)
             (point_at points to) result.line }
         ensures ready { IsReady V.place V.Scalar.whole P.sites P.covered result.line }
     {
         ConflictingEdgesIterator {
-            line: line_between_vertices(dcel, from, to, tests),
+            line: line_between_vertices(placed, from, to),
             marks: PhantomData,
         }
     }
@@ -88,22 +84,19 @@ impl<
     /// The constraints that the segment between two positions crosses. The search for the first
     /// position begins at the vertex `hint`, or at vertex 0 where there is no such vertex.
     pub fn between_points(
-        dcel: &'a Dcel<V, DE, UE, F>,
+        placed: &Placed<'a, V, DE, UE, F, P>,
         from: Point2<V::Scalar>,
         to: Point2<V::Scalar>,
         hint: FixedVertexHandle,
-        tests: &'a P,
     ) -> Self
-        requires kept { IsTriangulated V.place (state_of dcel.now) }
-        requires sites { All (P.sites tests.now) (map V.place dcel.now.vertices) }
-        requires from_covered { P.covered tests.now (place_of V.Scalar.whole from) }
-        requires to_covered { P.covered tests.now (place_of V.Scalar.whole to) }
-        ensures line { WalksLine V.place V.Scalar.whole (state_of dcel.now)
+        requires from_covered { P.covered placed.now.tests (place_of V.Scalar.whole from) }
+        requires to_covered { P.covered placed.now.tests (place_of V.Scalar.whole to) }
+        ensures line { WalksLine V.place V.Scalar.whole (state_of placed.now.dcel)
             (place_of V.Scalar.whole from) (place_of V.Scalar.whole to) result.line }
         ensures ready { IsReady V.place V.Scalar.whole P.sites P.covered result.line }
     {
         ConflictingEdgesIterator {
-            line: line_between(dcel, from, to, hint, tests),
+            line: line_between(placed, from, to, hint),
             marks: PhantomData,
         }
     }
@@ -120,23 +113,20 @@ pub fn intersects_constraint<
     F,
     P: PlaneTests<V::Scalar>,
 >(
-    dcel: &Dcel<V, DE, UE, F>,
+    placed: &Placed<'_, V, DE, UE, F, P>,
     from: Point2<V::Scalar>,
     to: Point2<V::Scalar>,
     hint: FixedVertexHandle,
-    tests: &P,
 ) -> bool
-    requires kept { IsTriangulated V.place (state_of dcel.now) }
-    requires sites { All (P.sites tests.now) (map V.place dcel.now.vertices) }
-    requires from_covered { P.covered tests.now (place_of V.Scalar.whole from) }
-    requires to_covered { P.covered tests.now (place_of V.Scalar.whole to) }
-    ensures { let s = state_of dcel.now in
+    requires from_covered { P.covered placed.now.tests (place_of V.Scalar.whole from) }
+    requires to_covered { P.covered placed.now.tests (place_of V.Scalar.whole to) }
+    ensures { let s = state_of placed.now.dcel in
         IsTrue result ↔ IntersectsConstraint (triangulation_of V.place s)
         (constraints_by M.constraints s) (place_of V.Scalar.whole from)
         (place_of V.Scalar.whole to) }
 {
     let mut crossed = ConflictingEdgesIterator::<M, _, _, _, _, _>::between_points(
-        dcel, from, to, hint, tests,
+        placed, from, to, hint,
     );
     crossed.next().is_some()
 }

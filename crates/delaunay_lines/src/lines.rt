@@ -11,6 +11,7 @@ use crate::between::{line_between, line_between_vertices};
 use crate::iterator::LineIntersectionIterator;
 use delaunay_location::delaunay_core::math::PlaneTests;
 use delaunay_location::delaunay_core::point::{HasPosition, Point2};
+use delaunay_location::delaunay_legalization::Placed;
 use delaunay_location::half_edge_mesh::{Dcel, FixedVertexHandle};
 
 /// What has the mesh of a triangulation, and says where searches in it begin: each of the two types
@@ -65,7 +66,11 @@ impl<'a, V: HasPosition, DE, UE, F, P: PlaneTests<V::Scalar>> LineIntersectionIt
         ensures ready { IsReady V.place V.Scalar.whole P.sites P.covered result }
     {
         let start = triangulation.search_start(from, tests);
-        line_between(triangulation.mesh(), from, to, start, tests)
+        let placed = Placed {
+            dcel: triangulation.mesh(),
+            tests,
+        };
+        line_between(&placed, from, to, start)
     }
 
     /// What the segment from one vertex to another meets, from the first vertex on: of a vertex to
@@ -86,6 +91,10 @@ impl<'a, V: HasPosition, DE, UE, F, P: PlaneTests<V::Scalar>> LineIntersectionIt
             WalksLine V.place V.Scalar.whole s (point_at points from) (point_at points to) result }
         ensures ready { IsReady V.place V.Scalar.whole P.sites P.covered result }
     {
-        line_between_vertices(triangulation.mesh(), from, to, tests)
+        let placed = Placed {
+            dcel: triangulation.mesh(),
+            tests,
+        };
+        line_between_vertices(&placed, from, to)
     }
 }

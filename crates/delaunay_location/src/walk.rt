@@ -1,8 +1,6 @@
 //! Where a position is, by a walk from face to face.
-ghost use Rattle.std.specs.Prelude.{◌<◌, length, map, All, IfSome};
+ghost use Rattle.std.specs.Prelude.{◌<◌, length, map, IfSome};
 ghost use Rattle.delaunay_legalization.specs.delaunay_core.Place.{place_of};
-ghost use Rattle.delaunay_legalization.specs.Shape.{IsTriangulated};
-ghost use Rattle.delaunay_legalization.specs.State.{state_of};
 ghost use Rattle.delaunay_location.specs.Distances.{CanMeasure};
 ghost use Rattle.delaunay_location.specs.Location.{IsPlaceOf, Locates};
 ghost use Rattle.delaunay_location.specs.Stop.{IsWalkOf};
@@ -145,21 +143,19 @@ pub(crate) fn nearer_edge<V: HasPosition, DE, UE, F>(
 }
 
 /// Where a position is: the vertex, edge or face that it is on or strictly inside of, or an edge of
-/// the outline that it is beyond. The tests have to cover the position, and have the vertices as
-/// sites. The search begins at the vertex `hint`, or at vertex 0 where there is no such vertex: the
-/// nearer it is, the shorter the way, and the answer is right whatever it is. It takes no memory.
+/// the outline that it is beyond. The tests have to cover the position. The search begins at the
+/// vertex `hint`, or at vertex 0 where there is no such vertex: the nearer it is, the shorter the
+/// way, and the answer is right whatever it is. It takes no memory.
 pub fn locate_with_hint<V: HasPosition, DE, UE, F, P: PlaneTests<V::Scalar>>(
-    dcel: &Dcel<V, DE, UE, F>,
+    placed: &Placed<'_, V, DE, UE, F, P>,
     point: Point2<V::Scalar>,
     hint: FixedVertexHandle,
-    tests: &P,
 ) -> PositionInTriangulation
-    requires kept { IsTriangulated V.place (state_of dcel.now) }
-    requires sites { All (P.sites tests.now) (map V.place dcel.now.vertices) }
-    requires covered { P.covered tests.now (place_of V.Scalar.whole point) }
-    ensures { Locates (map V.place dcel.now.vertices) dcel.now.mesh (place_of V.Scalar.whole point)
-        result }
+    requires covered { P.covered placed.now.tests (place_of V.Scalar.whole point) }
+    ensures { let d = placed.now.dcel in
+        Locates (map V.place d.vertices) d.mesh (place_of V.Scalar.whole point) result }
 {
+    let dcel = placed.dcel;
     let vertex = if (hint.index() as usize) < dcel.num_vertices() {
         dcel.vertex(hint)
     } else if dcel.num_vertices() > 0 {
@@ -167,12 +163,11 @@ pub fn locate_with_hint<V: HasPosition, DE, UE, F, P: PlaneTests<V::Scalar>>(
     } else {
         return PositionInTriangulation::NoTriangulation;
     };
-    let placed = Placed { dcel, tests };
     let Some(start) = vertex.out_edge() else {
-        return place_by_scan(&placed, point);
+        return place_by_scan(placed, point);
     };
-    match walk_from(&placed, point, start.fix()) {
+    match walk_from(placed, point, start.fix()) {
         Some(place) => place,
-        None => place_by_scan(&placed, point),
+        None => place_by_scan(placed, point),
     }
 }

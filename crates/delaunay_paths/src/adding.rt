@@ -30,10 +30,7 @@ pub fn can_add_path<M: ConstraintMarker<UE>, V: HasPosition, DE, UE, F, P: Plane
         return true;
     }
     let mut conflicts = ConflictingEdgesIterator::<M, _, _, _, _, _>::between_vertices(
-        placed.dcel,
-        from,
-        to,
-        placed.tests,
+        placed, from, to,
     );
     conflicts.next().is_none()
 }

@@ -62,7 +62,7 @@ impl CrossingLists {
         }
         self.waiting.clear();
         self.unseen.clear();
-        let mut line = line_between_vertices(placed.dcel, from, to, placed.tests);
+        let mut line = line_between_vertices(placed, from, to);
         while let Some(item) = line.next() {
             match item {
                 Intersection::EdgeIntersection(edge) => {

@@ -29,7 +29,7 @@ pub fn edges_along<V: HasPosition, DE, UE, F, P: PlaneTests<V::Scalar>>(
         return;
     }
     let mut at = from;
-    let mut line = line_between_vertices(placed.dcel, from, to, placed.tests);
+    let mut line = line_between_vertices(placed, from, to);
     while let Some(item) = line.next() {
         match item {
             Intersection::EdgeIntersection(_) => {}

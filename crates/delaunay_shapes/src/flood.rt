@@ -12,6 +12,7 @@ use crate::marks::Marks;
 use crate::shape_search::ShapeSearch;
 use delaunay_location::delaunay_core::math::PlaneTests;
 use delaunay_location::delaunay_core::point::HasPosition;
+use delaunay_location::delaunay_legalization::Placed;
 use delaunay_location::half_edge_mesh::{FixedDirectedEdgeHandle, FixedVertexHandle, MeshViews};
 use delaunay_location::locate_with_hint;
 use std::alloc::{AllocError, Global};
@@ -148,7 +149,11 @@ impl<
         ensures begun { OnOk result (HasBegunWith (EnclosesEdge V.place M.shape self.now)
             (length self.now.dcel.undirected) flood.new.asked) }
     {
-        let location = locate_with_hint(self.dcel, self.start, hint, self.tests);
+        let placed = Placed {
+            dcel: self.dcel,
+            tests: self.tests,
+        };
+        let location = locate_with_hint(&placed, self.start, hint);
         let starts = self.edges_at(location, alloc)?;
         for edge in starts.as_slice() {
             self.ask(edge.as_directed(), flood)?;

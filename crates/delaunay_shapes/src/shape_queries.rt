@@ -13,6 +13,7 @@ use crate::in_shape::{EdgesInShapeIterator, VerticesInShapeIterator};
 use crate::shape_search::ShapeSearch;
 use delaunay_location::delaunay_core::math::PlaneTests;
 use delaunay_location::delaunay_core::point::{HasPosition, Point2};
+use delaunay_location::delaunay_legalization::Placed;
 use delaunay_location::half_edge_mesh::{Dcel, FixedVertexHandle};
 use std::alloc::{AllocError, Global};
 
@@ -48,7 +49,7 @@ pub fn edges_in_shape<
     ensures { IfOk result (λ it. GivesEdgesIn (M.shape metric.now) V.place dcel.entry
         (edges_left it)) }
 {
-    let search = ShapeSearch::new(dcel, metric, start, tests);
+    let search = ShapeSearch::new(&Placed { dcel, tests }, metric, start);
     let edges = search.edges_from(hint, alloc)?;
     Ok(EdgesInShapeIterator {
         dcel,
@@ -89,7 +90,7 @@ pub fn vertices_in_shape<
     ensures { IfOk result (λ it. GivesVerticesIn (M.shape metric.now) V.place dcel.entry
         (vertices_left it)) }
 {
-    let search = ShapeSearch::new(dcel, metric, start, tests);
+    let search = ShapeSearch::new(&Placed { dcel, tests }, metric, start);
     if dcel.num_vertices() < 2 {
         return vertices_by_filter(dcel, metric, tests, alloc);
     }

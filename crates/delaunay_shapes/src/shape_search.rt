@@ -1,14 +1,13 @@
 //! A search for what has a point in a shape.
 ghost use Rattle.std.specs.Prelude.{◌↔◌, ◌≡◌, ◌<◌, length, map, All, IsTrue};
 ghost use Rattle.delaunay_location.specs.delaunay_core.Place.{place_of};
-ghost use Rattle.delaunay_location.specs.delaunay_legalization.Shape.{IsTriangulated};
-ghost use Rattle.delaunay_location.specs.delaunay_legalization.State.{state_of};
 ghost use Rattle.delaunay_shapes.specs.ShapeSearch.{EnclosesEdge};
 ghost use Rattle.delaunay_shapes.specs.Start.{HasStartAt};
 
 use crate::distance_metric::DistanceMetric;
 use delaunay_location::delaunay_core::math::PlaneTests;
 use delaunay_location::delaunay_core::point::{HasPosition, Point2};
+use delaunay_location::delaunay_legalization::Placed;
 use delaunay_location::half_edge_mesh::{Dcel, FixedUndirectedEdgeHandle, MeshViews};
 use std::marker::Model;
 
@@ -59,28 +58,26 @@ impl<
     P: PlaneTests<V::Scalar>,
 > ShapeSearch<'a, V, DE, UE, F, M, P> {
     pub(crate) fn new(
-        dcel: &'a Dcel<V, DE, UE, F>,
+        placed: &Placed<'a, V, DE, UE, F, P>,
         metric: &'a M,
         start: Point2<V::Scalar>,
-        tests: &'a P,
     ) -> Self
-        requires kept { IsTriangulated V.place (state_of dcel.now) }
-        requires sites { All (P.sites tests.now) (map V.place dcel.now.vertices) }
-        requires own_covered { All (P.covered tests.now) (M.own_points metric.now) }
-        requires start_covered { P.covered tests.now (place_of V.Scalar.whole start) }
+        requires own_covered { All (P.covered placed.now.tests) (M.own_points metric.now) }
+        requires start_covered { P.covered placed.now.tests (place_of V.Scalar.whole start) }
         requires begins { HasStartAt (M.shape metric.now) (place_of V.Scalar.whole start) }
         ensures value { result ≡ record {
-          dcel = dcel.now;
+          dcel = placed.now.dcel;
           metric = metric.now;
-          tests = tests.now;
+          tests = placed.now.tests;
           start = place_of V.Scalar.whole start;
         } }
-        ensures covered { All (P.covered tests.now) (map V.place dcel.now.vertices) }
+        ensures covered { All (P.covered placed.now.tests)
+            (map V.place placed.now.dcel.vertices) }
     {
         ShapeSearch {
-            dcel,
+            dcel: placed.dcel,
             metric,
-            tests,
+            tests: placed.tests,
             start,
         }
     }

@@ -4,7 +4,6 @@ ghost use Rattle.delaunay_lines.specs.plane.Fraction.{whole as fraction};
 ghost use Rattle.delaunay_lines.specs.plane.Tests.{InRange};
 ghost use Rattle.plane_sight.specs.Sight.{IsInSight};
 ghost use Rattle.delaunay_lines.specs.delaunay_core.Place.{place_of};
-ghost use Rattle.delaunay_lines.specs.delaunay_legalization.Shape.{IsTriangulated};
 ghost use Rattle.delaunay_lines.specs.delaunay_legalization.State.{state_of, triangulation_of};
 ghost use Rattle.delaunay_sight.specs.Beside.{by_place};
 ghost use Rattle.delaunay_sight.specs.Passing.{GoesFree};
@@ -14,33 +13,32 @@ use crate::items::Sight;
 use crate::places::is_in_free;
 use delaunay_lines::delaunay_core::math::PlaneTests;
 use delaunay_lines::delaunay_core::point::{HasPosition, Point2};
-use delaunay_lines::half_edge_mesh::{Dcel, FixedVertexHandle};
+use delaunay_lines::delaunay_legalization::Placed;
+use delaunay_lines::half_edge_mesh::FixedVertexHandle;
 use delaunay_lines::{HasMesh, line_between};
 
 // Whether a segment passes free faces at each item that it meets. The search for its start begins
 // at the vertex `hint`.
 fn goes_free<'a, V: HasPosition, DE, UE, F, G: FreeFaces, P: PlaneTests<V::Scalar>>(
-    dcel: &'a Dcel<V, DE, UE, F>,
+    placed: &Placed<'a, V, DE, UE, F, P>,
     from: Point2<V::Scalar>,
     to: Point2<V::Scalar>,
     hint: FixedVertexHandle,
     free: &'a G,
-    tests: &'a P,
 ) -> bool
-    requires kept { IsTriangulated V.place (state_of dcel.now) }
-    requires sites { All (P.sites tests.now) (map V.place dcel.now.vertices) }
-    requires from_covered { P.covered tests.now (place_of V.Scalar.whole from) }
-    requires to_covered { P.covered tests.now (place_of V.Scalar.whole to) }
-    ensures { GoesFree (triangulation_of V.place (state_of dcel.now)) (by_place (G.free free.now))
-        (fraction (place_of V.Scalar.whole from)) (fraction (place_of V.Scalar.whole to)) result }
+    requires from_covered { P.covered placed.now.tests (place_of V.Scalar.whole from) }
+    requires to_covered { P.covered placed.now.tests (place_of V.Scalar.whole to) }
+    ensures { GoesFree (triangulation_of V.place (state_of placed.now.dcel))
+        (by_place (G.free free.now)) (fraction (place_of V.Scalar.whole from))
+        (fraction (place_of V.Scalar.whole to)) result }
 {
-    let mut line = line_between(dcel, from, to, hint, tests);
+    let mut line = line_between(placed, from, to, hint);
     let sight = Sight {
         dcel: line.dcel,
         free,
         from,
         to,
-        tests,
+        tests: placed.tests,
     };
     sight.passes_each(&mut line)
 }
@@ -74,11 +72,12 @@ pub fn is_in_sight<
     let start = triangulation.search_start(from, tests);
     let end = triangulation.search_start(to, tests);
     let dcel = triangulation.mesh();
-    if !is_in_free(dcel, from, start, free, tests) {
+    let placed = Placed { dcel, tests };
+    if !is_in_free(&placed, from, start, free) {
         return false;
     }
-    if !is_in_free(dcel, to, end, free, tests) {
+    if !is_in_free(&placed, to, end, free) {
         return false;
     }
-    goes_free(dcel, from, to, start, free, tests)
+    goes_free(&placed, from, to, start, free)
 }

@@ -5,10 +5,10 @@ use Rattle.delaunay_lines.proofs.between.line_between.Goals as goal
 pub returns : goal.returns
 returns g c =
     let first = c.first_from-current.ensures in
-    record {
+    rw (← c.placed.view_is) record {
       line = walks_line first;
       ready = is_ready first (record {
-        placed = record { kept = c.requires.kept; sites = c.requires.sites };
+        placed = c.placed.invariant;
         from_covered = c.requires.from_covered;
         to_covered = c.requires.to_covered;
       }) (search arith);
