@@ -4,12 +4,13 @@ use Rattle.delaunay_lines.proofs.between.line_between.Goals as goal
 
 pub returns : goal.returns
 returns g c =
-    let first = c.first_from-current.ensures in
+    let first = rw (← c.placed.view_is) at c.first_from-current.ensures in
+    let covered = rw (← c.placed.view_is) at c.requires in
     rw (← c.placed.view_is) record {
       line = walks_line first;
       ready = is_ready first (record {
         placed = c.placed.invariant;
-        from_covered = c.requires.from_covered;
-        to_covered = c.requires.to_covered;
+        from_covered = covered.from_covered;
+        to_covered = covered.to_covered;
       }) (search arith);
     }

@@ -7,20 +7,21 @@ use Rattle.delaunay_lines.proofs.between.line_between_vertices.Goals as goal
 
 pub returns : goal.returns
 returns g c =
-    let covers = g.met.P.PlaneTests.sites_are_covered c.args.tests.now in
-    let sites = c.requires.sites in
+    let covers = g.met.P.PlaneTests.sites_are_covered c.placed.inside.tests.now in
+    let sites = c.placed.invariant.sites in
     let over : IsOverMesh g.V.HasPosition.place g.P.PlaneTests.sites g.P.PlaneTests.covered
-    c.args.dcel.now c.args.tests.now
+    c.placed.inside.dcel.now c.placed.inside.tests.now
     (place_of g.V.Scalar.SpadeNum.whole c.position_of-start.result)
     (place_of g.V.Scalar.SpadeNum.whole c.position_of-end.result) = record {
-      placed = record { kept = c.requires.kept; sites = sites };
+      placed = c.placed.invariant;
       from_covered = covered_in _ _ covers _ _ sites c.position_of-start.ensures.listed;
       to_covered = covered_in _ _ covers _ _ sites c.position_of-end.ensures.listed;
     } in
+    let within = rw (← c.placed.view_is) at c.requires.from_in in
     let first = starts_at_vertex over.placed
     {q = place_of g.V.Scalar.SpadeNum.whole c.position_of-end.result} c.args.from
-    c.requires.from_in c.position_of-start.ensures.place in
-    record {
+    within c.position_of-start.ensures.place in
+    rw (← c.placed.view_is) record {
       line = rw (← c.position_of-start.ensures.place, ← c.position_of-end.ensures.place)
           (walks_line first);
       ready = is_ready first over (search arith);
