@@ -32,12 +32,9 @@ use Rattle.delaunay_sight.specs.Passing.{GoesFree}
 use Rattle.delaunay_sight.proofs.Crossed.{false_tells}
 use Rattle.delaunay_sight.proofs.MeshFaces.{beside_iff, behind_iff, free_edge, tiles_with}
 
-module _ {V D U F : Type 0} {at : V → Point} (c : Contents V D U F)
-    (kept : IsTriangulated at (state_of c)) (free : ℕ → Bool) (p : Point) where
-  -- no tests are needed
-  placed : IsPlaced at (λ (x : Unit {0}) _. Unit {0}) c tt
-  placed = record { kept = kept; sites = λ i x e. tt }
-
+module _ {V D U F P : Type 0} {at : V → Point} {IsSite : P → Point → Type 0}
+    {c : Contents V D U F} {tests : P} (placed : IsPlaced at IsSite c tests) (free : ℕ → Bool)
+    (p : Point) where
   abbrev m : Mesh
   m = c.mesh
 
@@ -51,7 +48,7 @@ module _ {V D U F : Type 0} {at : V → Point} (c : Contents V D U F)
   InFree = IsInFree t (by_place free) (whole p)
 
   tiles : (n : ℕ) → n < length t.faces → TilesHull t
-  tiles n within = tiles_with points m kept.valid kept.shape free n within
+  tiles n within = tiles_with points m placed.kept.valid placed.kept.shape free n within
 
   -- a vertex that was found is there
   pub vertex_there : {v : ℕ} → Locates points m p (OnVertex v) → v < length c.vertices
@@ -62,12 +59,12 @@ module _ {V D U F : Type 0} {at : V → Point} (c : Contents V D U F)
       → HasFreeRound m free v ↔ InFree
   at_vertex_iff v l = (
     (λ r. let f = subst (λ (i : ℕ). HasFreeFace t (by_place free) i (origin m (rev r.0))) r.2
-        ((beside_iff points m kept.valid kept.shape free r.0 r.1).0 r.3) in
+        ((beside_iff points m placed.kept.valid placed.kept.shape free r.0 r.1).0 r.3) in
         ((in_free_by_place t (tiles f.index f.within) (by_place free) (whole p)).2 v l.location.0
         l.location.1).1 (origin m (rev r.0), f)),
     (λ o. let f = ((in_free_by_place t (tiles o.index o.within) (by_place free) (whole p)).2 v
         l.location.0 l.location.1).0 o in
-        let e = free_edge points m kept.valid kept.shape free v f.0 f.1 in
+        let e = free_edge points m placed.kept.valid placed.kept.shape free v f.0 f.1 in
         (e.0, e.1, sym e.2, e.4)),
   )
 
@@ -75,8 +72,8 @@ module _ {V D U F : Type 0} {at : V → Point} (c : Contents V D U F)
   pub on_edge_iff : (e : ℕ) → Locates points m p (OnEdge e)
       → (IsFreeBeside m free e ⊎ IsFreeBeside m free (rev e)) ↔ InFree
   on_edge_iff e l =
-      let left = beside_iff points m kept.valid kept.shape free e l.handle in
-      let right = behind_iff points m kept.valid kept.shape free e l.handle in (
+      let left = beside_iff points m placed.kept.valid placed.kept.shape free e l.handle in
+      let right = behind_iff points m placed.kept.valid placed.kept.shape free e l.handle in (
         (λ x. elim x [
           | inl y ↦ (let f = left.0 y in ((in_free_by_place t (tiles f.index f.within)
               (by_place free) (whole p)).1 (origin m e) (origin m (rev e)) l.location.0
@@ -104,16 +101,16 @@ module _ {V D U F : Type 0} {at : V → Point} (c : Contents V D U F)
   )
     where
       named : (face_edge m f < length m.half_edges) × (face m (face_edge m f) ≡ f)
-      named = kept.valid.sound.faces f l.handle.0 l.handle.1
+      named = placed.kept.valid.sound.faces f l.handle.0 l.handle.1
 
       starts : origin m (next m (face_edge m f)) ≡ origin m (rev (face_edge m f))
-      starts = (kept.valid.sound.edges (face_edge m f) named.0).starts
+      starts = (placed.kept.valid.sound.edges (face_edge m f) named.0).starts
 
       listed : IsFreeBeside m free (face_edge m f) ↔ HasFreeFace t (by_place free)
           (origin m (face_edge m f)) (origin m (next m (face_edge m f)))
       listed = subst (λ (j : ℕ). IsFreeBeside m free (face_edge m f) ↔ HasFreeFace t (by_place free)
           (origin m (face_edge m f)) j) (sym starts)
-          (beside_iff points m kept.valid kept.shape free (face_edge m f) named.0)
+          (beside_iff points m placed.kept.valid placed.kept.shape free (face_edge m f) named.0)
 
       law : TilesHull t → InFree ↔ HasFreeFace t (by_place free) (origin m (face_edge m f))
           (origin m (next m (face_edge m f)))
@@ -171,16 +168,15 @@ goes_free {V} {D} {U} {F} at s c same free p q items line b iff = (
 
 -- a segment over the mesh of a line over a mesh with the same state
 pub over_line : {V D U F P : Type 0} {at : V → Point} {IsSite IsCovered : P → Point → Type 0}
-    {d : Contents V D U F} {tests : P} {p q : Point} (c : Contents V D U F)
-    → IsTriangulated at (state_of c) → state_of d ≡ state_of c
-    → All (IsSite tests) (map at c.vertices) → IsCovered tests p → IsCovered tests q
+    {c d : Contents V D U F} {tests : P} {p q : Point} → IsPlaced at IsSite c tests
+    → state_of d ≡ state_of c → IsCovered tests p → IsCovered tests q
     → IsOverMesh at IsSite IsCovered d tests p q
-over_line {V = V} {D = D} {U = U} {F = F} {at = at} {IsSite = IsSite} {tests = tests} c kept same
-    sites from to = record {
+over_line {V = V} {D = D} {U = U} {F = F} {at = at} {IsSite = IsSite} {tests = tests} placed same
+    from to = record {
       placed = record {
-        kept = subst (IsTriangulated at) (sym same) kept;
+        kept = subst (IsTriangulated at) (sym same) placed.kept;
         sites = subst (λ (x : State V D U F). All (IsSite tests) (map at x.vertices)) (sym same)
-            sites;
+            placed.sites;
       };
       from_covered = from;
       to_covered = to;

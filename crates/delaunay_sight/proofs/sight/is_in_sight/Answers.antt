@@ -9,23 +9,19 @@ use Rattle.delaunay_lines.proofs.delaunay_legalization_lemmas.Questions.{both_wa
 use Rattle.delaunay_sight.specs.Beside.{by_place}
 use Rattle.delaunay_sight.proofs.Crossed.{false_tells}
 use Rattle.delaunay_sight.proofs.Decided.{of_state, sees_end, sees_if, sees_start}
+use Rattle.delaunay_sight.proofs.sight.is_in_sight.Goals.{After-mesh-dcel}
 use Rattle.delaunay_sight.proofs.sight.is_in_sight.Goals as goal
 
-pub is_in_free-requires-2-clause-sites : goal.is_in_free-requires-2-clause-sites
-is_in_free-requires-2-clause-sites g c =
+pub invariant_of-placed : goal.invariant_of-placed
+invariant_of-placed g c =
     let at = g.V.HasPosition.place in
-    of_state (λ z. All (g.P.PlaneTests.sites c.args.tests.now) (map at z.vertices)) _ _
-    c.mesh-dcel.ensures.state
-    (c.requires.sites (subst (λ z. All InRange (map at z.vertices)) c.mesh-dcel.ensures.state
-    c.mesh-dcel.ensures.in_range))
-
-pub goes_free-requires-clause-sites : goal.goes_free-requires-clause-sites
-goes_free-requires-clause-sites g c =
-    let at = g.V.HasPosition.place in
-    of_state (λ z. All (g.P.PlaneTests.sites c.args.tests.now) (map at z.vertices)) _ _
-    c.mesh-dcel.ensures.state
-    (c.requires.sites (subst (λ z. All InRange (map at z.vertices)) c.mesh-dcel.ensures.state
-    c.mesh-dcel.ensures.in_range))
+    let mesh = c.mesh-dcel.ensures in
+    record {
+      kept = mesh.kept;
+      sites = of_state (λ z. All InRange (map at z.vertices)
+          → All (g.P.PlaneTests.sites c.args.tests.now) (map at z.vertices)) _ _ mesh.state
+          c.requires.sites mesh.in_range;
+    }
 
 pub returns-then-not-is_in_free : goal.returns-then-not-is_in_free
 returns-then-not-is_in_free g c =
@@ -51,6 +47,7 @@ returns g c =
     let free = g.G.FreeFaces.free c.args.free.now in
     subst (λ z. IsTrue c.goes_free.result ↔ IsInSight (triangulation_of g.V.HasPosition.place z)
     (by_place free) (whole (at c.args.from)) (whole (at c.args.to))) c.mesh-dcel.ensures.state
-    (sees_if c.mesh-dcel.result.now c.mesh-dcel.ensures.kept free (at c.args.from) (at c.args.to)
+    (sees_if (invariant_of-placed g (goal.at.returns g c).After-mesh-dcel) free (at c.args.from)
+    (at c.args.to)
     (c.is_in_free.ensures.0 c.if-not-is_in_free.false)
     (c.is_in_free-2.ensures.0 c.if-not-is_in_free-2.false) _ c.goes_free.ensures)
