@@ -13,15 +13,14 @@ use Rattle.delaunay_shapes.proofs.Spreading.{found_within}
 
 -- what holds of the fields of a search holds of its value
 pub search_of : {V D U F M P : Type 0} {at : V → Point} {own : M → List Point}
-    {Shape : M → Fraction → Type 0} {IsSite IsCovered : P → Point → Type 0}
+    {Shape : M → Fraction → Type 0} {IsCovered : P → Point → Type 0}
     {fields value : Enclosing V D U F M P} → fields ≡ value
-    → IsShapeSearch at own Shape IsSite IsCovered fields.dcel fields.metric fields.tests
-    fields.start
-    → IsShapeSearch at own Shape IsSite IsCovered value.dcel value.metric value.tests value.start
+    → IsShapeSearch at own Shape IsCovered fields.dcel fields.metric fields.tests fields.start
+    → IsShapeSearch at own Shape IsCovered value.dcel value.metric value.tests value.start
 search_of {V = V} {D = D} {U = U} {F = F} {M = M} {P = P} {at = at} {own = own} {Shape = Shape}
-    {IsSite = IsSite} {IsCovered = IsCovered} same search =
-    subst (λ (s : Enclosing V D U F M P). IsShapeSearch at own Shape IsSite IsCovered s.dcel
-    s.metric s.tests s.start) same search
+    {IsCovered = IsCovered} same search =
+    subst (λ (s : Enclosing V D U F M P). IsShapeSearch at own Shape IsCovered s.dcel s.metric
+    s.tests s.start) same search
 
 -- a place below the count is one of those found
 pub place_in : (f : EdgeFlood) {i n : ℕ} → i < n → n ≡ vec_len f.found → i < length f.found.items

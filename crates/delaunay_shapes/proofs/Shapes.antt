@@ -1,7 +1,7 @@
--- What a search from the start of a shape needs: the shapes' starts, and covered points.
--- Lemmas: circle_begins, rectangle_begins, all_are.
-use Rattle.std.proofs.Common.{List, refl, get_or}
-use Rattle.std.specs.Prelude.{All, ℤ}
+-- The starts of the shapes.
+-- Lemmas: circle_begins, rectangle_begins.
+use Rattle.std.proofs.Common.{refl}
+use Rattle.std.specs.Prelude.{ℤ}
 use Rattle.delaunay_location.specs.plane.Fraction.{Point}
 use Rattle.delaunay_location.specs.plane.Shape.{InClosedCircle, InClosedRectangle}
 use Rattle.delaunay_location.specs.plane_delaunay.Flood.{circle, rectangle}
@@ -17,8 +17,3 @@ circle_begins centre radius_2 =
 pub rectangle_begins : (lower upper : Point) → HasStartAt (InClosedRectangle lower upper) lower
 rectangle_begins lower upper =
     record { region = rectangle lower upper; same = λ q. ((λ x. x), (λ x. x)); start = refl }
-
--- points of one kind are of another
-pub all_are : (P Q : Point → Type 0) → ((p : Point) → P p → Q p) → (points : List Point)
-    → All P points → All Q points
-all_are P Q into points all = λ i d h. into (get_or points i d) (all i d h)

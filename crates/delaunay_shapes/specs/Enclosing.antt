@@ -1,8 +1,7 @@
 -- A search for what has a point in a shape: what a contract sees of it.
-use Rattle.std.specs.Prelude.{List, map, All}
+use Rattle.std.specs.Prelude.{List, All}
 use Rattle.delaunay_location.specs.half_edge_mesh.Contents.{Contents}
 use Rattle.delaunay_location.specs.plane.Fraction.{Point, Fraction}
-use Rattle.delaunay_location.specs.plane.Tests.{InRange}
 use Rattle.delaunay_location.specs.delaunay_legalization.Shape.{IsTriangulated}
 use Rattle.delaunay_location.specs.delaunay_legalization.State.{state_of}
 use Rattle.delaunay_shapes.specs.Start.{HasStartAt}
@@ -14,15 +13,12 @@ pub record Enclosing (V D U F M P : Type 0) : Type 0 where
   pub tests : P
   pub start : Point
 
--- the mesh is a triangulation whose vertices are sites of the tests, so that these cover them, and
--- in range; they cover the shape's own points and the start, where the shape begins, too
+-- the mesh is a triangulation; the tests cover the shape's own points and the start, where the
+-- shape begins
 pub record IsShapeSearch {V D U F M P : Type 0} (at : V → Point) (own : M → List Point)
-    (Shape : M → Fraction → Type 0) (IsSite IsCovered : P → Point → Type 0) (c : Contents V D U F)
-    (m : M) (t : P) (start : Point) : Type 0 where
+    (Shape : M → Fraction → Type 0) (IsCovered : P → Point → Type 0) (c : Contents V D U F) (m : M)
+    (t : P) (start : Point) : Type 0 where
   pub kept : IsTriangulated at (state_of c)
-  pub sites : All (IsSite t) (map at c.vertices)
-  pub covered : All (IsCovered t) (map at c.vertices)
-  pub in_range : All InRange (map at c.vertices)
   pub own_covered : All (IsCovered t) (own m)
   pub start_covered : IsCovered t start
   pub begins : HasStartAt (Shape m) start

@@ -12,7 +12,6 @@ use crate::marks::Marks;
 use crate::shape_search::ShapeSearch;
 use delaunay_location::delaunay_core::math::PlaneTests;
 use delaunay_location::delaunay_core::point::HasPosition;
-use delaunay_location::delaunay_legalization::Placed;
 use delaunay_location::half_edge_mesh::{FixedDirectedEdgeHandle, FixedVertexHandle, MeshViews};
 use delaunay_location::locate_with_hint;
 use std::alloc::{AllocError, Global};
@@ -93,7 +92,7 @@ impl<
         requires flooding { IsFloodFor V.place M.shape self.now flood.old }
         ensures { OnOk result (AsksBesideFor V.place M.shape self.now flood.old flood.new edge) }
     {
-        let edge = self.dcel.directed_edge(edge);
+        let edge = self.placed.dcel.directed_edge(edge);
         let after = edge.next().fix();
         let before = edge.prev().fix();
         self.ask(after, flood)?;
@@ -110,7 +109,7 @@ impl<
             flood.new.found.items 0 (length flood.old.found.items)) }
     {
         for index in 0..flood.found.len() {
-            let edge = self.dcel.directed_edge(flood.found[index]);
+            let edge = self.placed.dcel.directed_edge(flood.found[index]);
             self.ask_beside(edge.rev().fix(), flood)?;
             self.ask_beside(edge.fix(), flood)?;
         }
@@ -129,7 +128,10 @@ impl<
         let mut index = flood.found.len();
         self.spread_starts(flood)?;
         'edges: while index < flood.found.len() {
-            self.ask_beside(self.dcel.directed_edge(flood.found[index]).fix(), flood)?;
+            self.ask_beside(
+                self.placed.dcel.directed_edge(flood.found[index]).fix(),
+                flood,
+            )?;
             index += 1;
         }
         Ok(())
@@ -149,11 +151,7 @@ impl<
         ensures begun { OnOk result (HasBegunWith (EnclosesEdge V.place M.shape self.now)
             (length self.now.dcel.undirected) flood.new.asked) }
     {
-        let placed = Placed {
-            dcel: self.dcel,
-            tests: self.tests,
-        };
-        let location = locate_with_hint(&placed, self.start, hint);
+        let location = locate_with_hint(&self.placed, self.start, hint);
         let starts = self.edges_at(location, alloc)?;
         for edge in starts.as_slice() {
             self.ask(edge.as_directed(), flood)?;
@@ -172,7 +170,7 @@ impl<
             (map V.place self.now.dcel.vertices) self.now.dcel.mesh (undirected_of v.items)) }
         ensures within { IfOk result (λ v. All (λ e. e < length self.now.dcel.directed) v.items) }
     {
-        let mut flood = EdgeFlood::new(self.dcel.num_undirected_edges(), alloc);
+        let mut flood = EdgeFlood::new(self.placed.dcel.num_undirected_edges(), alloc);
         self.ask_starts(hint, &mut flood, alloc)?;
         self.spread(&mut flood)?;
         let EdgeFlood { found, .. } = flood;

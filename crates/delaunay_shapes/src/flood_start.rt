@@ -86,7 +86,7 @@ impl<
         ensures none { IfNone result ((h : ℕ) → h < length self.now.dcel.mesh.half_edges →
             face self.now.dcel.mesh h ≡ 0 → ¬ EnclosesEdge V.place M.shape self.now (h / 2)) }
     {
-        for edge in self.dcel.convex_hull() {
+        for edge in self.placed.dcel.convex_hull() {
             let edge = edge.fix();
             if self.has_edge(edge.as_undirected()) {
                 return Some(edge);
@@ -106,7 +106,7 @@ impl<
             self.now.dcel.mesh v.items location) }
         ensures within { IfOk result (λ v. All (λ e. e < length self.now.dcel.undirected) v.items) }
     {
-        let dcel = self.dcel;
+        let dcel = self.placed.dcel;
         match location {
             PositionInTriangulation::OnVertex(vertex) => edge_at_vertex(dcel, vertex, alloc),
             PositionInTriangulation::OnEdge(edge) => edge_alone(dcel, edge, alloc),

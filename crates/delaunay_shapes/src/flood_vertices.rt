@@ -51,8 +51,8 @@ impl<
         ensures { OnOk result (KeepsStart (EnclosesVertex V.place M.shape self.now)
             self.now.dcel.mesh found.old.items found.new.items edge) }
     {
-        if is_named(self.dcel, edge) {
-            let vertex = self.dcel.directed_edge(edge).from();
+        if is_named(self.placed.dcel, edge) {
+            let vertex = self.placed.dcel.directed_edge(edge).from();
             if self.metric.is_point_inside(spot_of(vertex)) {
                 found.push(vertex.fix())?;
             }
@@ -72,6 +72,7 @@ impl<
             self.now.dcel.mesh found.old.items found.new.items edge) }
     {
         let edge = self
+            .placed
             .dcel
             .undirected_edge(edge.as_undirected())
             .as_directed();
@@ -91,7 +92,7 @@ impl<
     {
         let mut found = Vec::new(alloc);
         for index in 0..flood.found.len() {
-            let edge = self.dcel.directed_edge(flood.found[index]);
+            let edge = self.placed.dcel.directed_edge(flood.found[index]);
             self.keep_ends(edge.fix(), &mut found)?;
         }
         Ok(found)
@@ -117,7 +118,7 @@ impl<
         let mut vertices = self.named_inside(flood, alloc)?;
         self.spread_starts(flood)?;
         'edges: while index < flood.found.len() {
-            let edge = self.dcel.directed_edge(flood.found[index]).fix();
+            let edge = self.placed.dcel.directed_edge(flood.found[index]).fix();
             self.ask_beside(edge, flood)?;
             self.keep_ends(edge, &mut vertices)?;
             index += 1;
@@ -136,7 +137,7 @@ impl<
         ensures { IfOk result (λ v. AreVerticesInShape (M.shape self.now.metric)
             (map V.place self.now.dcel.vertices) v.items) }
     {
-        let mut flood = EdgeFlood::new(self.dcel.num_undirected_edges(), alloc);
+        let mut flood = EdgeFlood::new(self.placed.dcel.num_undirected_edges(), alloc);
         self.ask_starts(hint, &mut flood, alloc)?;
         let vertices = self.spread_to_vertices(&mut flood, alloc)?;
         Ok(vertices)

@@ -49,7 +49,11 @@ pub fn edges_in_shape<
     ensures { IfOk result (λ it. GivesEdgesIn (M.shape metric.now) V.place dcel.entry
         (edges_left it)) }
 {
-    let search = ShapeSearch::new(&Placed { dcel, tests }, metric, start);
+    let search = ShapeSearch {
+        placed: Placed { dcel, tests },
+        metric,
+        start,
+    };
     let edges = search.edges_from(hint, alloc)?;
     Ok(EdgesInShapeIterator {
         dcel,
@@ -90,10 +94,14 @@ pub fn vertices_in_shape<
     ensures { IfOk result (λ it. GivesVerticesIn (M.shape metric.now) V.place dcel.entry
         (vertices_left it)) }
 {
-    let search = ShapeSearch::new(&Placed { dcel, tests }, metric, start);
     if dcel.num_vertices() < 2 {
         return vertices_by_filter(dcel, metric, tests, alloc);
     }
+    let search = ShapeSearch {
+        placed: Placed { dcel, tests },
+        metric,
+        start,
+    };
     let vertices = search.vertices_from(hint, alloc)?;
     Ok(VerticesInShapeIterator {
         dcel,

@@ -7,8 +7,8 @@ pub returns : goal.returns
 returns g c =
     let edge = c.directed_edge-edge.ensures in
     on_ok c.ask-2.result (asked_both
-    (rw (← c.self.view_is) (after_is g.V.HasPosition.place edge.dcel edge.index
-    c.next.ensures.index c.fix-after.ensures.value))
-    (rw (← c.self.view_is) (before_is g.V.HasPosition.place edge.dcel edge.index
-    c.prev.ensures.index c.fix-before.ensures.value))
+    (rw (← c.self.view_is, ← c.self-inside.view_is) (after_is g.V.HasPosition.place edge.dcel
+    edge.index c.next.ensures.index c.fix-after.ensures.value))
+    (rw (← c.self.view_is, ← c.self-inside.view_is) (before_is g.V.HasPosition.place edge.dcel
+    edge.index c.prev.ensures.index c.fix-before.ensures.value))
     c.in_ok-ask.ensures) c.ask-2.ensures

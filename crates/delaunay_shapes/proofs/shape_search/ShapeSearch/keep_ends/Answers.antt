@@ -6,8 +6,8 @@ use Rattle.delaunay_shapes.proofs.shape_search.ShapeSearch.keep_ends.Goals as go
 
 pub undirected_edge-requires : goal.undirected_edge-requires
 undirected_edge-requires g c =
-    let fits = c.self.invariant.kept.fits in
-    let within = rw (← c.self.view_is) at c.requires in
+    let fits = c.self-inside.invariant.kept.fits in
+    let within = rw (← c.self.view_is, ← c.self-inside.view_is) at c.requires in
     omega (arith, within, fits.directed_fit, fits.undirected_fit, c.as_undirected.ensures)
 
 pub returns : goal.returns

@@ -12,7 +12,8 @@ loop-index-init g c =
 pub directed_edge-edge-requires : goal.directed_edge-edge-requires
 directed_edge-edge-requires g c =
     let flood = c.args.flood.now in
-    found_in flood c.self.invariant.kept (rw (← c.self.view_is) at c.requires)
+    found_in flood c.self-inside.invariant.kept
+    (rw (← c.self.view_is, ← c.self-inside.view_is) at c.requires)
     (place_in flood c.loop-index-test.true c.len-index-end.ensures) c.index.ensures
 
 pub loop-index-preserved : goal.loop-index-preserved

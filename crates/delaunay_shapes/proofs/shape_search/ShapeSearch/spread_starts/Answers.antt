@@ -16,9 +16,9 @@ pub directed_edge-edge-requires : goal.directed_edge-edge-requires
 directed_edge-edge-requires g c =
     let long = longer _ _ _ _ c.loop-index.invariant.on in
     let first = place_in c.args.flood.now c.loop-index-test.true c.len-index-end.ensures in
-    found_in c.loop-index.flood c.self.invariant.kept
-    (rw (← c.self.view_is) at c.loop-index.invariant.flooding) (omega (arith, long, first))
-    c.index.ensures
+    found_in c.loop-index.flood c.self-inside.invariant.kept
+    (rw (← c.self.view_is, ← c.self-inside.view_is) at c.loop-index.invariant.flooding)
+    (omega (arith, long, first)) c.index.ensures
 
 pub loop-index-preserved : goal.loop-index-preserved
 loop-index-preserved g c =

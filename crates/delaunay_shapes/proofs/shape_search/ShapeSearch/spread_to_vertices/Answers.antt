@@ -26,8 +26,8 @@ edges-init g c =
 
 pub directed_edge-requires : goal.directed_edge-requires
 directed_edge-requires g c =
-    found_in c.edges.flood c.self.invariant.kept
-    (rw (← c.self.view_is) at c.edges.invariant.flooding)
+    found_in c.edges.flood c.self-inside.invariant.kept
+    (rw (← c.self.view_is, ← c.self-inside.view_is) at c.edges.invariant.flooding)
     (place_in c.edges.flood c.edges-test.true c.len.ensures) c.index.ensures
 
 pub edges-smaller : goal.edges-smaller

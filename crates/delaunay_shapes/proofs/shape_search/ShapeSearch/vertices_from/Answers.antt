@@ -8,7 +8,8 @@ use Rattle.delaunay_shapes.proofs.VertexFlood.{named_are_all}
 use Rattle.delaunay_shapes.proofs.shape_search.ShapeSearch.vertices_from.Goals as goal
 
 pub ask_starts-requires : goal.ask_starts-requires
-ask_starts-requires g c = rw (← c.self.view_is) (none_asked _ _ _ _ _ c.new-flood.ensures.asked
+ask_starts-requires g c =
+    rw (← c.self.view_is, ← c.self-inside.view_is) (none_asked _ _ _ _ _ c.new-flood.ensures.asked
     c.num_undirected_edges.ensures.value (ap undirected_of c.new-flood.ensures.found))
 
 pub returns : goal.returns
