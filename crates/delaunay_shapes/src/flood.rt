@@ -128,10 +128,8 @@ impl<
         let mut index = flood.found.len();
         self.spread_starts(flood)?;
         'edges: while index < flood.found.len() {
-            self.ask_beside(
-                self.placed.dcel.directed_edge(flood.found[index]).fix(),
-                flood,
-            )?;
+            let edge = self.placed.dcel.directed_edge(flood.found[index]).fix();
+            self.ask_beside(edge, flood)?;
             index += 1;
         }
         Ok(())

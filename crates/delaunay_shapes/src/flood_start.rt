@@ -86,7 +86,8 @@ impl<
         ensures none { IfNone result ((h : ℕ) → h < length self.now.dcel.mesh.half_edges →
             face self.now.dcel.mesh h ≡ 0 → ¬ EnclosesEdge V.place M.shape self.now (h / 2)) }
     {
-        for edge in self.placed.dcel.convex_hull() {
+        let placed = &self.placed;
+        for edge in placed.dcel.convex_hull() {
             let edge = edge.fix();
             if self.has_edge(edge.as_undirected()) {
                 return Some(edge);

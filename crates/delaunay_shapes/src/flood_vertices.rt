@@ -51,8 +51,9 @@ impl<
         ensures { OnOk result (KeepsStart (EnclosesVertex V.place M.shape self.now)
             self.now.dcel.mesh found.old.items found.new.items edge) }
     {
-        if is_named(self.placed.dcel, edge) {
-            let vertex = self.placed.dcel.directed_edge(edge).from();
+        let placed = &self.placed;
+        if is_named(placed.dcel, edge) {
+            let vertex = placed.dcel.directed_edge(edge).from();
             if self.metric.is_point_inside(spot_of(vertex)) {
                 found.push(vertex.fix())?;
             }
@@ -71,11 +72,8 @@ impl<
         ensures { OnOk result (KeepsEnds (EnclosesVertex V.place M.shape self.now)
             self.now.dcel.mesh found.old.items found.new.items edge) }
     {
-        let edge = self
-            .placed
-            .dcel
-            .undirected_edge(edge.as_undirected())
-            .as_directed();
+        let dcel = self.placed.dcel;
+        let edge = dcel.undirected_edge(edge.as_undirected()).as_directed();
         self.keep_start(edge.fix(), found)?;
         self.keep_start(edge.rev().fix(), found)
     }

@@ -60,7 +60,8 @@ impl<
         requires { edge < length self.now.dcel.undirected }
         ensures { IsTrue result ↔ EnclosesEdge V.place M.shape self.now edge }
     {
+        let placed = &self.placed;
         self.metric
-            .is_handle_inside(self.placed.dcel.undirected_edge(edge), self.placed.tests)
+            .is_handle_inside(placed.dcel.undirected_edge(edge), placed.tests)
     }
 }

@@ -4,16 +4,16 @@ use Rattle.delaunay_shapes.proofs.shape_search.ShapeSearch.has_edge.Goals as goa
 
 pub is_handle_inside-requires : goal.is_handle_inside-requires
 is_handle_inside-requires g c =
-    let placed = c.self-inside.invariant in
-    let fields = c.self-inside.inside.0.0 in
-    let whole : IsMeshWithData fields.dcel.now =
+    let placed = c.placed.invariant in
+    let whole : IsMeshWithData c.placed.inside.dcel.now =
     record { valid = placed.kept.valid; fits = placed.kept.fits } in
-    let within = rw (← c.self.view_is, ← c.self-inside.view_is) at c.requires in
+    let within = rw (← c.self.view_is, ← c.placed.view_is) at c.requires in
     let edge = c.undirected_edge.ensures in
-    let site = g.P.PlaneTests.sites fields.tests.now in
-    let covered = g.met.P.PlaneTests.sites_are_covered fields.tests.now in
+    let tests = c.placed.inside.tests.now in
+    let site = g.P.PlaneTests.sites tests in
+    let covered = g.met.P.PlaneTests.sites_are_covered tests in
     record {
-      own_covered = (rw (← c.self-inside.view_is) at c.self.invariant).own_covered;
+      own_covered = rw (← c.placed.view_is) at c.self.invariant.own_covered;
       start_covered = covered _ (start_covered g.V.HasPosition.place site placed.sites whole within
           edge.dcel edge.index);
       end_covered = covered _ (end_covered g.V.HasPosition.place site placed.sites whole within
@@ -21,6 +21,6 @@ is_handle_inside-requires g c =
     }
 
 pub returns : goal.returns
-returns g c = rw (← c.self.view_is, ← c.self-inside.view_is) (edge_told g.V.HasPosition.place
-    (g.M.DistanceMetric.shape c.self-inside.inside.0.1.0.now) c.undirected_edge.ensures.dcel
+returns g c = rw (← c.self.view_is, ← c.placed.view_is) (edge_told g.V.HasPosition.place
+    (g.M.DistanceMetric.shape c.self.inside.metric.now) c.undirected_edge.ensures.dcel
     c.undirected_edge.ensures.index c.is_handle_inside.ensures.inside)

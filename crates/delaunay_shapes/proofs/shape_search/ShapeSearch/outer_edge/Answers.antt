@@ -9,8 +9,8 @@ use Rattle.delaunay_shapes.proofs.shape_search.ShapeSearch.outer_edge.Goals as g
 
 pub loop-edge-init : goal.loop-edge-init
 loop-edge-init g c =
-    let kept = c.self-inside.invariant.kept in
-    rw (← c.self.view_is, ← c.self-inside.view_is) (along_begins c.self-inside.inside.0.0.dcel
+    let kept = c.placed.invariant.kept in
+    rw (← c.self.view_is, ← c.placed.view_is) (along_begins c.placed.inside.dcel
     (hull_left c.into_iter-edge-iterator.result) _ kept.valid
     (one_outline _ _ kept.valid kept.shape)
     (rw c.into_iter-edge-iterator.ensures.into_iter_gives c.convex_hull-edge-items.ensures))

@@ -19,7 +19,7 @@ edges-smaller g c =
 pub edges-preserved : goal.edges-preserved
 edges-preserved g c =
     let kept = (search_of c.self.view_is c.self.invariant).kept in
-    let way = c.fix.ensures.value ∙ c.directed_edge.ensures.index ∙ c.index.ensures in
+    let way = c.fix-edge.ensures.value ∙ c.directed_edge.ensures.index ∙ c.index.ensures in
     let asks = rw way at c.in_ok-ask_beside.ensures in
     record {
       flooding = asks.flooding;
