@@ -49,7 +49,7 @@ use Rattle.delaunay_paths.proofs.MetEdges.{crossed_twin, crosses_if_met, met_if_
 use Rattle.delaunay_paths.proofs.MovedEdges.{ListsAllCrossing, crossing_begins, room_on, room_stays}
 use Rattle.delaunay_paths.proofs.NextVertex.{SeeksNext, list_on, seeking_finds, seeking_goes_on}
 use Rattle.delaunay_paths.proofs.NextVertex.{two_ends}
-use Rattle.delaunay_paths.proofs.Passing.{earlier_ones, later_ones}
+use Rattle.delaunay_paths.proofs.Passing.{earlier_ones, later_ones, passed_kept}
 use Rattle.delaunay_paths.proofs.Places.{no_same_place}
 use Rattle.delaunay_paths.proofs.Walking.{placed_apart}
 
@@ -338,18 +338,19 @@ pub record IsListingPiece {V D U F P S : Type 0} (at : V → Point) (number : S 
 -- at the beginning there is none
 pub piece_walk_begins : {V D U F P S : Type 0} {at : V → Point} {number : S → ℤ}
     {IsSite IsCovered : P → Point → Type 0} {c : Contents V D U F} {i j : ℕ} {was l : CrossingLists}
-    {it : LineIntersectionIterator V D U F P S} → IsMeshWithData c
-    → SeeksNext at number IsSite IsCovered c i j [] it → KeepRoom was l → l.waiting.items ≡ []
-    → l.unseen.items ≡ [] → IsListingPiece at number IsSite IsCovered c i j was l it
-piece_walk_begins {at = at} {c = c} {i = i} {j = j} whole seeks room none_waits none = record {
-  whole = whole;
-  passed = [];
-  seeks = seeks;
-  listed = subst (AreListed (map at c.vertices) c.mesh i j (length c.directed) []) (sym none_waits)
-      (none_listed (map at c.vertices) c.mesh i j (length c.directed));
-  none = none;
-  room = room;
-}
+    {it : LineIntersectionIterator V D U F P S} → SeeksNext at number IsSite IsCovered c i j [] it
+    → KeepRoom was l → l.waiting.items ≡ [] → l.unseen.items ≡ []
+    → IsListingPiece at number IsSite IsCovered c i j was l it
+piece_walk_begins {at = at} {c = c} {i = i} {j = j} seeks room none_waits none =
+    let kept = passed_kept seeks.so_far in record {
+      whole = record { valid = kept.valid; fits = kept.fits };
+      passed = [];
+      seeks = seeks;
+      listed = subst (AreListed (map at c.vertices) c.mesh i j (length c.directed) [])
+          (sym none_waits) (none_listed (map at c.vertices) c.mesh i j (length c.directed));
+      none = none;
+      room = room;
+    }
 
 module _ {V D U F P S : Type 0} {at : V → Point} {number : S → ℤ}
     {IsSite IsCovered : P → Point → Type 0} {c : Contents V D U F} {i j : ℕ} {was l : CrossingLists}

@@ -1,7 +1,8 @@
 -- The edges along a path, listed one after another by a walk.
 -- Notions: IsListing, IsListingWalk; listing_begins, listing_apart, listing_has_room,
--- listing_goes_on, listing_ends, listing_walk_begins, listing_walk_ends, listing_walk_crosses,
--- listing_walk_along, listing_walk_stays, listing_walk_next, listing_walk_goes_on.
+-- listing_goes_on, listing_ends, listing_walk_begins, listing_walk_whole, listing_walk_ends,
+-- listing_walk_crosses, listing_walk_along, listing_walk_stays, listing_walk_next,
+-- listing_walk_goes_on.
 use Rattle.std.proofs.Common.{◌≡◌, ◌≢◌, ◌⊎◌, ◌+◌, ◌<◌, ◌≤◌, [], ◌∷◌, ◌++◌, ◌∙◌}
 use Rattle.std.proofs.Common.{ℕ, List, length, map, Some, None, sym, subst, inl, inr}
 use Rattle.std.proofs.Common.{arith, append_assoc, append-nil, length-append}
@@ -9,7 +10,7 @@ use Rattle.std.specs.Prelude.{ℤ, pos, negsuc, ◌*ℤ◌, ◌≤ℤ◌, ◌<�
 use Rattle.std.proofs.lemmas.List.Elements.{Contains-append_left}
 use Rattle.std.proofs.lemmas.Bool.{cases_eq}
 use Rattle.std.proofs.lemmas.Int.{ints}
-use Rattle.delaunay_lines.specs.half_edge_mesh.Contents.{Contents}
+use Rattle.delaunay_lines.specs.half_edge_mesh.Contents.{Contents, IsMeshWithData}
 use Rattle.delaunay_lines.specs.half_edge_mesh.Mesh.{Mesh, origin, rev}
 use Rattle.delaunay_lines.specs.plane.Circle.{gap, IsNearer}
 use Rattle.delaunay_lines.specs.plane.Fraction.{Point, whole, OnSegment}
@@ -37,7 +38,7 @@ use Rattle.delaunay_paths.specs.PathEdges.{LeadAlong}
 use Rattle.delaunay_paths.proofs.PassedVertices.{HasReached, next_after, reached_begins}
 use Rattle.delaunay_paths.proofs.PassedVertices.{reached_ends, reached_next, reached_stays}
 use Rattle.delaunay_paths.proofs.Passing.{HasPassed, all_passed, list_with, none_passed}
-use Rattle.delaunay_paths.proofs.Passing.{one_more_passed}
+use Rattle.delaunay_paths.proofs.Passing.{one_more_passed, passed_kept}
 use Rattle.delaunay_paths.proofs.Places.{gap_is_way_back, no_same_place}
 use Rattle.delaunay_paths.proofs.Walking.{in_map, placed_apart}
 
@@ -181,21 +182,22 @@ pub record IsListingWalk {V D U F P S : Type 0} (at : V → Point) (number : S �
 pub listing_walk_begins : {V D U F P S : Type 0} {at : V → Point} {number : S → ℤ}
     {IsSite IsCovered : P → Point → Type 0} {c : Contents V D U F} {i j : ℕ} {listed : List ℕ}
     {room_was room : ℕ} {it : LineIntersectionIterator V D U F P S}
-    → IsMesh (map at c.vertices) (faces_of c.mesh) (outer_of c.mesh) → i < length c.vertices
-    → j < length c.vertices → i ≢ j → IsReady at number IsSite IsCovered it
+    → i < length c.vertices → j < length c.vertices → i ≢ j
+    → IsReady at number IsSite IsCovered it
     → WalksLine at number (state_of c) (point_at (map at c.vertices) i)
     (point_at (map at c.vertices) j) it → listed ≡ [] → room ≡ room_was
     → IsListingWalk at number IsSite IsCovered c i j i listed room_was room it
 listing_walk_begins {at = at} {number = number} {IsSite = IsSite} {IsCovered = IsCovered} {c = c}
-    {i = i} {j = j} {it = it} shape from_in to_in apart ready walks none stays =
-    let from = in_map at c.vertices i from_in in record {
+    {i = i} {j = j} {it = it} from_in to_in apart ready walks none stays =
+    let from = in_map at c.vertices i from_in in
+    let so_far = none_passed at number IsSite IsCovered (state_of c) (point_at (map at c.vertices) i)
+    (point_at (map at c.vertices) j) it ready walks in record {
       from = from;
       apart = apart;
       passed = [];
-      so_far = none_passed at number IsSite IsCovered (state_of c)
-          (point_at (map at c.vertices) i) (point_at (map at c.vertices) j) it ready walks;
+      so_far = so_far;
       reached = reached_begins (map at c.vertices) i j from;
-      listing = listing_begins at c.vertices shape from_in to_in none stays;
+      listing = listing_begins at c.vertices (passed_kept so_far).shape from_in to_in none stays;
     }
 
 module _ {V D U F P S : Type 0} {at : V → Point} {number : S → ℤ}
@@ -204,6 +206,11 @@ module _ {V D U F P S : Type 0} {at : V → Point} {number : S → ℤ}
     (walk : IsListingWalk at number IsSite IsCovered c i j v listed room_was room now) where
   abbrev points : List Point
   points = map at c.vertices
+
+  -- the mesh holds its data
+  pub listing_walk_whole : IsMeshWithData c
+  listing_walk_whole =
+      let kept = passed_kept walk.so_far in record { valid = kept.valid; fits = kept.fits }
 
   -- at its end all are listed
   pub listing_walk_ends : {after : LineIntersectionIterator V D U F P S}
@@ -281,11 +288,11 @@ module _ {V D U F P S : Type 0} {at : V → Point} {number : S → ℤ}
           w_line
 
       -- and its edge is listed
-      pub listing_walk_goes_on : IsReady at number IsSite IsCovered after → (h : ℕ)
-          → h < length c.mesh.half_edges → origin c.mesh h ≡ v → origin c.mesh (rev h) ≡ w
+      pub listing_walk_goes_on : IsReady at number IsSite IsCovered after → {h : ℕ}
+          → (h < length c.directed) × (origin c.mesh h ≡ v) × (origin c.mesh (rev h) ≡ w)
           → {more : List ℕ} → more ≡ listed ++ h ∷ [] → {room_now : ℕ} → room_now ≡ room
           → IsListingWalk at number IsSite IsCovered c i j w more room_was room_now after
-      listing_walk_goes_on ready h within source target pushed keeps = record {
+      listing_walk_goes_on ready {h = h} edge pushed keeps = record {
         from = walk.from;
         apart = walk.apart;
         passed = walk.passed ++ item_in x ∷ [];
@@ -293,6 +300,7 @@ module _ {V D U F P S : Type 0} {at : V → Point} {number : S → ℤ}
         reached = subst (λ (k : Item). HasReached points i j (walk.passed ++ k ∷ []) w) (sym is)
             (reached_next points c.mesh walk.listing.distinct i j walk.from walk.listing.to
             walk.apart walk.passed v walk.reached w other w_met.0 w_met.1 line.0 w_line);
-        listing = listing_goes_on walk.listing listing_walk_next h within source target pushed
-            keeps;
+        listing = listing_goes_on walk.listing listing_walk_next h
+            (subst (λ (n : ℕ). h < n) listing_walk_whole.fits.directed_fit edge.0) edge.1 edge.2
+            pushed keeps;
       }

@@ -34,7 +34,7 @@ use Rattle.delaunay_lines.specs.declared.iterator.LineIntersectionIterator.{Line
 use Rattle.delaunay_lines.specs.Items.{item_in}
 use Rattle.delaunay_lines.specs.Walk.{GivesNext, IsReady, WalksLine}
 use Rattle.delaunay_paths.proofs.Passing.{HasPassed, all_passed, later_ones, list_with, none_passed}
-use Rattle.delaunay_paths.proofs.Passing.{one_more_passed}
+use Rattle.delaunay_paths.proofs.Passing.{one_more_passed, passed_kept}
 use Rattle.delaunay_paths.proofs.Places.{no_same_place}
 use Rattle.delaunay_paths.proofs.Walking.{in_map, nested, not_start, not_end, placed_apart}
 
@@ -188,19 +188,19 @@ pub record SeeksNext {V D U F P S : Type 0} (at : V → Point) (number : S → �
 pub seeking_begins : {V D U F P S : Type 0} {at : V → Point} {number : S → ℤ}
     {IsSite IsCovered : P → Point → Type 0} {c : Contents V D U F} {i j : ℕ}
     {it : LineIntersectionIterator V D U F P S}
-    → IsMesh (map at c.vertices) (faces_of c.mesh) (outer_of c.mesh) → i < length c.vertices
-    → j < length c.vertices → i ≢ j → IsReady at number IsSite IsCovered it
+    → i < length c.vertices → j < length c.vertices → i ≢ j
+    → IsReady at number IsSite IsCovered it
     → WalksLine at number (state_of c) (point_at (map at c.vertices) i)
     (point_at (map at c.vertices) j) it → SeeksNext at number IsSite IsCovered c i j [] it
 seeking_begins {at = at} {number = number} {IsSite = IsSite} {IsCovered = IsCovered} {c = c} {i = i}
-    {j = j} {it = it} shape from to apart ready walks =
-    record {
-      shape = shape;
+    {j = j} {it = it} from to apart ready walks =
+    let so_far = none_passed at number IsSite IsCovered (state_of c) (point_at (map at c.vertices) i)
+    (point_at (map at c.vertices) j) it ready walks in record {
+      shape = (passed_kept so_far).shape;
       from = from;
       to = to;
       apart = apart;
-      so_far = none_passed at number IsSite IsCovered (state_of c) (point_at (map at c.vertices) i)
-          (point_at (map at c.vertices) j) it ready walks;
+      so_far = so_far;
       ready = ready;
       none = no_other_yet i;
     }

@@ -1,6 +1,6 @@
 -- What a walk along a segment has passed, and what is left of it.
 -- Notions: HasPassed; later_ones, earlier_ones, none_passed, one_more_passed, list_with,
--- all_passed.
+-- all_passed, passed_kept.
 use Rattle.std.proofs.Common.{◌≡◌, [], ◌∷◌, ◌++◌, ◌∙◌}
 use Rattle.std.proofs.Common.{append-nil, suc, List, Some, None, sym, ap, subst, append_assoc}
 use Rattle.std.proofs.Common.{arith, inl, inr}
@@ -12,6 +12,7 @@ use Rattle.delaunay_lines.specs.plane.Fraction.{Point, whole}
 use Rattle.delaunay_lines.specs.plane.Line.{Item, IsLineList}
 use Rattle.delaunay_lines.proofs.plane_tiling.Totals.{Contains-cases, Contains-none}
 use Rattle.delaunay_lines.proofs.mesh_embedding.WorkLists.{contains_last}
+use Rattle.delaunay_lines.specs.delaunay_legalization.Shape.{IsTriangulated}
 use Rattle.delaunay_lines.specs.delaunay_legalization.State.{State, state_of, triangulation_of}
 use Rattle.delaunay_lines.specs.declared.intersection.Intersection.{Intersection}
 use Rattle.delaunay_lines.specs.declared.iterator.LineIntersectionIterator.{LineIntersectionIterator}
@@ -99,3 +100,11 @@ module _ {V D U F P S : Type 0} (at : V → Point) (number : S → ℤ)
         (ap (λ (l : List Item). passed ++ l) (gives.gives so_far.others so_far.are_left).0
         ∙ append-nil passed)
         so_far.line_list
+
+-- and the mesh is that of a triangulation
+pub passed_kept : {V D U F P S : Type 0} {at : V → Point} {number : S → ℤ}
+    {IsSite IsCovered : P → Point → Type 0} {s : State V D U F} {p q : Point} {passed : List Item}
+    {now : LineIntersectionIterator V D U F P S}
+    → HasPassed at number IsSite IsCovered s p q passed now → IsTriangulated at s
+passed_kept {at = at} so_far =
+    subst (IsTriangulated at) so_far.state so_far.ready.over.placed.kept

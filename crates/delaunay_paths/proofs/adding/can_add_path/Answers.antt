@@ -1,4 +1,4 @@
-use Rattle.std.proofs.Common.{ℕ, ◌<◌, refl, subst}
+use Rattle.std.proofs.Common.{ℕ, ◌<◌, ap, refl, subst}
 use Rattle.delaunay_lines.specs.delaunay_legalization.State.{state_of}
 use Rattle.delaunay_paths.proofs.InTheWay.{first_decides}
 use Rattle.delaunay_paths.proofs.JoinedPairs.{index_found}
@@ -21,9 +21,9 @@ returns-then-is_some g c =
 
 pub returns : goal.returns
 returns g c =
-    let ends = rw (← c.placed.view_is) at c.requires in
     let conflicts = c.between_vertices-conflicts.ensures in
-    rw (← c.placed.view_is) (first_decides g.V.HasPosition.place g.M.ConstraintMarker.marks _
-    g.met.M.ConstraintMarker.constraints_are_marked c.placed.inside.dcel.now
-    c.placed.invariant.kept _ _ ends.from_in ends.to_in _ _ _ _ _ conflicts.ready conflicts.line _ _
-    c.is_none.ensures c.next.ensures.steps.0)
+    first_decides g.V.HasPosition.place g.M.ConstraintMarker.marks _
+    g.met.M.ConstraintMarker.constraints_are_marked c.args.placed.now.dcel
+    (rw (ap (λ s. s.dcel) c.placed.view_is) at c.placed.invariant.kept) _ _ c.requires.from_in
+    c.requires.to_in _ _ _ _ _ conflicts.ready conflicts.line _ _ c.is_none.ensures
+    c.next.ensures.steps.0

@@ -9,6 +9,7 @@ use Rattle.delaunay_paths.proofs.ListingPath.{listing_has_room, listing_walk_beg
 use Rattle.delaunay_paths.proofs.ListingPath.{listing_walk_ends, listing_walk_goes_on}
 use Rattle.delaunay_paths.proofs.ListingPath.{listing_walk_along, listing_walk_crosses}
 use Rattle.delaunay_paths.proofs.ListingPath.{listing_walk_next, listing_walk_stays}
+use Rattle.delaunay_paths.proofs.ListingPath.{listing_walk_whole}
 use Rattle.delaunay_paths.proofs.NextVertex.{vertex_item}
 use Rattle.delaunay_paths.proofs.path_edges.edges_along.Given.{Over}
 use Rattle.delaunay_paths.proofs.path_edges.edges_along.Goals.{Then-ne}
@@ -19,32 +20,29 @@ returns-then-eq g c = rw c.clear.ensures.items (eqb-true _ _ (sym c.eq.ensures �
 
 pub loop-item-init : goal.loop-item-init
 loop-item-init g c =
-    let kept = rw (ap (λ s. s.dcel) c.placed.view_is) at c.placed.invariant.kept in
-    let line = rw (ap (λ s. s.dcel) c.placed.view_is) at c.line_between_vertices-line.ensures in
-    listing_walk_begins kept.shape c.requires.from_in c.requires.to_in
+    let line = c.line_between_vertices-line.ensures in
+    listing_walk_begins c.requires.from_in c.requires.to_in
     (λ same. both_ways _ (c.eq.ensures ∙ eq-eqb _ _ same) c.if-eq.false) line.ready line.line
     c.clear.ensures.items c.clear.ensures.capacity
 
 -- the next vertex is joined to the one before
 joined : (g : Over) (c : Then-ne g)
-    → Joins (edges_of c.placed.inside.dcel.now.mesh) c.loop-item.at c.fix-next.result
-joined g c = rw (ap (λ s. s.dcel) c.placed.view_is) (c.requires.joined _ _
-    (c.loop-item.invariant.listing.rest _ _ (listing_walk_next c.loop-item.invariant
-    c.in-Some.ensures.steps (vertex_item c.in-VertexIntersection.is c.fix-next.ensures.value)
-    (search (rules, c.ne.ensures, c.if-ne.true)))))
+    → Joins (edges_of c.args.placed.now.dcel.mesh) c.loop-item.at c.fix-next.result
+joined g c = c.requires.joined _ _ (c.loop-item.invariant.listing.rest _ _
+    (listing_walk_next c.loop-item.invariant c.in-Some.ensures.steps
+    (vertex_item c.in-VertexIntersection.is c.fix-next.ensures.value)
+    (search (rules, c.ne.ensures, c.if-ne.true))))
 
 pub get_edge_from_neighbors-requires : goal.get_edge_from_neighbors-requires
 get_edge_from_neighbors-requires g c =
-    let kept = c.placed.invariant.kept in
-    first_joined {c = c.placed.inside.dcel.now} (record { valid = kept.valid; fits = kept.fits })
-    (joined g (goal.at.get_edge_from_neighbors-requires g c).Then-ne)
+    rw (ap (λ s. s.dcel) c.placed.view_is) (first_joined (listing_walk_whole c.loop-item.invariant)
+    (joined g (goal.at.get_edge_from_neighbors-requires g c).Then-ne))
 
 pub unreachable-requires : goal.unreachable-requires
 unreachable-requires g c =
-    let kept = c.placed.invariant.kept in
-    some_joins {c = c.placed.inside.dcel.now} (record { valid = kept.valid; fits = kept.fits })
+    some_joins (listing_walk_whole c.loop-item.invariant)
     (joined g (goal.at.unreachable-requires g c).Then-ne)
-    c.in_default-get_edge_from_neighbors.ensures.none
+    (rw (ap (λ s. s.dcel) c.placed.view_is) at c.in_default-get_edge_from_neighbors.ensures.none)
 
 pub push_reserved-requires : goal.push_reserved-requires
 push_reserved-requires g c =
@@ -56,15 +54,12 @@ push_reserved-requires g c =
 
 pub loop-item-preserved-then-ne : goal.loop-item-preserved-then-ne
 loop-item-preserved-then-ne g c =
-    let kept = rw (ap (λ s. s.dcel) c.placed.view_is) at c.placed.invariant.kept in
     let edge = rw (ap (λ s. s.dcel) c.placed.view_is) at (index_found
     c.in-Some-get_edge_from_neighbors.ensures.some c.fix.ensures.value c.fix.ensures.in_range) in
-    let within = rw kept.fits.directed_fit at edge.0 in
     listing_walk_goes_on c.loop-item.invariant c.in-Some.ensures.steps
     (vertex_item c.in-VertexIntersection.is c.fix-next.ensures.value)
-    (λ same. kept.valid.apart _ within (edge.1 ∙ sym same ∙ sym edge.2))
-    c.in-Some.ensures.goes.keeps _ within edge.1 edge.2 c.push_reserved.ensures.items
-    c.push_reserved.ensures.capacity
+    (search (rules, c.ne.ensures, c.if-ne.true)) c.in-Some.ensures.goes.keeps edge
+    c.push_reserved.ensures.items c.push_reserved.ensures.capacity
 
 pub loop-item-preserved-else-ne : goal.loop-item-preserved-else-ne
 loop-item-preserved-else-ne g c =

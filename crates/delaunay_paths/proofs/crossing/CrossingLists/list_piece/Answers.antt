@@ -9,11 +9,9 @@ use Rattle.delaunay_paths.proofs.crossing.CrossingLists.list_piece.Goals as goal
 
 pub loop-item-init : goal.loop-item-init
 loop-item-init g c =
-    let line = rw (ap (λ s. s.dcel) c.placed.view_is) at c.line_between_vertices-line.ensures in
-    let kept = rw (ap (λ s. s.dcel) c.placed.view_is) at c.placed.invariant.kept in
-    piece_walk_begins (record { valid = kept.valid; fits = kept.fits }) (seeking_begins kept.shape
-    c.requires.ends.0 c.requires.ends.1 (λ same. both_ways _ (c.eq.ensures ∙ eq-eqb _ _ same)
-    c.if-eq.false) line.ready line.line)
+    let line = c.line_between_vertices-line.ensures in
+    piece_walk_begins (seeking_begins c.requires.ends.0 c.requires.ends.1
+    (λ same. both_ways _ (c.eq.ensures ∙ eq-eqb _ _ same) c.if-eq.false) line.ready line.line)
     (record { waiting = c.clear.ensures.capacity; unseen = c.clear-2.ensures.capacity })
     c.clear.ensures.items c.clear-2.ensures.items
 
