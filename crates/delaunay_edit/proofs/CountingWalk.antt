@@ -47,7 +47,7 @@ use Rattle.delaunay_paths.specs.Adding.{CanAddPath}
 use Rattle.delaunay_paths.proofs.InTheWay.{meets_is_cross}
 use Rattle.delaunay_paths.proofs.NextVertex.{two}
 use Rattle.delaunay_paths.proofs.Passing.{HasPassed, all_passed, list_with, none_passed}
-use Rattle.delaunay_paths.proofs.Passing.{one_more_passed}
+use Rattle.delaunay_paths.proofs.Passing.{one_more_passed, passed_kept}
 use Rattle.delaunay_paths.proofs.PassedVertices.{HasReached, next_after, not_at_end, reached_begins}
 use Rattle.delaunay_paths.proofs.PassedVertices.{reached_ends, reached_next, reached_stays}
 use Rattle.delaunay_paths.proofs.Places.{no_same_place}
@@ -246,19 +246,19 @@ module _ {V D U F : Type 0} (at : V → Point) (marks : U → Bool) (constraints
 
   -- at the beginning of a walk nothing was passed
   pub counting_path_begins : {P S : Type 0} {number : S → ℤ} {IsSite IsCovered : P → Point → Type 0}
-      {it : LineIntersectionIterator V D U F P S} → IsTriangulated at (state_of c)
-      → i < length c.vertices → j < length c.vertices → i ≢ j
-      → IsReady at number IsSite IsCovered it
+      {it : LineIntersectionIterator V D U F P S} → i < length c.vertices → j < length c.vertices
+      → i ≢ j → IsReady at number IsSite IsCovered it
       → WalksLine at number (state_of c) (point_at points i) (point_at points j) it
       → IsCountingPath number IsSite IsCovered i 0 it
-  counting_path_begins {number = number} {IsSite = IsSite} {IsCovered = IsCovered} {it = it} kept hi
-      hj apart ready walks =
+  counting_path_begins {number = number} {IsSite = IsSite} {IsCovered = IsCovered} {it = it} hi hj
+      apart ready walks =
+      let so_far = none_passed at number IsSite IsCovered (state_of c) (point_at points i)
+      (point_at points j) it ready walks in let kept = passed_kept so_far in
       let ends : ArePathEnds = record { kept = kept; from_in = hi; to_in = hj; apart = apart } in
       record {
         ends = ends;
         passed = [];
-        so_far = none_passed at number IsSite IsCovered (state_of c) (point_at points i)
-            (point_at points j) it ready walks;
+        so_far = so_far;
         ready = ready;
         reached = reached_begins points i j (from_index ends);
         walking = walk_begins points (distinct ends) pairs j (to_index ends) i (from_index ends)

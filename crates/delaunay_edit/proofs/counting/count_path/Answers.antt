@@ -11,9 +11,8 @@ use Rattle.delaunay_edit.proofs.counting.count_path.Goals as goal
 
 pub loop-item-init : goal.loop-item-init
 loop-item-init g c =
-    let kept = rw (ap (λ s. s.dcel) c.placed.view_is) at c.placed.invariant.kept in
-    let line = rw (ap (λ s. s.dcel) c.placed.view_is) at c.line_between_vertices-line.ensures in
-    counting_path_begins _ _ _ _ _ _ _ kept c.requires.ends.0 c.requires.ends.1 c.requires.apart
+    let line = c.line_between_vertices-line.ensures in
+    counting_path_begins _ _ _ _ _ _ _ c.requires.ends.0 c.requires.ends.1 c.requires.apart
     line.ready line.line
 
 pub is_constraint_edge-requires : goal.is_constraint_edge-requires
