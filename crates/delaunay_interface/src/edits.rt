@@ -77,11 +77,8 @@ impl<
             Some(vertex) => vertex,
             None => self.hint_generator.get_hint(position, tests),
         };
-        let placed = Placed {
-            dcel: &self.dcel,
-            tests,
-        };
-        let location = locate_with_hint(&placed, position, start);
+        let dcel = &self.dcel;
+        let location = locate_with_hint(&Placed { dcel, tests }, position, start);
         match location {
             PositionInTriangulation::OnVertex(vertex) => {
                 let _ = self.dcel.update_vertex(vertex, value);
