@@ -190,8 +190,8 @@ pub listing_walk_begins : {V D U F P S : Type 0} {at : V → Point} {number : S 
 listing_walk_begins {at = at} {number = number} {IsSite = IsSite} {IsCovered = IsCovered} {c = c}
     {i = i} {j = j} {it = it} from_in to_in apart ready walks none stays =
     let from = in_map at c.vertices i from_in in
-    let so_far = none_passed at number IsSite IsCovered (state_of c) (point_at (map at c.vertices) i)
-    (point_at (map at c.vertices) j) it ready walks in record {
+    let so_far = none_passed at number IsSite IsCovered (state_of c)
+    (point_at (map at c.vertices) i) (point_at (map at c.vertices) j) it ready walks in record {
       from = from;
       apart = apart;
       passed = [];

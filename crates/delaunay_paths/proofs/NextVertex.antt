@@ -194,8 +194,8 @@ pub seeking_begins : {V D U F P S : Type 0} {at : V → Point} {number : S → �
     (point_at (map at c.vertices) j) it → SeeksNext at number IsSite IsCovered c i j [] it
 seeking_begins {at = at} {number = number} {IsSite = IsSite} {IsCovered = IsCovered} {c = c} {i = i}
     {j = j} {it = it} from to apart ready walks =
-    let so_far = none_passed at number IsSite IsCovered (state_of c) (point_at (map at c.vertices) i)
-    (point_at (map at c.vertices) j) it ready walks in record {
+    let so_far = none_passed at number IsSite IsCovered (state_of c)
+    (point_at (map at c.vertices) i) (point_at (map at c.vertices) j) it ready walks in record {
       shape = (passed_kept so_far).shape;
       from = from;
       to = to;
