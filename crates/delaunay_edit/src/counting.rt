@@ -23,7 +23,6 @@ pub fn count_constraints_at<M: ConstraintMarker<UE>, V: HasPosition, DE, UE, F>(
     requires kept { IsTriangulated V.place (state_of dcel.now) }
     ensures { HasPairs (EndsAt (constraints_by M.constraints (state_of dcel.now)) vertex) result }
 {
-    dcel.recall_invariant();
     let mut count = 0;
     for edge in dcel.vertex(vertex).out_edges() {
         if is_constraint_edge::<M, _, _, _, _>(dcel, edge.fix().as_undirected()) {

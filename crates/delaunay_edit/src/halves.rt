@@ -59,7 +59,6 @@ fn constraint_end_beside<M: ConstraintMarker<UE>, V: HasPosition, DE, UE, F>(
     ensures { IsEndBeside (constraints_by M.constraints (state_of dcel.now)) vertex one other
         result }
 {
-    dcel.recall_invariant();
     for edge in dcel.vertex(vertex).out_edges() {
         if let Some(end) = end_beside::<M, _, _, _, _>(dcel, edge.fix(), one, other) {
             return Some(end);

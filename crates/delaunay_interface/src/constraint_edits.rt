@@ -36,8 +36,7 @@ impl<V: HasPosition, DE, UE, F, L: HintGenerator<V::Scalar>> ConstrainedDelaunay
         ensures mesh { self.new.mesh ≡ self.old.mesh }
         ensures headline { IsDelaunay V.place constraint_edges self.new }
     {
-        self.recall_well_formed();
-        if is_constraint_edge::<EdgeConstraints, _, _, _, _>(&self.dcel, edge.as_undirected()) {
+        if is_constraint_edge::<EdgeConstraints, _, _, _, _>(self.mesh(), edge.as_undirected()) {
             return false;
         }
         constrain_edge::<EdgeConstraints, _, _, _, _>(&mut self.dcel, edge);
@@ -65,8 +64,7 @@ impl<V: HasPosition, DE, UE, F, L: HintGenerator<V::Scalar>> ConstrainedDelaunay
         ensures headline { IsDelaunay V.place constraint_edges self.new }
         ensures err { OnErr result (self.new ≡ self.old) }
     {
-        self.recall_well_formed();
-        let edges = 3 * self.dcel.num_vertices();
+        let edges = 3 * self.mesh().num_vertices();
         self.work.reserve(edges)?;
         self.crossing.reserve(edges)?;
         self.work.clear();
@@ -103,15 +101,14 @@ impl<V: HasPosition, DE, UE, F, L: HintGenerator<V::Scalar>> ConstrainedDelaunay
         ensures adds { AddsIfFree V.place from to result self.old self.new }
         ensures headline { IsDelaunay V.place constraint_edges self.new }
     {
-        self.recall_well_formed();
+        let dcel = self.mesh();
         if from == to {
             return Ok(Some(false));
         }
-        if let Some(edge) = self.dcel.get_edge_from_neighbors(from, to) {
+        if let Some(edge) = dcel.get_edge_from_neighbors(from, to) {
             let edge = edge.fix();
             return Ok(Some(self.constrain(edge)));
         }
-        let dcel = &self.dcel;
         let placed = Placed { dcel, tests };
         let Some(missing) = count_path::<EdgeConstraints, _, _, _, _, _>(&placed, from, to) else {
             return Ok(None);

@@ -114,26 +114,24 @@ impl<V: HasPosition, DE, UE, F, L: HintGenerator<V::Scalar>> ConstrainedDelaunay
         ensures err { OnErr result (self.new ≡ self.old) }
         ensures headline { IsDelaunay V.place constraint_edges self.new }
     {
-        self.recall_well_formed();
+        let dcel = self.mesh();
         let mut edges = Vec::new(self.alloc);
         if from == to {
             return Ok(edges);
         }
-        if let Some(edge) = self.dcel.get_edge_from_neighbors(from, to) {
+        if let Some(edge) = dcel.get_edge_from_neighbors(from, to) {
             let edge = edge.fix();
             edges.push(edge)?;
             self.constrain(edge);
             return Ok(edges);
         }
-        let dcel = &self.dcel;
         let placed = Placed { dcel, tests };
         let Some(missing) = count_path::<EdgeConstraints, _, _, _, _, _>(&placed, from, to) else {
             return Ok(edges);
         };
-        edges.reserve(self.dcel.num_vertices())?;
+        edges.reserve(dcel.num_vertices())?;
         self.join_path(from, to, missing, tests)?;
-        self.recall_well_formed();
-        let dcel = &self.dcel;
+        let dcel = self.mesh();
         edges_along(&Placed { dcel, tests }, from, to, &mut edges);
         Ok(edges)
     }
@@ -158,11 +156,12 @@ impl<V: HasPosition, DE, UE, F, L: HintGenerator<V::Scalar>> ConstrainedDelaunay
         ensures releases { ReleasesConstraint V.place edge result self.old self.new }
         ensures headline { IsDelaunay V.place constraint_edges self.new }
     {
-        self.recall_well_formed();
-        if !self.is_constraint_edge(edge) {
+        let dcel = self.mesh();
+        if !is_constraint_edge::<EdgeConstraints, _, _, _, _>(dcel, edge) {
             return Ok(false);
         }
-        self.work.reserve(3 * self.dcel.num_vertices())?;
+        let edges = 3 * dcel.num_vertices();
+        self.work.reserve(edges)?;
         let mut flips = 0;
         release_constraint::<EdgeConstraints, _, _, _, _, _>(
             &mut self.dcel,
@@ -198,7 +197,6 @@ impl<V: HasPosition, DE, UE, F, L: HintGenerator<V::Scalar>> ConstrainedDelaunay
     pub fn exists_constraint(&self, from: FixedVertexHandle, to: FixedVertexHandle) -> bool
         ensures { IsTrue result ↔ Joins (constraints_of self.now) from to }
     {
-        self.recall_well_formed();
         let mesh = self.mesh();
         if (from.index() as usize) < mesh.num_vertices() {
             return is_constraint_between::<EdgeConstraints, _, _, _, _>(mesh, from, to);

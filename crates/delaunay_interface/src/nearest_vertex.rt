@@ -50,7 +50,6 @@ impl<V: HasPosition, DE, UE, F, L: HintGenerator<V::Scalar>> DelaunayTriangulati
             (λ v. IsNearestVertex V.place self.now (place_of V.Scalar.whole point) v.dcel.now
             v.index) }
     {
-        self.recall_well_formed();
         let mesh = self.mesh();
         let count = mesh.num_vertices();
         if count == 0 {

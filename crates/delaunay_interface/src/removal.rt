@@ -51,11 +51,10 @@ impl<
         ensures { AreHalvesAt V.place (points_and_constraints_by M.constraints self.now) vertex
             result }
     {
-        self.dcel.recall_invariant();
         if self.num_constraints == 0 {
             return None;
         }
-        let dcel = &self.dcel;
+        let dcel = self.mesh();
         straight_halves::<M, _, _, _, _, _>(&Placed { dcel, tests }, vertex)
     }
 

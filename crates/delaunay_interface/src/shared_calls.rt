@@ -63,7 +63,7 @@ impl<
     ghost writes_face = { λ _ _ _. refl };
 
     fn s(&self) -> &Dcel<V, DE, UE, F> {
-        &self.dcel
+        self.mesh()
     }
 
     fn hint_generator(&self) -> &L {
@@ -134,8 +134,7 @@ impl<
         vertex: FixedVertexHandle,
         tests: &P,
     ) -> Result<V, AllocError> {
-        self.recall_well_formed();
-        let edges = 3 * self.dcel.num_vertices();
+        let edges = 3 * self.s().num_vertices();
         self.work.reserve(edges)?;
         self.lists.reserve_for(&self.dcel, vertex)?;
         let border = self.sides_to_test(vertex)?;

@@ -101,7 +101,9 @@ pub trait Triangulation: Drop
 
     // The mesh, for the bodies below.
     fn s(&self) -> &Dcel<Self::Vertex, Self::DirectedEdge, Self::UndirectedEdge, Self::Face>
-        ensures { state_of result.now ≡ state self.now };
+        ensures state { state_of result.now ≡ state self.now }
+        ensures well_formed { IsWellFormed Self.Vertex.place Self.Constraints.constraints
+            (state self.now) };
 
     // The generator that is asked where searches begin.
     fn hint_generator(&self) -> &Self::HintGenerator
@@ -316,7 +318,6 @@ pub trait Triangulation: Drop
         ensures values { result ≡ length (state self.now).undirected }
         ensures small { 2 * result ≤ MAX_ELEMENTS }
     {
-        self.recall_invariant();
         self.s().num_undirected_edges()
     }
 
@@ -327,7 +328,6 @@ pub trait Triangulation: Drop
         ensures values { result ≡ length (state self.now).directed }
         ensures small { result ≤ MAX_ELEMENTS }
     {
-        self.recall_invariant();
         self.s().num_directed_edges()
     }
 
@@ -338,7 +338,6 @@ pub trait Triangulation: Drop
         ensures values { result ≡ length (state self.now).faces }
         ensures small { result < MAX_ELEMENTS }
     {
-        self.recall_invariant();
         self.s().num_inner_faces()
     }
 
@@ -349,7 +348,6 @@ pub trait Triangulation: Drop
         ensures values { result ≡ length (state self.now).faces + 1 }
         ensures small { result ≤ MAX_ELEMENTS }
     {
-        self.recall_invariant();
         self.s().num_faces()
     }
 
@@ -358,16 +356,15 @@ pub trait Triangulation: Drop
     final fn convex_hull_size(&self) -> usize
         ensures { CountsHullEdges Self.Vertex.place (state self.now) result }
     {
-        self.recall_invariant();
-        self.num_directed_edges() - 3 * self.num_inner_faces()
+        let dcel = self.s();
+        dcel.num_directed_edges() - 3 * dcel.num_inner_faces()
     }
 
     /// Whether all vertices are on one line, as those of an empty triangulation are.
     final fn all_vertices_on_line(&self) -> bool
         ensures { IsTrue result ↔ AreOnLine (triangulation_of Self.Vertex.place (state self.now)) }
     {
-        self.recall_invariant();
-        self.num_inner_faces() == 0
+        self.s().num_inner_faces() == 0
     }
 
     /// The vertex with a handle of this triangulation.
@@ -619,7 +616,6 @@ pub trait Triangulation: Drop
     final fn convex_hull(&self) -> HullOf<'_, Self>
         ensures { GivesOutline Self.Vertex.place (state self.now) (hull_left result) }
     {
-        self.recall_invariant();
         self.s().convex_hull()
     }
 
@@ -669,7 +665,6 @@ pub trait Triangulation: Drop
         ensures { FindsLocation Self.Vertex.place (state self.now)
             (place_of Self.Vertex.Scalar.whole point) result }
     {
-        self.recall_invariant();
         let dcel = self.s();
         let answer = locate_with_hint(&Placed { dcel, tests }, point, hint);
         let vertex = vertex_near(dcel, &answer);
@@ -699,8 +694,7 @@ pub trait Triangulation: Drop
         ensures { FindsLocation Self.Vertex.place (state self.now)
             (place_of Self.Vertex.Scalar.whole point) result }
     {
-        self.recall_invariant();
-        let hint = self.hint_generator().get_hint(point, tests);
+        let hint = self.search_start(point, tests);
         self.locate_with_hint(point, hint, tests)
     }
 

@@ -133,11 +133,13 @@ impl<V: HasPosition, DE, UE, F, L: HintGenerator<V::Scalar>, M: EdgeData<UE>> Ha
         requires sites { AreSites V.place (P.sites tests.now) self.now.vertices }
         requires covered { P.covered tests.now (place_of V.Scalar.whole position) }
     {
-        self.recall_well_formed();
         self.hint_generator.get_hint(position, tests)
     }
 
-    fn mesh(&self) -> &Dcel<V, DE, UE, F> {
+    fn mesh(&self) -> &Dcel<V, DE, UE, F>
+        ensures state { state_of result.now ≡ self.now }
+        ensures well_formed { IsWellFormed V.place M.constraints self.now }
+    {
         self.recall_well_formed();
         &self.dcel
     }

@@ -55,6 +55,5 @@ pub fn replay<T: Replayable, P: PlaneTests<<T::Vertex as HasPosition>::Scalar>>(
     for edit in edits {
         outcomes.push_reserved(make(points, edit, tests));
     }
-    points.recall_invariant();
     Ok(outcomes)
 }

@@ -32,7 +32,6 @@ fn insert<T: Replayable, P: PlaneTests<<T::Vertex as HasPosition>::Scalar>>(
     ensures sites { AreSites T.Vertex.place (P.sites tests.now) (T.state points.new).vertices }
     ensures headline { IsDelaunay T.Vertex.place T.Constraints.constraints (T.state points.new) }
 {
-    points.recall_invariant();
     match points.insert(value, tests) {
         Ok(vertex) => Outcome::Inserted(vertex),
         Err(error) => Outcome::Refused(Refusal::Insertion(error)),

@@ -23,6 +23,5 @@ pub fn face_layers<T: Triangulation>(points: &T, alloc: Global) -> Result<Vec<u3
     ensures { IfOk result (λ v. AreLayers (T.state points.now).mesh
         (T.Constraints.constraints (T.state points.now).undirected) v.items) }
 {
-    points.recall_invariant();
     find_layers::<T::Constraints, _, _, _, _>(points.s(), alloc)
 }

@@ -100,8 +100,7 @@ pub fn push_side<V, DE, UE, F>(
     ensures edges { AreEdges dcel.now.mesh work.new.items }
     ensures capacity { work.new.room ≡ work.old.room }
 {
-    dcel.recall_invariant();
-    work.put(edge.as_undirected());
+    work.put(dcel.directed_edge(edge).as_undirected().fix());
 }
 
 /// Flips edges until each passes the circle test, but for the outer ones and the constraints, where

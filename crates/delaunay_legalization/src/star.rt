@@ -30,7 +30,6 @@ fn push_star<V, DE, UE, F>(dcel: &Dcel<V, DE, UE, F>, vertex: FixedVertexHandle,
     ensures capacity { work.new.room ≡ work.old.room }
 {
     work.clear();
-    dcel.recall_invariant();
     for edge in dcel.vertex(vertex).out_edges() {
         let edge = edge.fix();
         push_side(dcel, edge, work);

@@ -19,7 +19,6 @@ pub fn sides_of_hole<V, DE, UE, F>(
     requires { vertex < length dcel.now.vertices }
     ensures { IfOk result (λ ps. HasBorder dcel.now.mesh vertex ps.items) }
 {
-    dcel.recall_invariant();
     let Some(first) = some_edge(dcel, vertex) else {
         return Ok(Vec::new(alloc));
     };

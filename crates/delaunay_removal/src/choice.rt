@@ -211,7 +211,6 @@ pub(crate) fn edge_to_go_on<V, DE, UE, F>(
     ensures within { result < length dcel.now.directed }
     ensures starts { origin dcel.now.mesh result ≡ origin dcel.now.mesh edge }
 {
-    dcel.recall_invariant();
     if count > FEW_EDGES {
         cw_edge(dcel, edge)
     } else {

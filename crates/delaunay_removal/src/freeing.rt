@@ -22,8 +22,8 @@ pub(crate) fn some_edge<V, DE, UE, F>(
     ensures starts { IfSome result (λ e. origin dcel.now.mesh e ≡ vertex) }
     ensures some { IfSome result (λ e. out_edge dcel.now.mesh vertex ≡ Some e) }
     ensures none { IfNone result (out_edge dcel.now.mesh vertex ≡ None) }
+    ensures whole { IsMeshWithData dcel.now }
 {
-    dcel.recall_invariant();
     match dcel.vertex(vertex).out_edge() {
         Some(edge) => Some(edge.fix()),
         None => None,

@@ -20,7 +20,6 @@ pub(crate) fn find_edge_between<V, DE, UE, F>(
     ensures ends { IfSome result (λ e. origin dcel.now.mesh (rev e) ≡ to) }
     ensures none { IfNone result (HasNoEdgeBetween dcel.now.mesh from to) }
 {
-    dcel.recall_invariant();
     let vertices = dcel.num_vertices();
     if from.index() as usize >= vertices {
         return None;

@@ -30,7 +30,6 @@ fn degree<V, DE, UE, F>(dcel: &Dcel<V, DE, UE, F>, vertex: FixedVertexHandle) ->
     ensures room { HasRoomAt dcel.now.mesh vertex 0 result }
     ensures round { IsRoundOf dcel.now.mesh vertex result }
 {
-    dcel.recall_invariant();
     match some_edge(dcel, vertex) {
         Some(first) => count_edges(dcel, first),
         None => 0,

@@ -85,7 +85,6 @@ fn push_between<V, DE, UE, F>(
     ensures edges { AreEdges dcel.now.mesh work.new.items }
     ensures capacity { work.new.room ≡ work.old.room }
 {
-    dcel.recall_invariant();
     match find_edge_between(dcel, from, to) {
         Some(edge) => push_side(dcel, edge, work),
         None => {}

@@ -20,6 +20,7 @@ pub(crate) fn cw_edge<V, DE, UE, F>(
     requires { edge < length dcel.now.directed }
     ensures value { result ≡ next dcel.now.mesh (rev edge) }
     ensures within { result < length dcel.now.directed }
+    ensures starts { origin dcel.now.mesh result ≡ origin dcel.now.mesh edge }
 {
     dcel.directed_edge(edge).cw().fix()
 }

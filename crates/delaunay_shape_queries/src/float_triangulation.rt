@@ -74,9 +74,8 @@ pub trait FloatTriangulation: Triangulation {
             IfOk result (λ it. FindsEdges Self.Vertex.place (Self.state self.now)
             (InClosedRectangle (place_of whole lower) (place_of whole upper)) (edges_left it)) }
     {
-        self.recall_invariant();
         let rectangle = RectangleMetric::new(lower, upper);
-        let hint = self.hint_generator().get_hint(lower, tests);
+        let hint = self.search_start(lower, tests);
         edges_in_shape(self.s(), &rectangle, lower, hint, tests, alloc)
     }
 
@@ -97,9 +96,8 @@ pub trait FloatTriangulation: Triangulation {
             IfOk result (λ it. FindsVertices Self.Vertex.place (Self.state self.now)
             (InClosedRectangle (place_of whole lower) (place_of whole upper)) (vertices_left it)) }
     {
-        self.recall_invariant();
         let rectangle = RectangleMetric::new(lower, upper);
-        let hint = self.hint_generator().get_hint(lower, tests);
+        let hint = self.search_start(lower, tests);
         vertices_in_shape(self.s(), &rectangle, lower, hint, tests, alloc)
     }
 
@@ -119,9 +117,8 @@ pub trait FloatTriangulation: Triangulation {
         ensures { IfOk result (λ it. FindsEdges Self.Vertex.place (Self.state self.now)
             (InClosedCircle (place_of Self.Vertex.Scalar.whole center) radius_2) (edges_left it)) }
     {
-        self.recall_invariant();
         let circle = CircleMetric::new(center, radius_2);
-        let hint = self.hint_generator().get_hint(center, tests);
+        let hint = self.search_start(center, tests);
         edges_in_shape(self.s(), &circle, center, hint, tests, alloc)
     }
 
@@ -142,9 +139,8 @@ pub trait FloatTriangulation: Triangulation {
             (InClosedCircle (place_of Self.Vertex.Scalar.whole center) radius_2)
             (vertices_left it)) }
     {
-        self.recall_invariant();
         let circle = CircleMetric::new(center, radius_2);
-        let hint = self.hint_generator().get_hint(center, tests);
+        let hint = self.search_start(center, tests);
         vertices_in_shape(self.s(), &circle, center, hint, tests, alloc)
     }
 }

@@ -42,7 +42,6 @@ pub(crate) fn is_free_round<V, DE, UE, F, G: FreeFaces>(
     requires { vertex < length dcel.now.vertices }
     ensures { IsTrue result ↔ HasFreeRound dcel.now.mesh (G.free free.now) vertex }
 {
-    dcel.recall_invariant();
     for edge in dcel.vertex(vertex).out_edges() {
         let edge = edge.fix();
         if is_free_beside(dcel, edge, free) {

@@ -107,8 +107,7 @@ impl<V, DE, UE, F> Dcel<V, DE, UE, F> {
         ensures small { result ≤ MAX_ELEMENTS }
         ensures whole { IsMeshWithData self.now }
     {
-        self.recall_invariant();
-        self.directed.len()
+        self.links.half_edge_count()
     }
 
     /// How many undirected edges there are.
@@ -117,8 +116,7 @@ impl<V, DE, UE, F> Dcel<V, DE, UE, F> {
         ensures small { 2 * result ≤ MAX_ELEMENTS }
         ensures whole { IsMeshWithData self.now }
     {
-        self.recall_invariant();
-        self.undirected.len()
+        self.links.half_edge_count() / 2
     }
 
     /// How many faces there are beside the outer one.
@@ -127,8 +125,7 @@ impl<V, DE, UE, F> Dcel<V, DE, UE, F> {
         ensures small { result < MAX_ELEMENTS }
         ensures whole { IsMeshWithData self.now }
     {
-        self.recall_invariant();
-        self.faces.len()
+        self.links.inner_face_count()
     }
 
     /// How many faces there are, the outer one among them.

@@ -27,9 +27,8 @@ impl<V, DE, UE, F> Dcel<V, DE, UE, F> {
         requires { IsMiddle self.old.mesh out }
         ensures { PassesVertex self.old self.new out result }
     {
-        self.recall_invariant();
         let edge = reversed(out);
-        let left = self.links.half_edge(edge).next;
+        let left = self.links().half_edge(edge).next;
         self.links.pass(edge);
         left
     }

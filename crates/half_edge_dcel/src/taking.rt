@@ -80,8 +80,7 @@ impl<V, DE, UE, F> Dcel<V, DE, UE, F> {
         ensures value { result ≡ turn self.now.mesh edge }
         ensures whole { IsMeshWithData self.now }
     {
-        self.recall_invariant();
-        reversed(self.links.half_edge(edge).prev)
+        reversed(self.links().half_edge(edge).prev)
     }
 
     // The index that the edge after `edge` gets once `edge` is removed.
@@ -90,8 +89,7 @@ impl<V, DE, UE, F> Dcel<V, DE, UE, F> {
         ensures value { let m = self.now.mesh in result ≡ after_removal m edge (next m edge) }
         ensures whole { IsMeshWithData self.now }
     {
-        self.recall_invariant();
-        let after = self.links.half_edge(edge).next;
-        self.links.index_after_removal(edge, after)
+        let links = self.links();
+        links.index_after_removal(edge, links.half_edge(edge).next)
     }
 }

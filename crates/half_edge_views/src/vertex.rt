@@ -71,7 +71,8 @@ impl<'a, V, DE, UE, F> VertexHandle<'a, V, DE, UE, F> {
 
     /// The edges that start here, counterclockwise.
     pub fn out_edges(&self) -> CircularIterator<'a, V, DE, UE, F>
-        ensures { GivesRound self.now.dcel self.now.index (out_edges_left result) }
+        ensures round { GivesRound self.now.dcel self.now.index (out_edges_left result) }
+        ensures whole { IsMeshWithData self.now.dcel.now }
     {
         CircularIterator {
             walk: EdgeWalk::from(self.dcel, self.dcel.links().out_edge(self.index)),

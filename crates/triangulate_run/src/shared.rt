@@ -63,7 +63,6 @@ pub(crate) fn remove<T: Triangulation<Vertex = Point2<i64>>, P: PlaneTests<i64>>
     ensures reply { MayRemove (stage_by T.Constraints.constraints (T.state triangulation.old))
         index result (stage_by T.Constraints.constraints (T.state triangulation.new)) }
 {
-    triangulation.recall_invariant();
     if index >= triangulation.num_vertices() as u64 {
         return Reply::NoVertex;
     }
@@ -84,7 +83,6 @@ pub(crate) fn vertices_at<T: Triangulation<Vertex = Point2<i64>>>(
         MatchOption result (¬ AreVertices s from to)
         (λ p. (p.0 ≡ from) × (p.1 ≡ to) × AreVertices s from to) }
 {
-    triangulation.recall_invariant();
     let count = triangulation.num_vertices() as u64;
     if from >= count || to >= count {
         return None;
@@ -111,7 +109,6 @@ pub(crate) fn locate<T: Triangulation<Vertex = Point2<i64>>, P: PlaneTests<i64>>
         return Reply::UnknownPoint;
     }
     let answer = triangulation.locate(point, tests);
-    triangulation.recall_invariant();
     location_reply(triangulation, answer)
 }
 

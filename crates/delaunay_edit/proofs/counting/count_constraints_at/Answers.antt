@@ -12,7 +12,7 @@ loop-edge-init g c =
     c.args.vertex c.vertex.result.dcel (out_edges_left c.into_iter-edge-iterator.result)
     (ap (λ x. x.now) c.vertex.ensures.dcel)
     (rw c.into_iter-edge-iterator.ensures.into_iter_gives
-    (rw c.vertex.ensures.index at c.out_edges-edge-items.ensures))
+    (rw c.vertex.ensures.index at c.out_edges-edge-items.ensures.round))
 
 pub is_constraint_edge-requires : goal.is_constraint_edge-requires
 is_constraint_edge-requires g c =

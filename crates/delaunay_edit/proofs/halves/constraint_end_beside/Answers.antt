@@ -11,7 +11,7 @@ loop-edge-init g c =
     c.requires.kept c.vertex.result.dcel (out_edges_left c.into_iter-edge-iterator.result)
     (ap (λ x. x.now) c.vertex.ensures.dcel)
     (rw c.into_iter-edge-iterator.ensures.into_iter_gives
-    (rw c.vertex.ensures.index at c.out_edges-edge-items.ensures))
+    (rw c.vertex.ensures.index at c.out_edges-edge-items.ensures.round))
 
 pub end_beside-requires-clause-within : goal.end_beside-requires-clause-within
 end_beside-requires-clause-within g c =

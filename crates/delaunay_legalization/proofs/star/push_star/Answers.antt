@@ -7,19 +7,19 @@ use Rattle.delaunay_legalization.proofs.star.push_star.Goals as goal
 pub loop-edge-init : goal.loop-edge-init
 loop-edge-init g c =
     pushing_begins {d = c.vertex.result.dcel} (ap (λ x. x.now) c.vertex.ensures.dcel)
-    c.recall_invariant.ensures.whole.valid (rw c.into_iter-edge-iterator.ensures.into_iter_gives
-    (rw c.vertex.ensures.index at c.out_edges-edge-items.ensures))
+    (rw c.vertex.ensures.dcel at c.out_edges-edge-items.ensures.whole).valid (rw c.into_iter-edge-iterator.ensures.into_iter_gives
+    (rw c.vertex.ensures.index at c.out_edges-edge-items.ensures.round))
     c.clear.ensures.items c.clear.ensures.room
 
 pub push_side-requires-clause-within : goal.push_side-requires-clause-within
 push_side-requires-clause-within g c =
     next_in_mesh c.loop-edge.invariant c.in-Some.ensures.steps c.fix-edge.ensures.value
-    c.recall_invariant.ensures.whole
+    (rw c.vertex.ensures.dcel at c.out_edges-edge-items.ensures.whole)
 
 pub directed_edge-requires : goal.directed_edge-requires
 directed_edge-requires g c =
     next_in_mesh c.loop-edge.invariant c.in-Some.ensures.steps c.fix-edge.ensures.value
-    c.recall_invariant.ensures.whole
+    (rw c.vertex.ensures.dcel at c.out_edges-edge-items.ensures.whole)
 
 pub push_side-requires-clause-room : goal.push_side-requires-clause-room
 push_side-requires-clause-room g c = rw c.loop-edge.invariant.room_stays c.requires.room

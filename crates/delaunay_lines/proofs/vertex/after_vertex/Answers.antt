@@ -34,7 +34,7 @@ loop-edge-init g c =
     c.vertex.result.dcel (out_edges_left c.into_iter-edge-iterator.result)
     (ap (λ x. x.now) c.vertex.ensures.dcel) c.placed.invariant.kept.valid
     (rw c.into_iter-edge-iterator.ensures.into_iter_gives
-    (rw c.vertex.ensures.index at c.out_edges-edge-items.ensures)))
+    (rw c.vertex.ensures.index at c.out_edges-edge-items.ensures.round)))
 
 pub directed_edge-here-requires : goal.directed_edge-here-requires
 directed_edge-here-requires g c =

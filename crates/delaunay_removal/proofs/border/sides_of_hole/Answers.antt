@@ -5,7 +5,7 @@ use Rattle.delaunay_removal.proofs.border.sides_of_hole.Goals as goal
 
 pub returns-in_default : goal.returns-in_default
 returns-in_default g c =
-    no_border _ _ _ c.recall_invariant.ensures.whole.valid c.in_default.ensures.none
+    no_border _ _ _ c.in_default.ensures.whole.valid c.in_default.ensures.none
 
 pub loop-i-init : goal.loop-i-init
 loop-i-init g c =

@@ -6,7 +6,7 @@ use Rattle.delaunay_removal.proofs.joining_edge.find_edge_between.Goals as goal
 
 pub loop-i-init : goal.loop-i-init
 loop-i-init g c =
-    let whole = c.recall_invariant.ensures.whole in
+    let whole = c.num_vertices-vertices.ensures.whole in
     record {
       outward = looking_begins whole c.in_ok-first.ensures.within
           c.in_ok-first.ensures.starts;

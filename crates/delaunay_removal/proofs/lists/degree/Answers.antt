@@ -10,5 +10,5 @@ returns-in-Some g c =
 pub returns-in-None : goal.returns-in-None
 returns-in-None g c =
     let none = c.in-None.ensures.none in
-    let sound = c.recall_invariant.ensures.whole.valid.sound in
+    let sound = c.in-None.ensures.whole.valid.sound in
     record { room = room_of_none sound none; round = none_listed none }

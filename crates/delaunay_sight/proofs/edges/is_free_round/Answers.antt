@@ -9,14 +9,16 @@ use Rattle.delaunay_sight.proofs.edges.is_free_round.Goals as goal
 
 pub loop-edge-init : goal.loop-edge-init
 loop-edge-init g c = round_begins c.args.dcel.now c.args.vertex _ c.vertex.result.dcel _
-    (ap (λ x. x.now) c.vertex.ensures.dcel) c.recall_invariant.ensures.whole.valid
+    (ap (λ x. x.now) c.vertex.ensures.dcel) (rw c.vertex.ensures.dcel at
+    c.out_edges-edge-items.ensures.whole).valid
     (rw (← c.into_iter-edge-iterator.ensures.into_iter_gives, c.vertex.ensures.index) at
-    c.out_edges-edge-items.ensures)
+    c.out_edges-edge-items.ensures.round)
 
 pub is_free_beside-requires : goal.is_free_beside-requires
 is_free_beside-requires g c =
     let w = next_within _ _ _ _ c.loop-edge.invariant _ _ c.in-Some.ensures.steps in
-    let fit = c.recall_invariant.ensures.whole.fits.directed_fit in
+    let whole = rw c.vertex.ensures.dcel at c.out_edges-edge-items.ensures.whole in
+    let fit = whole.fits.directed_fit in
     let is = c.fix-edge.ensures.value in
     omega (arith, w, fit, is)
 

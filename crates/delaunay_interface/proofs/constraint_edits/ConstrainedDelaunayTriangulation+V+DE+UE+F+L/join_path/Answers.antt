@@ -60,7 +60,7 @@ overflow_add-self g c =
     let room = few_counted is_constraint (λ ds. refl)
     (counted g (goal.at.overflow_add-self g c).After-legalize) in
     let same = ap (λ vs. length vs) c.add_path.ensures.adds.plain.vertices in
-    let few = rw (← c.self.view_is) at c.recall_well_formed.ensures.small in
+    let few = rw (← c.self.view_is) at c.mesh.ensures.well_formed.small in
     omega (arith, room, same, few)
 
 pub invariant_of-self-2 : goal.invariant_of-self-2

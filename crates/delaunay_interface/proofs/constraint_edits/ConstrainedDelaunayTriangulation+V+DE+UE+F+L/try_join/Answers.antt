@@ -8,7 +8,7 @@ use Rattle.delaunay_interface.proofs.constraint_edits.ConstrainedDelaunayTriangu
 
 pub returns-then-eq-clause-adds : goal.returns-then-eq-clause-adds
 returns-then-eq-clause-adds g c =
-    none_to_itself _ _ c.recall_well_formed.ensures.kept _ _ c.requires.from_in
+    none_to_itself _ _ c.mesh-dcel.ensures.well_formed.kept _ _ c.requires.from_in
     (eqb-true _ _ (sym c.eq.ensures ∙ c.if-eq.true))
 
 pub constrain-requires : goal.constrain-requires

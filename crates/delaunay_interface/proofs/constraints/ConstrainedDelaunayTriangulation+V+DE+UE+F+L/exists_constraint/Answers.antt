@@ -10,7 +10,7 @@ pub returns : goal.returns
 returns g c = (
   (λ t. absurd (both_ways _ t refl)),
   (λ j. absurd (
-      let within = (c.recall_well_formed.ensures.plain.pairs c.args.from c.args.to j).0 in
+      let within = (c.mesh-mesh.ensures.well_formed.plain.pairs c.args.from c.args.to j).0 in
       let below = rw (← c.mesh-mesh.ensures.state) at within in
       omega (
         arith,

@@ -15,6 +15,6 @@ returns-clause-joined g c =
       (λ t. joined_by is_constraint constraint_edges (λ ds. refl) s.mesh s.undirected _ _
           c.args.edge (marked.0 t) (inl (refl, refl))),
       (λ j. marked.1 (fixed_if_joined g.V.HasPosition.place is_constraint constraint_edges
-          (λ ds. refl) s (rw c.mesh.ensures.state at c.mesh.ensures.kept) c.args.edge
+          (λ ds. refl) s c.mesh.ensures.well_formed.kept c.args.edge
           c.requires j)),
     )

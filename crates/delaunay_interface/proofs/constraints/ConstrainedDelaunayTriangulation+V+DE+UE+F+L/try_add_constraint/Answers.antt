@@ -39,7 +39,7 @@ returns-in-Some-clause-path g c =
     let edge = c.fix-edge.result in
     let found = index_found c.in-Some.ensures.some c.fix-edge.ensures.value
     c.fix-edge.ensures.in_range in
-    let kept = c.recall_well_formed.ensures.kept in
+    let kept = c.mesh-dcel.ensures.well_formed.kept in
     let within : edge < length old.directed = rw (← c.self.view_is) found.0 in
     let listed = edge_listed c.constrain.ensures.adds kept (rw kept.fits.directed_fit at within)
     c.constrain.ensures.mesh _ (c.in_ok-push.ensures.items

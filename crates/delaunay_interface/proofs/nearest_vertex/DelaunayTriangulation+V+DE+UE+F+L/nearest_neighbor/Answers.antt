@@ -8,7 +8,7 @@ pub nearest_by_neighbors-nearest-requires-clause-delaunay :
     goal.nearest_by_neighbors-nearest-requires-clause-delaunay
 nearest_by_neighbors-nearest-requires-clause-delaunay g c =
     subst (λ s. IsConstrainedDelaunay (triangulation_of g.V.HasPosition.place s) [])
-    (sym c.mesh-mesh.ensures.state) c.recall_well_formed.ensures.headline.delaunay
+    (sym c.mesh-mesh.ensures.state) c.mesh-mesh.ensures.well_formed.headline.delaunay
 
 pub nearest_by_neighbors-nearest-requires-clause-within :
     goal.nearest_by_neighbors-nearest-requires-clause-within

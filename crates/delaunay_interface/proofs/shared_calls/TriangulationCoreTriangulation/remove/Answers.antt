@@ -56,7 +56,7 @@ settle-requires-clause-sites g c =
     (state_of c.remove_vertex-removed.new.dcel) _ c.remove_vertex-removed.result
     c.remove_vertex-removed.ensures.takes.plain (g.P.PlaneTests.sites c.args.tests.now)
     ((rw (← c.self.view_is) at c.requires.sites)
-    (rw (← c.self.view_is) at c.recall_well_formed.ensures.in_range))
+    (rw (← c.self.view_is) at c.s.ensures.well_formed.in_range))
 
 pub settle-requires-clause-room : goal.settle-requires-clause-room
 settle-requires-clause-room g c =
@@ -83,7 +83,7 @@ overflow_sub-self g c = (taken g (goal.at.overflow_sub-self g c).After-settle).s
 pub notify_vertex_removed-requires : goal.notify_vertex_removed-requires
 notify_vertex_removed-requires g c =
     let sites = rw (← c.self.view_is) at c.requires.sites in
-    let all = sites (rw (← c.self.view_is) at c.recall_well_formed.ensures.in_range) in
+    let all = sites (rw (← c.self.view_is) at c.s.ensures.well_formed.in_range) in
     let now = taken g (goal.at.notify_vertex_removed-requires g c).After-settle in
     record {
       held = held_are_sites _ _ _ c.self.invariant.1 all;

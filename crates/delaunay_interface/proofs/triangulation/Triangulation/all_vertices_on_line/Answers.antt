@@ -27,4 +27,5 @@ line_by_faces t (inr line) n count = (
 
 pub returns : goal.returns
 returns g c =
-    line_by_faces _ c.recall_invariant.ensures.headline.tiling _ c.num_inner_faces.ensures.value
+    line_by_faces _ c.s.ensures.well_formed.headline.tiling _
+    (faces_counted _ _ _ c.num_inner_faces.ensures.value c.s.ensures.state)

@@ -3,5 +3,5 @@ use Rattle.delaunay_interface.proofs.triangulation.Triangulation.convex_hull.Goa
 
 pub returns : goal.returns
 returns g c =
-    gives_outline _ _ c.recall_invariant.ensures.kept c.recall_invariant.ensures.headline.tiling
-    c.s.result c.s.ensures _ c.convex_hull.ensures
+    gives_outline _ _ c.s.ensures.well_formed.kept c.s.ensures.well_formed.headline.tiling
+    c.s.result c.s.ensures.state _ c.convex_hull.ensures

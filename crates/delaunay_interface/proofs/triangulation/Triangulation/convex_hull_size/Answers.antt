@@ -4,11 +4,13 @@ use Rattle.delaunay_interface.proofs.triangulation.Triangulation.convex_hull_siz
 
 pub overflow_sub-result : goal.overflow_sub-result
 overflow_sub-result g c =
-    let ways = sides_and_outer _ _ c.recall_invariant.ensures.kept in
-    omega (arith, ways, c.num_directed_edges.ensures.values, c.num_inner_faces.ensures.values)
+    let ways = rw (← c.s-dcel.ensures.state) at
+    (sides_and_outer _ _ c.s-dcel.ensures.well_formed.kept) in
+    omega (arith, ways, c.num_directed_edges.ensures.value, c.num_inner_faces.ensures.value)
 
 pub returns : goal.returns
 returns g c =
-    let ways = sides_and_outer _ _ c.recall_invariant.ensures.kept in
-    counts_outer _ _ c.recall_invariant.ensures.kept _
-    (omega (arith, ways, c.num_directed_edges.ensures.values, c.num_inner_faces.ensures.values))
+    let kept = c.s-dcel.ensures.well_formed.kept in
+    let ways = rw (← c.s-dcel.ensures.state) at (sides_and_outer _ _ kept) in
+    counts_outer _ _ kept _
+    (omega (arith, ways, c.num_directed_edges.ensures.value, c.num_inner_faces.ensures.value))

@@ -4,4 +4,4 @@ use Rattle.delaunay_interface.proofs.triangulation.Triangulation.directed_vorono
 
 pub returns : goal.returns
 returns g c =
-    gives_all c.s.result (λ s. length s.directed) c.directed_voronoi_edges.ensures c.s.ensures
+    gives_all c.s.result (λ s. length s.directed) c.directed_voronoi_edges.ensures c.s.ensures.state

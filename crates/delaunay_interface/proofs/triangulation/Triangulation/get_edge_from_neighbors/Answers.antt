@@ -19,5 +19,5 @@ edge_or_none d i j (Some e) some none = rw some.0 (refl, some.1, some.2)
 
 pub returns : goal.returns
 returns g c =
-    rw (← c.s.ensures) (edge_or_none c.s.result _ _ c.get_edge_from_neighbors.result
+    rw (← c.s.ensures.state) (edge_or_none c.s.result _ _ c.get_edge_from_neighbors.result
     c.get_edge_from_neighbors.ensures.some c.get_edge_from_neighbors.ensures.none)

@@ -4,4 +4,4 @@ use Rattle.delaunay_interface.proofs.triangulation.Triangulation.inner_faces.Goa
 
 pub returns : goal.returns
 returns g c = gives_all c.s.result (λ s. length s.faces)
-    (rw (c.new.ensures.dcel, c.new.ensures.rest) refl) c.s.ensures
+    (rw (c.new.ensures.dcel, c.new.ensures.rest) refl) c.s.ensures.state

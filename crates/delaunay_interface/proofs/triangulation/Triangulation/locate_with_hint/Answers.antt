@@ -3,9 +3,9 @@ use Rattle.delaunay_interface.proofs.triangulation.Triangulation.locate_with_hin
 
 pub vertex_near-vertex-requires : goal.vertex_near-vertex-requires
 vertex_near-vertex-requires g c =
-    element_in _ _ c.recall_invariant.ensures.kept _ _ c.s-dcel.result.now
-    c.s-dcel.ensures c.locate_with_hint-answer.ensures
+    element_in _ _ c.s-dcel.ensures.well_formed.kept _ _ c.s-dcel.result.now
+    c.s-dcel.ensures.state c.locate_with_hint-answer.ensures
 
 pub returns : goal.returns
-returns g c = finds_in _ _ c.recall_invariant.ensures.kept _ _ c.s-dcel.result.now c.s-dcel.ensures
+returns g c = finds_in _ _ c.s-dcel.ensures.well_formed.kept _ _ c.s-dcel.result.now c.s-dcel.ensures.state
     c.locate_with_hint-answer.ensures

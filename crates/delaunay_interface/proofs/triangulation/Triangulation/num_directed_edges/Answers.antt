@@ -4,11 +4,11 @@ use Rattle.delaunay_interface.proofs.triangulation.Triangulation.num_directed_ed
 
 pub returns-clause-value : goal.returns-clause-value
 returns-clause-value g c =
-    let kept = c.recall_invariant.ensures.kept in
+    let kept = c.s.ensures.well_formed.kept in
     omega (
       arith,
       count_of_edges _ _ kept,
       kept.fits.undirected_fit,
       kept.fits.directed_fit,
-      c.num_directed_edges.ensures.value ∙ ap (λ s. length s.directed) c.s.ensures,
+      c.num_directed_edges.ensures.value ∙ ap (λ s. length s.directed) c.s.ensures.state,
     )

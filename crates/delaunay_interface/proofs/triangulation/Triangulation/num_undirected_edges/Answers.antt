@@ -4,5 +4,5 @@ use Rattle.delaunay_interface.proofs.triangulation.Triangulation.num_undirected_
 
 pub returns-clause-value : goal.returns-clause-value
 returns-clause-value g c =
-    c.num_undirected_edges.ensures.value ∙ ap (λ s. length s.undirected) c.s.ensures
-    ∙ count_of_edges _ _ c.recall_invariant.ensures.kept
+    c.num_undirected_edges.ensures.value ∙ ap (λ s. length s.undirected) c.s.ensures.state
+    ∙ count_of_edges _ _ c.s.ensures.well_formed.kept

@@ -6,8 +6,8 @@ use Rattle.delaunay_shape_queries.proofs.float_triangulation.FloatTriangulation.
 
 pub vertices_in_shape-requires-clause-sites : goal.vertices_in_shape-requires-clause-sites
 vertices_in_shape-requires-clause-sites g c =
-    sites_in_mesh _ _ c.s.result c.s.ensures (g.P.PlaneTests.sites c.args.tests.now)
-    c.recall_invariant.ensures.kept c.requires.sites
+    sites_in_mesh _ _ c.s.result c.s.ensures.state (g.P.PlaneTests.sites c.args.tests.now)
+    c.s.ensures.well_formed.kept c.requires.sites
 
 pub vertices_in_shape-requires-clause-begins : goal.vertices_in_shape-requires-clause-begins
 vertices_in_shape-requires-clause-begins g c =
@@ -16,5 +16,5 @@ vertices_in_shape-requires-clause-begins g c =
 pub returns : goal.returns
 returns g c =
     let radius = c.new-circle.ensures.radius_2 ∙ to_z-of_z w64 c.args.radius_2 c.ranges.radius_2 in
-    rw (← c.new-circle.ensures.center, ← radius) (vertices_found _ _ c.s.result c.s.ensures _
+    rw (← c.new-circle.ensures.center, ← radius) (vertices_found _ _ c.s.result c.s.ensures.state _
     c.vertices_in_shape.result c.vertices_in_shape.ensures)

@@ -13,17 +13,17 @@ new-rectangle-requires g c =
       upper_in_range = in_range _ (upper_corner covered _ _ c.requires.covered);
     }
 
-pub get_hint-hint-requires-clause-covered : goal.get_hint-hint-requires-clause-covered
-get_hint-hint-requires-clause-covered g c =
+pub search_start-hint-requires-clause-covered : goal.search_start-hint-requires-clause-covered
+search_start-hint-requires-clause-covered g c =
     lower_corner (g.P.PlaneTests.covered c.args.tests.now) _ _ c.requires.covered
 
 pub vertices_in_shape-requires : goal.vertices_in_shape-requires
 vertices_in_shape-requires g c =
     let covered = g.P.PlaneTests.covered c.args.tests.now in
     record {
-      kept = kept_in_mesh _ _ c.s.result c.s.ensures c.recall_invariant.ensures.kept;
-      sites = sites_in_mesh _ _ c.s.result c.s.ensures (g.P.PlaneTests.sites c.args.tests.now)
-          c.recall_invariant.ensures.kept c.requires.sites;
+      kept = kept_in_mesh _ _ c.s.result c.s.ensures.state c.s.ensures.well_formed.kept;
+      sites = sites_in_mesh _ _ c.s.result c.s.ensures.state (g.P.PlaneTests.sites c.args.tests.now)
+          c.s.ensures.well_formed.kept c.requires.sites;
       own_covered = same_corners covered (place_of g.Self.Vertex.Scalar.SpadeNum.whole)
           c.new-rectangle.ensures.lower c.new-rectangle.ensures.upper c.requires.covered;
       start_covered = lower_corner covered _ _ c.requires.covered;
@@ -34,4 +34,4 @@ vertices_in_shape-requires g c =
 pub returns : goal.returns
 returns g c =
     rw (← c.new-rectangle.ensures.lower, ← c.new-rectangle.ensures.upper) (vertices_found _ _
-    c.s.result c.s.ensures _ c.vertices_in_shape.result c.vertices_in_shape.ensures)
+    c.s.result c.s.ensures.state _ c.vertices_in_shape.result c.vertices_in_shape.ensures)

@@ -6,18 +6,18 @@ use Rattle.half_edge_dcel.proofs.dcel.Dcel.pass_vertex.Goals as goal
 pub half_edge-left-requires : goal.half_edge-left-requires
 half_edge-left-requires g c =
     let middle = rw (← c.self.view_is) at c.requires in
-    let whole = rw (← c.self.view_is) at c.recall_invariant.ensures.whole in
+    let whole = rw (← c.self.view_is) at c.links.ensures.whole in
     rw c.reversed-edge.ensures (rev_within _ _ whole.valid.sound.even middle.within)
 
 pub pass-requires : goal.pass-requires
 pass-requires g c =
     let middle = rw (← c.self.view_is) at c.requires in
-    let whole = rw (← c.self.view_is) at c.recall_invariant.ensures.whole in
+    let whole = rw (← c.self.view_is) at c.links.ensures.whole in
     rw c.reversed-edge.ensures (passable whole.valid.sound middle)
 
 pub returns : goal.returns
 returns g c =
-    let whole = rw (← c.self.view_is) at c.recall_invariant.ensures.whole in
+    let whole = rw (← c.self.view_is) at c.links.ensures.whole in
     let pass = rw c.reversed-edge.ensures at c.pass.ensures in
     rw (← c.self.view_is) (record {
       was = whole;
