@@ -1,18 +1,13 @@
-//! The halves of a straight constraint, whose middle is a vertex.
+//! The ends of the constraints at a vertex.
 ghost use Rattle.std.specs.Prelude.{◌≡◌, ◌⊎◌, ◌↔◌, ◌<◌, length, IfNone, IfSome, IsTrue};
 ghost use Rattle.delaunay_paths.specs.half_edge_mesh.Mesh.{origin, rev};
 ghost use Rattle.delaunay_paths.specs.delaunay_legalization.Constraints.{constraints_by};
-ghost use Rattle.delaunay_paths.specs.delaunay_legalization.Constraints.{points_and_constraints_by};
 ghost use Rattle.delaunay_paths.specs.delaunay_legalization.Shape.{IsTriangulated};
 ghost use Rattle.delaunay_paths.specs.delaunay_legalization.State.{state_of};
-ghost use Rattle.delaunay_edit.specs.Halves.{AreHalvesAt, AreTwoEnds, IsEndBeside};
-ghost use Rattle.delaunay_edit.specs.Halves.{LeadsBeside};
+ghost use Rattle.delaunay_edit.specs.Halves.{AreTwoEnds, IsEndBeside, LeadsBeside};
 
-use delaunay_paths::delaunay_core::math::PlaneTests;
 use delaunay_paths::delaunay_core::point::HasPosition;
-use delaunay_paths::delaunay_legalization::{
-    ConstraintMarker, Placed, is_constraint_edge, is_strictly_within, position_of,
-};
+use delaunay_paths::delaunay_legalization::{ConstraintMarker, is_constraint_edge};
 use delaunay_paths::half_edge_mesh::{Dcel, FixedDirectedEdgeHandle, FixedVertexHandle, MeshViews};
 use delaunay_removal::VertexPair;
 
@@ -68,7 +63,7 @@ fn constraint_end_beside<M: ConstraintMarker<UE>, V: HasPosition, DE, UE, F>(
 }
 
 // The far ends of the constraints at a vertex, if there are exactly two.
-fn two_constraint_ends<M: ConstraintMarker<UE>, V: HasPosition, DE, UE, F>(
+pub(crate) fn two_constraint_ends<M: ConstraintMarker<UE>, V: HasPosition, DE, UE, F>(
     dcel: &Dcel<V, DE, UE, F>,
     vertex: FixedVertexHandle,
 ) -> Option<VertexPair>
@@ -82,25 +77,4 @@ fn two_constraint_ends<M: ConstraintMarker<UE>, V: HasPosition, DE, UE, F>(
         Some(_) => None,
         None => Some((first, second)),
     }
-}
-
-/// The far ends of the halves of a straight constraint whose middle is a vertex, if it is that of
-/// one.
-pub fn straight_halves<
-    M: ConstraintMarker<UE>,
-    V: HasPosition,
-    DE,
-    UE,
-    F,
-    P: PlaneTests<V::Scalar>,
->(placed: &Placed<'_, V, DE, UE, F, P>, vertex: FixedVertexHandle) -> Option<VertexPair>
-    requires { vertex < length placed.now.dcel.vertices }
-    ensures { AreHalvesAt V.place
-        (points_and_constraints_by M.constraints (state_of placed.now.dcel)) vertex result }
-{
-    let dcel = placed.dcel;
-    let (first, second) = two_constraint_ends::<M, _, _, _, _>(dcel, vertex)?;
-    let from = position_of(dcel, first);
-    let to = position_of(dcel, second);
-    is_strictly_within(from, to, position_of(dcel, vertex), placed.tests).then_some((first, second))
 }

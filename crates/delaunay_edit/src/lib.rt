@@ -9,14 +9,15 @@ pub use delaunay_paths::{
 };
 pub use delaunay_removal;
 
+mod constraint_views;
 mod counting;
 mod edge_data;
 mod halves;
 mod insertion_cases;
 mod joining;
 
-pub use counting::{count_constraints_at, count_path};
+pub use constraint_views::ConstraintViews;
+pub use counting::count_constraints_at;
 pub use edge_data::EdgeData;
-pub use halves::straight_halves;
 pub use insertion_cases::insert_at;
 pub use joining::{reserve_to_join, settle};

@@ -9,7 +9,7 @@ ghost use Rattle.delaunay_edit.specs.Counting.{HasPairs, IsMissing};
 ghost use Rattle.delaunay_edit.specs.Headline.{IsDelaunay};
 
 use crate::triangulation_core::ConstrainedDelaunayTriangulation;
-use delaunay_edit::count_path;
+use delaunay_edit::ConstraintViews;
 use delaunay_edit::delaunay_core::HintGenerator;
 use delaunay_edit::delaunay_core::math::PlaneTests;
 use delaunay_edit::delaunay_core::point::HasPosition;
@@ -110,7 +110,7 @@ impl<V: HasPosition, DE, UE, F, L: HintGenerator<V::Scalar>> ConstrainedDelaunay
             return Ok(Some(self.constrain(edge)));
         }
         let placed = Placed { dcel, tests };
-        let Some(missing) = count_path::<EdgeConstraints, _, _, _, _, _>(&placed, from, to) else {
+        let Some(missing) = placed.count_path::<EdgeConstraints>(from, to) else {
             return Ok(None);
         };
         if missing == 0 {

@@ -21,17 +21,15 @@ ghost use Rattle.delaunay_interface.specs.Views.{CanAddConstraint};
 use crate::triangulation_core::{
     ConstrainedDelaunayTriangulation, DelaunayTriangulation, TriangulationCore,
 };
-use delaunay_edit::count_path;
+use delaunay_edit::ConstraintViews;
 use delaunay_edit::delaunay_core::HintGenerator;
 use delaunay_edit::delaunay_core::math::PlaneTests;
 use delaunay_edit::delaunay_core::point::{HasPosition, Point2};
 use delaunay_edit::delaunay_legalization::{
     CdtEdge, EdgeConstraints, Placed, free_edge_data, is_constraint_edge,
 };
-use delaunay_edit::delaunay_lines::{ConflictingEdgesIterator, HasMesh, intersects_constraint};
-use delaunay_edit::delaunay_paths::{
-    can_add_path, edges_along, is_constraint_between, release_constraint,
-};
+use delaunay_edit::delaunay_lines::{ConflictViews, ConflictingEdgesIterator, HasMesh};
+use delaunay_edit::delaunay_paths::{PathViews, is_constraint_between, release_constraint};
 use delaunay_edit::half_edge_mesh::{
     FixedDirectedEdgeHandle, FixedUndirectedEdgeHandle, FixedVertexHandle, MeshViews,
 };
@@ -59,7 +57,7 @@ impl<V: HasPosition, DE, UE, F, L: HintGenerator<V::Scalar>> ConstrainedDelaunay
         ensures { IsTrue result ↔ CanAddConstraint V.place self.now from to }
     {
         let dcel = self.mesh();
-        can_add_path::<EdgeConstraints, _, _, _, _, _>(&Placed { dcel, tests }, from, to)
+        Placed { dcel, tests }.can_add_path::<EdgeConstraints>(from, to)
     }
 
     /// Makes constraints of the edges between neighbours among the vertices on the segment between
@@ -126,13 +124,13 @@ impl<V: HasPosition, DE, UE, F, L: HintGenerator<V::Scalar>> ConstrainedDelaunay
             return Ok(edges);
         }
         let placed = Placed { dcel, tests };
-        let Some(missing) = count_path::<EdgeConstraints, _, _, _, _, _>(&placed, from, to) else {
+        let Some(missing) = placed.count_path::<EdgeConstraints>(from, to) else {
             return Ok(edges);
         };
         edges.reserve(dcel.num_vertices())?;
         self.join_path(from, to, missing, tests)?;
         let dcel = self.mesh();
-        edges_along(&Placed { dcel, tests }, from, to, &mut edges);
+        Placed { dcel, tests }.edges_along(from, to, &mut edges);
         Ok(edges)
     }
 
@@ -271,8 +269,7 @@ impl<V: HasPosition, DE, UE, F, L: HintGenerator<V::Scalar>> ConstrainedDelaunay
     {
         let start = self.search_start(from, tests);
         let dcel = self.mesh();
-        let placed = Placed { dcel, tests };
-        intersects_constraint::<EdgeConstraints, _, _, _, _, _>(&placed, from, to, start)
+        Placed { dcel, tests }.intersects_constraint::<EdgeConstraints>(from, to, start)
     }
 
     /// The constraints that the segment from one position to another meets in one point strictly

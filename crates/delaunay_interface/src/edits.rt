@@ -12,7 +12,7 @@ use delaunay_edit::delaunay_core::math::{InsertionError, PlaneTests, validate_ve
 use delaunay_edit::delaunay_core::point::HasPosition;
 use delaunay_edit::delaunay_insertion::{FreeByDefault, reserve_for_vertices};
 use delaunay_edit::delaunay_legalization::Placed;
-use delaunay_edit::delaunay_location::{PositionInTriangulation, locate_with_hint};
+use delaunay_edit::delaunay_location::{LocationViews, PositionInTriangulation};
 use delaunay_edit::half_edge_mesh::FixedVertexHandle;
 use delaunay_edit::{EdgeData, insert_at};
 
@@ -78,7 +78,7 @@ impl<
             None => self.hint_generator.get_hint(position, tests),
         };
         let dcel = &self.dcel;
-        let location = locate_with_hint(&Placed { dcel, tests }, position, start);
+        let location = Placed { dcel, tests }.locate_with_hint(position, start);
         match location {
             PositionInTriangulation::OnVertex(vertex) => {
                 let _ = self.dcel.update_vertex(vertex, value);

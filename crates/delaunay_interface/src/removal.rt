@@ -12,7 +12,7 @@ use delaunay_edit::delaunay_core::point::HasPosition;
 use delaunay_edit::delaunay_legalization::Placed;
 use delaunay_edit::delaunay_removal::{VertexPair, sides_of_hole};
 use delaunay_edit::half_edge_mesh::FixedVertexHandle;
-use delaunay_edit::{EdgeData, count_constraints_at, straight_halves};
+use delaunay_edit::{ConstraintViews, EdgeData, count_constraints_at};
 use std::alloc::AllocError;
 
 impl<
@@ -55,7 +55,7 @@ impl<
             return None;
         }
         let dcel = self.mesh();
-        straight_halves::<M, _, _, _, _, _>(&Placed { dcel, tests }, vertex)
+        Placed { dcel, tests }.straight_halves::<M>(vertex)
     }
 
     // How many constraints fewer there are when a vertex goes. Where there is none it looks at no

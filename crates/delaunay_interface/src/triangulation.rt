@@ -42,7 +42,7 @@ use delaunay_edit::delaunay_core::math::{InsertionError, PlaneTests};
 use delaunay_edit::delaunay_core::point::{HasPosition, Point2};
 use delaunay_edit::delaunay_legalization::Placed;
 use delaunay_edit::delaunay_lines::HasMesh;
-use delaunay_edit::delaunay_location::{PositionInTriangulation, locate_with_hint};
+use delaunay_edit::delaunay_location::{LocationViews, PositionInTriangulation};
 use delaunay_edit::half_edge_mesh::{
     Dcel, DirectedEdgeHandle, FaceHandle, FixedDirectedEdgeHandle, FixedDirectedEdgeIterator,
     FixedFaceHandle, FixedFaceIterator, FixedUndirectedEdgeHandle, FixedUndirectedEdgeIterator,
@@ -666,7 +666,7 @@ pub trait Triangulation: Drop
             (place_of Self.Vertex.Scalar.whole point) result }
     {
         let dcel = self.s();
-        let answer = locate_with_hint(&Placed { dcel, tests }, point, hint);
+        let answer = Placed { dcel, tests }.locate_with_hint(point, hint);
         let vertex = vertex_near(dcel, &answer);
         self.hint_generator().notify_vertex_lookup(vertex);
         answer

@@ -14,7 +14,7 @@ use delaunay_location::delaunay_core::math::PlaneTests;
 use delaunay_location::delaunay_core::point::{HasPosition, Point2};
 use delaunay_location::delaunay_legalization::{Placed, is_same_point, position_of};
 use delaunay_location::half_edge_mesh::{FixedVertexHandle, MeshViews};
-use delaunay_location::{PositionInTriangulation, locate_with_hint};
+use delaunay_location::{LocationViews, PositionInTriangulation};
 
 // What a segment meets first, from the location of its start. Where its ends are one point, it is
 // the vertex there, or else the edge.
@@ -68,7 +68,7 @@ pub fn line_between<'a, V: HasPosition, DE, UE, F, P: PlaneTests<V::Scalar>>(
         (place_of V.Scalar.whole from) (place_of V.Scalar.whole to) result }
     ensures ready { IsReady V.place V.Scalar.whole P.sites P.covered result }
 {
-    let start = locate_with_hint(placed, from, hint);
+    let start = placed.locate_with_hint(from, hint);
     let current = first_from(placed, from, to, start);
     let dcel = placed.dcel;
     LineIntersectionIterator {

@@ -5,6 +5,7 @@ ghost use Rattle.std.specs.Iterator.{at_most};
 ghost use Rattle.delaunay_location.specs.delaunay_core.Place.{place_of};
 ghost use Rattle.delaunay_location.specs.delaunay_legalization.Constraints.{constraints_by};
 ghost use Rattle.delaunay_location.specs.delaunay_legalization.Known.{point_at};
+ghost use Rattle.delaunay_location.specs.delaunay_legalization.Placed.{Reading};
 ghost use Rattle.delaunay_location.specs.delaunay_legalization.State.{state_of, triangulation_of};
 ghost use Rattle.delaunay_lines.specs.Conflicts.{GivesConflict, IntersectsConstraint, IsConflictOf};
 ghost use Rattle.delaunay_lines.specs.Walk.{IsReady, WalksLine};
@@ -102,33 +103,42 @@ impl<
     }
 }
 
-/// Whether two positions differ and the segment between them meets a constraint in one point,
-/// strictly within the constraint. The search for the first position begins at the vertex `hint`,
-/// or at vertex 0 where there is no such vertex.
-pub fn intersects_constraint<
-    M: ConstraintMarker<UE>,
-    V: HasPosition,
-    DE,
-    UE,
-    F,
-    P: PlaneTests<V::Scalar>,
->(
-    placed: &Placed<'_, V, DE, UE, F, P>,
-    from: Point2<V::Scalar>,
-    to: Point2<V::Scalar>,
-    hint: FixedVertexHandle,
-) -> bool
-    requires from_covered { P.covered placed.now.tests (place_of V.Scalar.whole from) }
-    requires to_covered { P.covered placed.now.tests (place_of V.Scalar.whole to) }
-    ensures { let s = state_of placed.now.dcel in
-        IsTrue result ↔ IntersectsConstraint (triangulation_of V.place s)
-        (constraints_by M.constraints s) (place_of V.Scalar.whole from)
-        (place_of V.Scalar.whole to) }
-{
-    let mut crossed = ConflictingEdgesIterator::<M, _, _, _, _, _>::between_points(
-        placed, from, to, hint,
-    );
-    crossed.next().is_some()
+/// What crosses constraints, in a mesh with its points.
+pub trait ConflictViews<V: HasPosition, DE, UE, F, P: PlaneTests<V::Scalar>> {
+    ghost reading: { Self → Reading V DE UE F P };
+
+    /// Whether two positions differ and the segment between them meets a constraint in one point,
+    /// strictly within the constraint. The search for the first position begins at the vertex
+    /// `hint`, or at vertex 0 where there is no such vertex.
+    fn intersects_constraint<M: ConstraintMarker<UE>>(
+        &self,
+        from: Point2<V::Scalar>,
+        to: Point2<V::Scalar>,
+        hint: FixedVertexHandle,
+    ) -> bool
+        requires from_covered { P.covered (reading self.now).tests (place_of V.Scalar.whole from) }
+        requires to_covered { P.covered (reading self.now).tests (place_of V.Scalar.whole to) }
+        ensures { let s = state_of (reading self.now).dcel in
+            IsTrue result ↔ IntersectsConstraint (triangulation_of V.place s)
+            (constraints_by M.constraints s) (place_of V.Scalar.whole from)
+            (place_of V.Scalar.whole to) };
+}
+
+impl<V: HasPosition, DE, UE, F, P: PlaneTests<V::Scalar>> ConflictViews<V, DE, UE, F, P>
+    for Placed<'_, V, DE, UE, F, P> {
+    ghost reading = { λ s. s };
+
+    fn intersects_constraint<M: ConstraintMarker<UE>>(
+        &self,
+        from: Point2<V::Scalar>,
+        to: Point2<V::Scalar>,
+        hint: FixedVertexHandle,
+    ) -> bool {
+        let mut crossed = ConflictingEdgesIterator::<M, _, _, _, _, _>::between_points(
+            self, from, to, hint,
+        );
+        crossed.next().is_some()
+    }
 }
 
 impl<'a, M: ConstraintMarker<UE>, V: HasPosition, DE, UE, F, P: PlaneTests<V::Scalar>> Iterator

@@ -22,5 +22,5 @@ pub use lines::HasMesh;
 
 // For the crates of paths, of sight and of the struct, and not for users.
 pub use between::{line_between, line_between_vertices};
-pub use conflicts::intersects_constraint;
+pub use conflicts::ConflictViews;
 pub use sides::side_along;

@@ -18,4 +18,4 @@ pub use position_in_triangulation::PositionInTriangulation;
 
 // For the crates of edits, and not for users.
 pub use nearest_walk::nearest_by_neighbors;
-pub use walk::locate_with_hint;
+pub use walk::LocationViews;

@@ -1,6 +1,7 @@
 //! Where a position is, by a walk from face to face.
 ghost use Rattle.std.specs.Prelude.{◌<◌, length, map, IfSome};
 ghost use Rattle.delaunay_legalization.specs.delaunay_core.Place.{place_of};
+ghost use Rattle.delaunay_legalization.specs.Placed.{Reading};
 ghost use Rattle.delaunay_location.specs.Distances.{CanMeasure};
 ghost use Rattle.delaunay_location.specs.Location.{IsPlaceOf, Locates};
 ghost use Rattle.delaunay_location.specs.Stop.{IsWalkOf};
@@ -142,32 +143,47 @@ pub(crate) fn nearer_edge<V: HasPosition, DE, UE, F>(
     }
 }
 
-/// Where a position is: the vertex, edge or face that it is on or strictly inside of, or an edge of
-/// the outline that it is beyond. The tests have to cover the position. The search begins at the
-/// vertex `hint`, or at vertex 0 where there is no such vertex: the nearer it is, the shorter the
-/// way, and the answer is right whatever it is. It takes no memory.
-pub fn locate_with_hint<V: HasPosition, DE, UE, F, P: PlaneTests<V::Scalar>>(
-    placed: &Placed<'_, V, DE, UE, F, P>,
-    point: Point2<V::Scalar>,
-    hint: FixedVertexHandle,
-) -> PositionInTriangulation
-    requires covered { P.covered placed.now.tests (place_of V.Scalar.whole point) }
-    ensures { let d = placed.now.dcel in
-        Locates (map V.place d.vertices) d.mesh (place_of V.Scalar.whole point) result }
-{
-    let dcel = placed.dcel;
-    let vertex = if (hint.index() as usize) < dcel.num_vertices() {
-        dcel.vertex(hint)
-    } else if dcel.num_vertices() > 0 {
-        dcel.vertex(FixedVertexHandle::from_index(0))
-    } else {
-        return PositionInTriangulation::NoTriangulation;
-    };
-    let Some(start) = vertex.out_edge() else {
-        return place_by_scan(placed, point);
-    };
-    match walk_from(placed, point, start.fix()) {
-        Some(place) => place,
-        None => place_by_scan(placed, point),
+/// Where positions are, in a mesh with its points.
+pub trait LocationViews<V: HasPosition, DE, UE, F, P: PlaneTests<V::Scalar>> {
+    ghost reading: { Self → Reading V DE UE F P };
+
+    /// Where a position is: the vertex, edge or face that it is on or strictly inside of, or an
+    /// edge of the outline that it is beyond. The tests have to cover the position. The search
+    /// begins at the vertex `hint`, or at vertex 0 where there is no such vertex: the nearer it is,
+    /// the shorter the way, and the answer is right whatever it is. It takes no memory.
+    fn locate_with_hint(
+        &self,
+        point: Point2<V::Scalar>,
+        hint: FixedVertexHandle,
+    ) -> PositionInTriangulation
+        requires covered { P.covered (reading self.now).tests (place_of V.Scalar.whole point) }
+        ensures { let d = (reading self.now).dcel in
+            Locates (map V.place d.vertices) d.mesh (place_of V.Scalar.whole point) result };
+}
+
+impl<V: HasPosition, DE, UE, F, P: PlaneTests<V::Scalar>> LocationViews<V, DE, UE, F, P>
+    for Placed<'_, V, DE, UE, F, P> {
+    ghost reading = { λ s. s };
+
+    fn locate_with_hint(
+        &self,
+        point: Point2<V::Scalar>,
+        hint: FixedVertexHandle,
+    ) -> PositionInTriangulation {
+        let dcel = self.dcel;
+        let vertex = if (hint.index() as usize) < dcel.num_vertices() {
+            dcel.vertex(hint)
+        } else if dcel.num_vertices() > 0 {
+            dcel.vertex(FixedVertexHandle::from_index(0))
+        } else {
+            return PositionInTriangulation::NoTriangulation;
+        };
+        let Some(start) = vertex.out_edge() else {
+            return place_by_scan(self, point);
+        };
+        match walk_from(self, point, start.fix()) {
+            Some(place) => place,
+            None => place_by_scan(self, point),
+        }
     }
 }

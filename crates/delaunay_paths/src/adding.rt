@@ -1,39 +1,17 @@
 //! Constraints along the path between two vertices.
-ghost use Rattle.std.specs.Prelude.{◌≡◌, ◌↔◌, ◌<◌, true, length, map, All, IsTrue};
+ghost use Rattle.std.specs.Prelude.{◌≡◌, true, length, map, All};
 ghost use Rattle.delaunay_lines.specs.delaunay_legalization.Shape.{IsTriangulated};
 ghost use Rattle.delaunay_lines.specs.delaunay_legalization.State.{state_of};
-ghost use Rattle.delaunay_paths.specs.Adding.{AddsPath, CanAddPath, HasFreeWay};
+ghost use Rattle.delaunay_paths.specs.Adding.{AddsPath, HasFreeWay};
 ghost use Rattle.delaunay_paths.specs.Leaving.{IsWorkList, LeavesToTest};
 ghost use Rattle.delaunay_paths.specs.Lists.{HaveRoom};
 
 use crate::crossing::CrossingLists;
 use crate::flips::{next_turn, turn};
-use delaunay_lines::ConflictingEdgesIterator;
 use delaunay_lines::delaunay_core::math::PlaneTests;
 use delaunay_lines::delaunay_core::point::HasPosition;
 use delaunay_lines::delaunay_legalization::{ConstraintMarker, EdgeSet, Placed};
-use delaunay_lines::half_edge_mesh::{Dcel, FixedVertexHandle, MeshViews};
-
-/// Whether no constraint crosses the segment between two vertices. Where an edge joins them, a look
-/// round the first tells.
-pub fn can_add_path<M: ConstraintMarker<UE>, V: HasPosition, DE, UE, F, P: PlaneTests<V::Scalar>>(
-    placed: &Placed<'_, V, DE, UE, F, P>,
-    from: FixedVertexHandle,
-    to: FixedVertexHandle,
-) -> bool
-    requires from_in { from < length placed.now.dcel.vertices }
-    requires to_in { to < length placed.now.dcel.vertices }
-
-    ensures { IsTrue result ↔ CanAddPath V.place M.constraints placed.now.dcel from to }
-{
-    if placed.dcel.get_edge_from_neighbors(from, to).is_some() {
-        return true;
-    }
-    let mut conflicts = ConflictingEdgesIterator::<M, _, _, _, _, _>::between_vertices(
-        placed, from, to,
-    );
-    conflicts.next().is_none()
-}
+use delaunay_lines::half_edge_mesh::{Dcel, FixedVertexHandle};
 
 /// Makes constraints of the pieces of the path between two vertices, whose segment no constraint
 /// crosses: each of its vertices is joined to the next. Edges that cross a piece are flipped; each

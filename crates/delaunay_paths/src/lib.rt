@@ -11,11 +11,11 @@ mod crossing;
 mod flips;
 mod joined;
 mod nearer;
-mod path_edges;
+mod path_views;
 
 // For the crates of edits and for tests, and not for users.
-pub use adding::{add_path, can_add_path};
+pub use adding::add_path;
 pub use constraints::{constrain_edge, release_constraint};
 pub use crossing::CrossingLists;
 pub use joined::is_constraint_between;
-pub use path_edges::edges_along;
+pub use path_views::PathViews;

@@ -10,10 +10,10 @@ ghost use Rattle.delaunay_shapes.specs.ShapeSearch.{IsFloodFor};
 use crate::distance_metric::DistanceMetric;
 use crate::marks::Marks;
 use crate::shape_search::ShapeSearch;
+use delaunay_location::LocationViews;
 use delaunay_location::delaunay_core::math::PlaneTests;
 use delaunay_location::delaunay_core::point::HasPosition;
 use delaunay_location::half_edge_mesh::{FixedDirectedEdgeHandle, FixedVertexHandle, MeshViews};
-use delaunay_location::locate_with_hint;
 use std::alloc::{AllocError, Global};
 
 // The edges that a flood has asked of, and those of them that have a point in the shape, each in
@@ -149,7 +149,7 @@ impl<
         ensures begun { OnOk result (HasBegunWith (EnclosesEdge V.place M.shape self.now)
             (length self.now.dcel.undirected) flood.new.asked) }
     {
-        let location = locate_with_hint(&self.placed, self.start, hint);
+        let location = self.placed.locate_with_hint(self.start, hint);
         let starts = self.edges_at(location, alloc)?;
         for edge in starts.as_slice() {
             self.ask(edge.as_directed(), flood)?;

@@ -11,7 +11,7 @@ use crate::free_faces::FreeFaces;
 use delaunay_lines::delaunay_core::math::PlaneTests;
 use delaunay_lines::delaunay_core::point::{HasPosition, Point2};
 use delaunay_lines::delaunay_legalization::Placed;
-use delaunay_lines::delaunay_location::{PositionInTriangulation, locate_with_hint};
+use delaunay_lines::delaunay_location::{LocationViews, PositionInTriangulation};
 use delaunay_lines::half_edge_mesh::FixedVertexHandle;
 
 // Whether a position is in a closed free face. The search for it begins at the vertex `hint`, or at
@@ -26,7 +26,7 @@ pub(crate) fn is_in_free<V: HasPosition, DE, UE, F, G: FreeFaces, P: PlaneTests<
     ensures { IsTrue result ↔ IsInFree (triangulation_of V.place (state_of placed.now.dcel))
         (by_place (G.free free.now)) (fraction (place_of V.Scalar.whole point)) }
 {
-    match locate_with_hint(placed, point, hint) {
+    match placed.locate_with_hint(point, hint) {
         PositionInTriangulation::OnVertex(vertex) => is_free_round(placed.dcel, vertex, free),
         PositionInTriangulation::OnEdge(edge) => is_free_along(placed.dcel, edge, free),
         PositionInTriangulation::OnFace(face) => free.is_free(face),

@@ -7,7 +7,7 @@ use Rattle.delaunay_edit.proofs.CountingWalk.{counting_stays, crossed_half_in, c
 use Rattle.delaunay_edit.proofs.CountingWalk.{crossed_within, half_listed, half_unlisted}
 use Rattle.delaunay_edit.proofs.CountingWalk.{path_counted, path_is_barred, path_is_free}
 use Rattle.delaunay_edit.proofs.CountingWalk.{vertex_item}
-use Rattle.delaunay_edit.proofs.counting.count_path.Goals as goal
+use Rattle.delaunay_edit.proofs.constraint_views.PlacedConstraintViews.count_path.Goals as goal
 
 pub loop-item-init : goal.loop-item-init
 loop-item-init g c =
@@ -16,7 +16,7 @@ loop-item-init g c =
     line.ready line.line
 
 pub is_constraint_edge-requires : goal.is_constraint_edge-requires
-is_constraint_edge-requires g c = rw (ap (λ s. s.dcel) c.placed.view_is)
+is_constraint_edge-requires g c = rw (ap (λ s. s.dcel) c.self.view_is)
     (crossed_half_in _ _ _ _ _ _ _ c.loop-item.invariant c.in-Some.ensures.steps _
     (crossed_within _ _ c.in-EdgeIntersection.is c.in-EdgeIntersection.edge.in_range)
     c.fix.ensures.value c.as_undirected.ensures)
@@ -24,7 +24,7 @@ is_constraint_edge-requires g c = rw (ap (λ s. s.dcel) c.placed.view_is)
 pub returns-then-is_constraint_edge-clause-barred :
     goal.returns-then-is_constraint_edge-clause-barred
 returns-then-is_constraint_edge-clause-barred g c =
-    let is = rw (ap (λ s. s.dcel) c.placed.view_is) at c.is_constraint_edge.ensures in
+    let is = rw (ap (λ s. s.dcel) c.self.view_is) at c.is_constraint_edge.ensures in
     path_is_barred _ _ _ _ _ _ _ c.loop-item.invariant c.in-Some.ensures.steps
     c.in-EdgeIntersection.edge.index (crossed_item _ _ c.in-EdgeIntersection.is)
     (half_listed _ _ _ _ c.fix.ensures.value c.as_undirected.ensures
@@ -32,7 +32,7 @@ returns-then-is_constraint_edge-clause-barred g c =
 
 pub loop-item-preserved-else-is_constraint_edge : goal.loop-item-preserved-else-is_constraint_edge
 loop-item-preserved-else-is_constraint_edge g c =
-    let is = rw (ap (λ s. s.dcel) c.placed.view_is) at c.is_constraint_edge.ensures in
+    let is = rw (ap (λ s. s.dcel) c.self.view_is) at c.is_constraint_edge.ensures in
     counting_crosses _ _ _ _ _ _ _ c.loop-item.invariant c.in-Some.ensures.steps
     c.in-Some.ensures.goes.keeps c.in-EdgeIntersection.edge.index
     (crossed_within _ _ c.in-EdgeIntersection.is c.in-EdgeIntersection.edge.in_range)
@@ -43,7 +43,7 @@ loop-item-preserved-else-is_constraint_edge g c =
 pub loop-item-preserved-then-not-is_constraint_between :
     goal.loop-item-preserved-then-not-is_constraint_between
 loop-item-preserved-then-not-is_constraint_between g c =
-    let joined = rw (ap (λ s. s.dcel) c.placed.view_is) at c.is_constraint_between.ensures in
+    let joined = rw (ap (λ s. s.dcel) c.self.view_is) at c.is_constraint_between.ensures in
     counting_goes_on _ _ _ _ _ _ _ c.loop-item.invariant c.in-Some.ensures.steps _
     (vertex_item _ _ c.in-VertexIntersection.is _ c.fix-next.ensures.value)
     (search (rules, c.ne.ensures, c.if-ne.true))
@@ -53,7 +53,7 @@ loop-item-preserved-then-not-is_constraint_between g c =
 pub loop-item-preserved-else-not-is_constraint_between :
     goal.loop-item-preserved-else-not-is_constraint_between
 loop-item-preserved-else-not-is_constraint_between g c =
-    let joined = rw (ap (λ s. s.dcel) c.placed.view_is) at c.is_constraint_between.ensures in
+    let joined = rw (ap (λ s. s.dcel) c.self.view_is) at c.is_constraint_between.ensures in
     counting_goes_past _ _ _ _ _ _ _ c.loop-item.invariant c.in-Some.ensures.steps _
     (vertex_item _ _ c.in-VertexIntersection.is _ c.fix-next.ensures.value)
     (search (rules, c.ne.ensures, c.if-ne.true))

@@ -1,9 +1,9 @@
 use Rattle.delaunay_edit.proofs.CountingWalk.{IsCountingPath}
-use Rattle.delaunay_edit.proofs.counting.count_path.Given as goal
+use Rattle.delaunay_edit.proofs.constraint_views.PlacedConstraintViews.count_path.Given as goal
 
 abbrev pub invariant-loop-item : goal.invariant-loop-item
 invariant-loop-item g l = IsCountingPath g.V.HasPosition.place g.M.ConstraintMarker.marks
-    g.M.ConstraintMarker.constraints g.met.M.ConstraintMarker.constraints_are_marked l.placed.dcel
+    g.M.ConstraintMarker.constraints g.met.M.ConstraintMarker.constraints_are_marked l.self.dcel
     l.fn.from l.fn.to g.V.Scalar.SpadeNum.whole g.P.PlaneTests.sites g.P.PlaneTests.covered l.at
     l.count l.line
 

@@ -11,9 +11,9 @@ use Rattle.delaunay_paths.proofs.ListingPath.{listing_walk_along, listing_walk_c
 use Rattle.delaunay_paths.proofs.ListingPath.{listing_walk_next, listing_walk_stays}
 use Rattle.delaunay_paths.proofs.ListingPath.{listing_walk_whole}
 use Rattle.delaunay_paths.proofs.NextVertex.{vertex_item}
-use Rattle.delaunay_paths.proofs.path_edges.edges_along.Given.{Over}
-use Rattle.delaunay_paths.proofs.path_edges.edges_along.Goals.{Then-ne}
-use Rattle.delaunay_paths.proofs.path_edges.edges_along.Goals as goal
+use Rattle.delaunay_paths.proofs.path_views.PlacedPathViews.edges_along.Given.{Over}
+use Rattle.delaunay_paths.proofs.path_views.PlacedPathViews.edges_along.Goals.{Then-ne}
+use Rattle.delaunay_paths.proofs.path_views.PlacedPathViews.edges_along.Goals as goal
 
 pub returns-then-eq : goal.returns-then-eq
 returns-then-eq g c = rw c.clear.ensures.items (eqb-true _ _ (sym c.eq.ensures ∙ c.if-eq.true))
@@ -27,7 +27,7 @@ loop-item-init g c =
 
 -- the next vertex is joined to the one before
 joined : (g : Over) (c : Then-ne g)
-    → Joins (edges_of c.args.placed.now.dcel.mesh) c.loop-item.at c.fix-next.result
+    → Joins (edges_of c.args.self.now.dcel.mesh) c.loop-item.at c.fix-next.result
 joined g c = c.requires.joined _ _ (c.loop-item.invariant.listing.rest _ _
     (listing_walk_next c.loop-item.invariant c.in-Some.ensures.steps
     (vertex_item c.in-VertexIntersection.is c.fix-next.ensures.value)
@@ -35,26 +35,26 @@ joined g c = c.requires.joined _ _ (c.loop-item.invariant.listing.rest _ _
 
 pub get_edge_from_neighbors-requires : goal.get_edge_from_neighbors-requires
 get_edge_from_neighbors-requires g c =
-    rw (ap (λ s. s.dcel) c.placed.view_is) (first_joined (listing_walk_whole c.loop-item.invariant)
+    rw (ap (λ s. s.dcel) c.self.view_is) (first_joined (listing_walk_whole c.loop-item.invariant)
     (joined g (goal.at.get_edge_from_neighbors-requires g c).Then-ne))
 
 pub unreachable-requires : goal.unreachable-requires
 unreachable-requires g c =
     some_joins (listing_walk_whole c.loop-item.invariant)
     (joined g (goal.at.unreachable-requires g c).Then-ne)
-    (rw (ap (λ s. s.dcel) c.placed.view_is) at c.in_default-get_edge_from_neighbors.ensures.none)
+    (rw (ap (λ s. s.dcel) c.self.view_is) at c.in_default-get_edge_from_neighbors.ensures.none)
 
 pub push_reserved-requires : goal.push_reserved-requires
 push_reserved-requires g c =
     listing_has_room c.loop-item.invariant.listing (listing_walk_next c.loop-item.invariant
     c.in-Some.ensures.steps (vertex_item c.in-VertexIntersection.is c.fix-next.ensures.value)
     (search (rules, c.ne.ensures, c.if-ne.true)))
-    (length-map c.args.placed.now.dcel.vertices g.V.HasPosition.place) c.requires.room
+    (length-map c.args.self.now.dcel.vertices g.V.HasPosition.place) c.requires.room
     c.loop-item.edges.ok.0
 
 pub loop-item-preserved-then-ne : goal.loop-item-preserved-then-ne
 loop-item-preserved-then-ne g c =
-    let edge = rw (ap (λ s. s.dcel) c.placed.view_is) at (index_found
+    let edge = rw (ap (λ s. s.dcel) c.self.view_is) at (index_found
     c.in-Some-get_edge_from_neighbors.ensures.some c.fix.ensures.value c.fix.ensures.in_range) in
     listing_walk_goes_on c.loop-item.invariant c.in-Some.ensures.steps
     (vertex_item c.in-VertexIntersection.is c.fix-next.ensures.value)

@@ -1,10 +1,10 @@
 use Rattle.std.proofs.Common.{vec_capacity}
 use Rattle.delaunay_paths.proofs.ListingPath.{IsListingWalk}
-use Rattle.delaunay_paths.proofs.path_edges.edges_along.Given as goal
+use Rattle.delaunay_paths.proofs.path_views.PlacedPathViews.edges_along.Given as goal
 
 abbrev pub invariant-loop-item : goal.invariant-loop-item
 invariant-loop-item g l = IsListingWalk g.V.HasPosition.place g.V.Scalar.SpadeNum.whole
-    g.P.PlaneTests.sites g.P.PlaneTests.covered l.placed.dcel l.fn.from l.fn.to l.at l.edges.items
+    g.P.PlaneTests.sites g.P.PlaneTests.covered l.self.dcel l.fn.from l.fn.to l.at l.edges.items
     (vec_capacity l.fn.edges) (vec_capacity l.edges) l.line
 
 abbrev pub decreases-loop-item : goal.decreases-loop-item
