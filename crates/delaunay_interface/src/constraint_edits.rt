@@ -16,6 +16,7 @@ use delaunay_edit::delaunay_core::point::HasPosition;
 use delaunay_edit::delaunay_legalization::{
     EdgeConstraints, Placed, Sides, is_constraint_edge, legalize,
 };
+use delaunay_edit::delaunay_lines::HasMesh;
 use delaunay_edit::delaunay_paths::{add_path, constrain_edge};
 use delaunay_edit::half_edge_mesh::{FixedDirectedEdgeHandle, FixedVertexHandle, MeshViews};
 use std::alloc::AllocError;

@@ -10,6 +10,7 @@ use delaunay_edit::delaunay_core::HintGenerator;
 use delaunay_edit::delaunay_core::math::PlaneTests;
 use delaunay_edit::delaunay_core::point::HasPosition;
 use delaunay_edit::delaunay_legalization::Placed;
+use delaunay_edit::delaunay_lines::HasMesh;
 use delaunay_edit::delaunay_removal::{VertexPair, sides_of_hole};
 use delaunay_edit::half_edge_mesh::FixedVertexHandle;
 use delaunay_edit::{ConstraintViews, EdgeData, count_constraints_at};

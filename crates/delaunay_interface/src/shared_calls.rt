@@ -11,6 +11,7 @@ use delaunay_edit::delaunay_core::math::{InsertionError, PlaneTests};
 use delaunay_edit::delaunay_core::point::HasPosition;
 use delaunay_edit::delaunay_insertion::{FreeByDefault, reserve_for_vertices};
 use delaunay_edit::delaunay_legalization::EdgeSet;
+use delaunay_edit::delaunay_lines::HasMesh;
 use delaunay_edit::delaunay_paths::CrossingLists;
 use delaunay_edit::delaunay_removal::{RemovalLists, remove_vertex};
 use delaunay_edit::half_edge_mesh::{

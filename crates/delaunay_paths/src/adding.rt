@@ -11,7 +11,7 @@ use crate::flips::{next_turn, turn};
 use delaunay_lines::delaunay_core::math::PlaneTests;
 use delaunay_lines::delaunay_core::point::HasPosition;
 use delaunay_lines::delaunay_legalization::{ConstraintMarker, EdgeSet, Placed};
-use delaunay_lines::half_edge_mesh::{Dcel, FixedVertexHandle};
+use delaunay_lines::half_edge_mesh::{Dcel, FixedVertexHandle, MeshViews};
 
 /// Makes constraints of the pieces of the path between two vertices, whose segment no constraint
 /// crosses: each of its vertices is joined to the next. Edges that cross a piece are flipped; each
