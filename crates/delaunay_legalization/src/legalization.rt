@@ -100,7 +100,8 @@ pub fn push_side<V, DE, UE, F>(
     ensures edges { AreEdges dcel.now.mesh work.new.items }
     ensures capacity { work.new.room ≡ work.old.room }
 {
-    work.put(dcel.directed_edge(edge).as_undirected().fix());
+    dcel.recall_invariant();
+    work.put(edge.as_undirected());
 }
 
 /// Flips edges until each passes the circle test, but for the outer ones and the constraints, where

@@ -191,7 +191,6 @@ impl<'a, V, DE, UE, F> DirectedEdgeHandle<'a, V, DE, UE, F> {
     pub fn as_undirected(&self) -> UndirectedEdgeHandle<'a, V, DE, UE, F>
         ensures dcel { result.dcel ≡ self.now.dcel }
         ensures index { result.index ≡ self.now.index / 2 }
-        ensures whole { IsMeshWithData self.now.dcel.now }
     {
         self.dcel.recall_invariant();
         UndirectedEdgeHandle {

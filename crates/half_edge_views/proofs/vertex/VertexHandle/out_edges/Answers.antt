@@ -16,8 +16,8 @@ invariant_of-result g c =
           c.args.self.now.index _ named made.none made.some).0;
     }
 
-pub returns : goal.returns
-returns g c =
+pub returns-clause-round : goal.returns-clause-round
+returns-clause-round g c =
     let named = rw c.links.ensures.mesh at (sym c.out_edge.ensures.value) in
     let made = c.from.ensures in
     (goes_round c.from.result c.args.self.now.dcel c.links.ensures.whole made.dcel _ _ named
