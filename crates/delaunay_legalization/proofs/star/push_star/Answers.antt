@@ -6,9 +6,11 @@ use Rattle.delaunay_legalization.proofs.star.push_star.Goals as goal
 
 pub loop-edge-init : goal.loop-edge-init
 loop-edge-init g c =
-    pushing_begins {d = c.vertex.result.dcel} (ap (λ x. x.now) c.vertex.ensures.dcel)
-    (rw c.vertex.ensures.dcel at c.out_edges-edge-items.ensures.whole).valid (rw c.into_iter-edge-iterator.ensures.into_iter_gives
-    (rw c.vertex.ensures.index at c.out_edges-edge-items.ensures.round))
+    let star = c.out_edges-edge-items.ensures in
+    let here = c.vertex.ensures in
+    pushing_begins {d = c.vertex.result.dcel} (ap (λ x. x.now) here.dcel)
+    (rw here.dcel at star.whole).valid
+    (rw c.into_iter-edge-iterator.ensures.into_iter_gives (rw here.index at star.round))
     c.clear.ensures.items c.clear.ensures.room
 
 pub push_side-requires-clause-within : goal.push_side-requires-clause-within
