@@ -31,12 +31,12 @@ is_strictly_within-requires-clause-ends_apart g c =
 pub is_strictly_within-requires-clause-not_from : goal.is_strictly_within-requires-clause-not_from
 is_strictly_within-requires-clause-not_from g c =
     joined_apart _ _ _ g.met.M.ConstraintMarker.constraints_are_marked _ c.self.invariant.kept
-    c.in_ok-first.ensures.first c.position_of.ensures.place c.position_of-from.ensures.place
+    c.in_ok-first.ensures.first c.position_of-middle.ensures.place c.position_of-from.ensures.place
 
 pub is_strictly_within-requires-clause-not_to : goal.is_strictly_within-requires-clause-not_to
 is_strictly_within-requires-clause-not_to g c =
     joined_apart _ _ _ g.met.M.ConstraintMarker.constraints_are_marked _ c.self.invariant.kept
-    c.in_ok-first.ensures.second c.position_of.ensures.place c.position_of-to.ensures.place
+    c.in_ok-first.ensures.second c.position_of-middle.ensures.place c.position_of-to.ensures.place
 
 pub returns : goal.returns
 returns g c =
@@ -45,5 +45,5 @@ returns g c =
     ↔ WithinSegment (whole q.0) (whole q.1) (whole q.2)) (λ o. (
       c.position_of-from.ensures.place o,
       c.position_of-to.ensures.place o,
-      c.position_of.ensures.place o,
+      c.position_of-middle.ensures.place o,
     )) c.is_strictly_within.ensures) _ c.then_some.ensures)
