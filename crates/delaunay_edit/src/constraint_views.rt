@@ -20,7 +20,8 @@ use delaunay_paths::half_edge_mesh::FixedVertexHandle;
 use delaunay_paths::is_constraint_between;
 use delaunay_removal::VertexPair;
 
-/// The constraints that an edit makes or takes, in a mesh with its points.
+/// The constraints that an edit makes or takes, in a mesh with its points. What each call gives is
+/// said at `Placed`.
 pub trait ConstraintViews<V: HasPosition, DE, UE, F, P: PlaneTests<V::Scalar>> {
     ghost reading: { Self → Reading V DE UE F P };
 
@@ -34,14 +35,7 @@ pub trait ConstraintViews<V: HasPosition, DE, UE, F, P: PlaneTests<V::Scalar>> {
     ) -> Option<usize>
         requires ends { let vertices = (reading self.now).dcel.vertices in
             (from < length vertices) × (to < length vertices) }
-        requires apart { from ≢ to }
-        ensures barred { IfNone result
-            (¬ CanAddPath V.place M.constraints (reading self.now).dcel from to) }
-        ensures free { IfSome result
-            (λ n. CanAddPath V.place M.constraints (reading self.now).dcel from to) }
-        ensures missing { let d = (reading self.now).dcel in
-            let pairs = constraints_by M.constraints (state_of d) in
-            IfSome result (λ n. HasPairs (IsMissing (map V.place d.vertices) pairs from to) n) };
+        requires apart { from ≢ to };
 
     /// The far ends of the halves of a straight constraint whose middle is a vertex, if it is that
     /// of one.
@@ -49,10 +43,7 @@ pub trait ConstraintViews<V: HasPosition, DE, UE, F, P: PlaneTests<V::Scalar>> {
         &self,
         vertex: FixedVertexHandle,
     ) -> Option<VertexPair>
-        requires { vertex < length (reading self.now).dcel.vertices }
-        ensures { AreHalvesAt V.place
-            (points_and_constraints_by M.constraints (state_of (reading self.now).dcel)) vertex
-            result };
+        requires { vertex < length (reading self.now).dcel.vertices };
 }
 
 impl<V: HasPosition, DE, UE, F, P: PlaneTests<V::Scalar>> ConstraintViews<V, DE, UE, F, P>
@@ -63,7 +54,17 @@ impl<V: HasPosition, DE, UE, F, P: PlaneTests<V::Scalar>> ConstraintViews<V, DE,
         &self,
         from: FixedVertexHandle,
         to: FixedVertexHandle,
-    ) -> Option<usize> {
+    ) -> Option<usize>
+        requires ends { let vertices = self.now.dcel.vertices in
+            (from < length vertices) × (to < length vertices) }
+        requires apart { from ≢ to }
+        ensures barred { IfNone result (¬ CanAddPath V.place M.constraints self.now.dcel from to) }
+        ensures free { IfSome result
+            (λ n. CanAddPath V.place M.constraints self.now.dcel from to) }
+        ensures missing { let d = self.now.dcel in
+            let pairs = constraints_by M.constraints (state_of d) in
+            IfSome result (λ n. HasPairs (IsMissing (map V.place d.vertices) pairs from to) n) }
+    {
         let mut count = 0;
         let mut at = from;
         let mut line = line_between_vertices(self, from, to);
@@ -92,7 +93,11 @@ impl<V: HasPosition, DE, UE, F, P: PlaneTests<V::Scalar>> ConstraintViews<V, DE,
     fn straight_halves<M: ConstraintMarker<UE>>(
         &self,
         vertex: FixedVertexHandle,
-    ) -> Option<VertexPair> {
+    ) -> Option<VertexPair>
+        requires { vertex < length self.now.dcel.vertices }
+        ensures { AreHalvesAt V.place
+            (points_and_constraints_by M.constraints (state_of self.now.dcel)) vertex result }
+    {
         let (first, second) = two_constraint_ends::<M, _, _, _, _>(self.dcel, vertex)?;
         let from = position_of(self.dcel, first);
         let to = position_of(self.dcel, second);
