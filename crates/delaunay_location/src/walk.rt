@@ -143,7 +143,7 @@ pub(crate) fn nearer_edge<V: HasPosition, DE, UE, F>(
     }
 }
 
-/// Where positions are, in a mesh with its points.
+/// Where positions are, in a mesh with its points. What each call gives is said at `Placed`.
 pub trait LocationViews<V: HasPosition, DE, UE, F, P: PlaneTests<V::Scalar>> {
     ghost reading: { Self → Reading V DE UE F P };
 
@@ -156,9 +156,7 @@ pub trait LocationViews<V: HasPosition, DE, UE, F, P: PlaneTests<V::Scalar>> {
         point: Point2<V::Scalar>,
         hint: FixedVertexHandle,
     ) -> PositionInTriangulation
-        requires covered { P.covered (reading self.now).tests (place_of V.Scalar.whole point) }
-        ensures { let d = (reading self.now).dcel in
-            Locates (map V.place d.vertices) d.mesh (place_of V.Scalar.whole point) result };
+        requires covered { P.covered (reading self.now).tests (place_of V.Scalar.whole point) };
 }
 
 impl<V: HasPosition, DE, UE, F, P: PlaneTests<V::Scalar>> LocationViews<V, DE, UE, F, P>
@@ -169,7 +167,11 @@ impl<V: HasPosition, DE, UE, F, P: PlaneTests<V::Scalar>> LocationViews<V, DE, U
         &self,
         point: Point2<V::Scalar>,
         hint: FixedVertexHandle,
-    ) -> PositionInTriangulation {
+    ) -> PositionInTriangulation
+        requires covered { P.covered self.now.tests (place_of V.Scalar.whole point) }
+        ensures { let d = self.now.dcel in
+            Locates (map V.place d.vertices) d.mesh (place_of V.Scalar.whole point) result }
+    {
         let dcel = self.dcel;
         let vertex = if (hint.index() as usize) < dcel.num_vertices() {
             dcel.vertex(hint)
