@@ -20,8 +20,7 @@ use delaunay_paths::half_edge_mesh::FixedVertexHandle;
 use delaunay_paths::is_constraint_between;
 use delaunay_removal::VertexPair;
 
-/// The constraints that an edit makes or takes, in a mesh with its points. What each call gives is
-/// said at `Placed`.
+/// The constraints that an edit makes or takes, in a mesh with its points.
 pub trait ConstraintViews<V: HasPosition, DE, UE, F, P: PlaneTests<V::Scalar>> {
     ghost reading: { Self → Reading V DE UE F P };
 
@@ -35,7 +34,14 @@ pub trait ConstraintViews<V: HasPosition, DE, UE, F, P: PlaneTests<V::Scalar>> {
     ) -> Option<usize>
         requires ends { let vertices = (reading self.now).dcel.vertices in
             (from < length vertices) × (to < length vertices) }
-        requires apart { from ≢ to };
+        requires apart { from ≢ to }
+        ensures barred { IfNone result
+            (¬ CanAddPath V.place M.constraints (reading self.now).dcel from to) }
+        ensures free { IfSome result
+            (λ n. CanAddPath V.place M.constraints (reading self.now).dcel from to) }
+        ensures missing { let d = (reading self.now).dcel in
+            let pairs = constraints_by M.constraints (state_of d) in
+            IfSome result (λ n. HasPairs (IsMissing (map V.place d.vertices) pairs from to) n) };
 
     /// The far ends of the halves of a straight constraint whose middle is a vertex, if it is that
     /// of one.
@@ -43,7 +49,10 @@ pub trait ConstraintViews<V: HasPosition, DE, UE, F, P: PlaneTests<V::Scalar>> {
         &self,
         vertex: FixedVertexHandle,
     ) -> Option<VertexPair>
-        requires { vertex < length (reading self.now).dcel.vertices };
+        requires { vertex < length (reading self.now).dcel.vertices }
+        ensures { AreHalvesAt V.place
+            (points_and_constraints_by M.constraints (state_of (reading self.now).dcel)) vertex
+            result };
 }
 
 impl<V: HasPosition, DE, UE, F, P: PlaneTests<V::Scalar>> ConstraintViews<V, DE, UE, F, P>
@@ -54,17 +63,7 @@ impl<V: HasPosition, DE, UE, F, P: PlaneTests<V::Scalar>> ConstraintViews<V, DE,
         &self,
         from: FixedVertexHandle,
         to: FixedVertexHandle,
-    ) -> Option<usize>
-        requires ends { let vertices = self.now.dcel.vertices in
-            (from < length vertices) × (to < length vertices) }
-        requires apart { from ≢ to }
-        ensures barred { IfNone result (¬ CanAddPath V.place M.constraints self.now.dcel from to) }
-        ensures free { IfSome result
-            (λ n. CanAddPath V.place M.constraints self.now.dcel from to) }
-        ensures missing { let d = self.now.dcel in
-            let pairs = constraints_by M.constraints (state_of d) in
-            IfSome result (λ n. HasPairs (IsMissing (map V.place d.vertices) pairs from to) n) }
-    {
+    ) -> Option<usize> {
         let mut count = 0;
         let mut at = from;
         let mut line = line_between_vertices(self, from, to);
@@ -93,11 +92,7 @@ impl<V: HasPosition, DE, UE, F, P: PlaneTests<V::Scalar>> ConstraintViews<V, DE,
     fn straight_halves<M: ConstraintMarker<UE>>(
         &self,
         vertex: FixedVertexHandle,
-    ) -> Option<VertexPair>
-        requires { vertex < length self.now.dcel.vertices }
-        ensures { AreHalvesAt V.place
-            (points_and_constraints_by M.constraints (state_of self.now.dcel)) vertex result }
-    {
+    ) -> Option<VertexPair> {
         let (first, second) = two_constraint_ends::<M, _, _, _, _>(self.dcel, vertex)?;
         let from = position_of(self.dcel, first);
         let to = position_of(self.dcel, second);

@@ -10,7 +10,7 @@ use delaunay_lines::delaunay_legalization::{ConstraintMarker, Placed};
 use delaunay_lines::half_edge_mesh::{FixedDirectedEdgeHandle, FixedVertexHandle, MeshViews};
 use delaunay_lines::{ConflictingEdgesIterator, Intersection, line_between_vertices};
 
-/// The paths between vertices, in a mesh with its points. What each call gives is said at `Placed`.
+/// The paths between vertices, in a mesh with its points.
 pub trait PathViews<V: HasPosition, DE, UE, F, P: PlaneTests<V::Scalar>> {
     ghost reading: { Self → Reading V DE UE F P };
 
@@ -22,7 +22,9 @@ pub trait PathViews<V: HasPosition, DE, UE, F, P: PlaneTests<V::Scalar>> {
         to: FixedVertexHandle,
     ) -> bool
         requires from_in { from < length (reading self.now).dcel.vertices }
-        requires to_in { to < length (reading self.now).dcel.vertices };
+        requires to_in { to < length (reading self.now).dcel.vertices }
+        ensures { IsTrue result ↔
+            CanAddPath V.place M.constraints (reading self.now).dcel from to };
 
     /// The edges along the path between two vertices, in order, where each of its pieces is one, by
     /// one walk. They replace what is in `edges`, which has room for as many as there are vertices.
@@ -36,7 +38,9 @@ pub trait PathViews<V: HasPosition, DE, UE, F, P: PlaneTests<V::Scalar>> {
         requires to_in { to < length (reading self.now).dcel.vertices }
         requires joined { let d = (reading self.now).dcel in
             HasPath (map V.place d.vertices) d.mesh from to }
-        requires room { length (reading self.now).dcel.vertices ≤ vec_capacity edges.old };
+        requires room { length (reading self.now).dcel.vertices ≤ vec_capacity edges.old }
+        ensures { let d = (reading self.now).dcel in
+            LeadAlong (map V.place d.vertices) d.mesh from to edges.new.items };
 }
 
 impl<V: HasPosition, DE, UE, F, P: PlaneTests<V::Scalar>> PathViews<V, DE, UE, F, P>
@@ -47,11 +51,7 @@ impl<V: HasPosition, DE, UE, F, P: PlaneTests<V::Scalar>> PathViews<V, DE, UE, F
         &self,
         from: FixedVertexHandle,
         to: FixedVertexHandle,
-    ) -> bool
-        requires from_in { from < length self.now.dcel.vertices }
-        requires to_in { to < length self.now.dcel.vertices }
-        ensures { IsTrue result ↔ CanAddPath V.place M.constraints self.now.dcel from to }
-    {
+    ) -> bool {
         if self.dcel.get_edge_from_neighbors(from, to).is_some() {
             return true;
         }
@@ -66,15 +66,7 @@ impl<V: HasPosition, DE, UE, F, P: PlaneTests<V::Scalar>> PathViews<V, DE, UE, F
         from: FixedVertexHandle,
         to: FixedVertexHandle,
         edges: &mut Vec<FixedDirectedEdgeHandle>,
-    )
-        requires from_in { from < length self.now.dcel.vertices }
-        requires to_in { to < length self.now.dcel.vertices }
-        requires joined { let d = self.now.dcel in
-            HasPath (map V.place d.vertices) d.mesh from to }
-        requires room { length self.now.dcel.vertices ≤ vec_capacity edges.old }
-        ensures { let d = self.now.dcel in
-            LeadAlong (map V.place d.vertices) d.mesh from to edges.new.items }
-    {
+    ) {
         edges.clear();
         if from == to {
             return;
