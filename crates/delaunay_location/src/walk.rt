@@ -169,7 +169,11 @@ impl<V: HasPosition, DE, UE, F, P: PlaneTests<V::Scalar>> LocationViews<V, DE, U
         &self,
         point: Point2<V::Scalar>,
         hint: FixedVertexHandle,
-    ) -> PositionInTriangulation {
+    ) -> PositionInTriangulation
+        requires covered { P.covered self.now.tests (place_of V.Scalar.whole point) }
+        ensures { let d = self.now.dcel in
+            Locates (map V.place d.vertices) d.mesh (place_of V.Scalar.whole point) result }
+    {
         let dcel = self.dcel;
         let vertex = if (hint.index() as usize) < dcel.num_vertices() {
             dcel.vertex(hint)
