@@ -133,7 +133,14 @@ impl<V: HasPosition, DE, UE, F, P: PlaneTests<V::Scalar>> ConflictViews<V, DE, U
         from: Point2<V::Scalar>,
         to: Point2<V::Scalar>,
         hint: FixedVertexHandle,
-    ) -> bool {
+    ) -> bool
+        requires from_covered { P.covered self.now.tests (place_of V.Scalar.whole from) }
+        requires to_covered { P.covered self.now.tests (place_of V.Scalar.whole to) }
+        ensures { let s = state_of self.now.dcel in
+            IsTrue result ↔ IntersectsConstraint (triangulation_of V.place s)
+            (constraints_by M.constraints s) (place_of V.Scalar.whole from)
+            (place_of V.Scalar.whole to) }
+    {
         let mut crossed = ConflictingEdgesIterator::<M, _, _, _, _, _>::between_points(
             self, from, to, hint,
         );
