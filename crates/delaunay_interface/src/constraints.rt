@@ -154,11 +154,10 @@ impl<V: HasPosition, DE, UE, F, L: HintGenerator<V::Scalar>> ConstrainedDelaunay
         ensures releases { ReleasesConstraint V.place edge result self.old self.new }
         ensures headline { IsDelaunay V.place constraint_edges self.new }
     {
-        let dcel = self.mesh();
-        if !is_constraint_edge::<EdgeConstraints, _, _, _, _>(dcel, edge) {
+        let edges = 3 * self.mesh().num_vertices();
+        if !self.is_constraint_edge(edge) {
             return Ok(false);
         }
-        let edges = 3 * dcel.num_vertices();
         self.work.reserve(edges)?;
         let mut flips = 0;
         release_constraint::<EdgeConstraints, _, _, _, _, _>(

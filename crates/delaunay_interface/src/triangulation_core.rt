@@ -133,6 +133,7 @@ impl<V: HasPosition, DE, UE, F, L: HintGenerator<V::Scalar>, M: EdgeData<UE>> Ha
         requires sites { AreSites V.place (P.sites tests.now) self.now.vertices }
         requires covered { P.covered tests.now (place_of V.Scalar.whole position) }
     {
+        self.recall_well_formed();
         self.hint_generator.get_hint(position, tests)
     }
 

@@ -109,6 +109,7 @@ pub(crate) fn locate<T: Triangulation<Vertex = Point2<i64>>, P: PlaneTests<i64>>
         return Reply::UnknownPoint;
     }
     let answer = triangulation.locate(point, tests);
+    triangulation.recall_invariant();
     location_reply(triangulation, answer)
 }
 

@@ -20,6 +20,7 @@ loop-edit-preserved g c = (
   (λ v later. c.loop-edit.invariant.5 v
       (comes_later c.in-Some.ensures.steps.0 (Insert v) later)),
   c.make.ensures.sites,
+  c.make.ensures.headline,
 )
 
 pub returns-clause-answers : goal.returns-clause-answers

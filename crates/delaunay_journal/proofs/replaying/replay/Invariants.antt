@@ -2,7 +2,7 @@ use Rattle.std.proofs.Common.{◌≡◌, ◌≤◌, ◌+◌, length, vec_capacit
 use Rattle.std.specs.Prelude.{Contains}
 use Rattle.std.specs.Vec.Iter.{into_iter_items}
 use Rattle.delaunay_interface.specs.plane.Tests.{InRange}
-use Rattle.delaunay_interface.specs.Headline.{AreSites}
+use Rattle.delaunay_interface.specs.Headline.{AreSites, IsDelaunay}
 use Rattle.delaunay_journal.specs.declared.edit.Edit.TheVariants.{Insert}
 use Rattle.delaunay_journal.proofs.Runs.{IsReplayed}
 use Rattle.delaunay_journal.proofs.replaying.replay.Given as goal
@@ -22,3 +22,5 @@ invariant-loop-edit g l =
     g.P.PlaneTests.sites l.tests (g.T.Vertex.HasPosition.place v))
     × AreSites g.T.Vertex.HasPosition.place (g.P.PlaneTests.sites l.tests)
     (g.T.Triangulation.state l.points).vertices
+    × IsDelaunay g.T.Vertex.HasPosition.place g.T.Constraints.ConstraintMarker.constraints
+    (g.T.Triangulation.state l.points)

@@ -1,4 +1,4 @@
-use Rattle.std.proofs.Common.{◌+◌, ◌/◌, length, refl, ap, arith}
+use Rattle.std.proofs.Common.{◌+◌, ◌/◌, ◌∙◌, length, refl, sym, ap, subst, arith}
 use Rattle.std.specs.Prelude.{Contains}
 use Rattle.delaunay_edit.specs.delaunay_legalization.CdtEdge.{is_constraint}
 use Rattle.delaunay_edit.specs.delaunay_legalization.State.{state_of}
@@ -17,8 +17,9 @@ use Rattle.delaunay_interface.proofs.constraint_edits.ConstrainedDelaunayTriangu
 -- the edge was no constraint
 free : (g : Over) (c : After-constrain_edge g)
     → ¬ Contains (constraint_edges c.self.inside.dcel.undirected) (c.args.edge / 2)
-free g c there = both_ways _ (c.is_constraint_edge.ensures.1 (rw c.as_undirected.ensures there))
-    c.if-is_constraint_edge.false
+free g c there = both_ways _ (c.is_constraint_edge.ensures.1 (rw c.as_undirected.ensures
+    (subst (λ s. Contains (constraint_edges s.undirected) (c.args.edge / 2))
+    (c.self.view_is ∙ sym c.mesh.ensures.state) there))) c.if-is_constraint_edge.false
 
 -- and there is one more
 counted : (g : Over) (c : After-constrain_edge g) → IsCounted g.V.HasPosition.place
@@ -29,17 +30,18 @@ counted g c = counted_added is_constraint (λ ds. refl) c.self.invariant.0
 
 pub is_constraint_edge-requires : goal.is_constraint_edge-requires
 is_constraint_edge-requires g c =
-    let fits = c.self.invariant.0.legal.kept.fits in
+    let fits = (rw (← c.mesh.ensures.state) at c.mesh.ensures.well_formed.kept).fits in
     let edges = fits.undirected_fit in
     let directed = fits.directed_fit in
-    let within = rw (← c.self.view_is) at c.requires in
+    let within = rw (← c.mesh.ensures.state) at c.requires in
     let half = c.as_undirected.ensures in
     omega (arith, edges, directed, within, half)
 
 pub returns-then-is_constraint_edge-clause-adds : goal.returns-then-is_constraint_edge-clause-adds
 returns-then-is_constraint_edge-clause-adds g c =
-    rw (← c.self.view_is) (none_added g.V.HasPosition.place c.self.inside.dcel
-    c.self.invariant.0.legal.kept c.args.edge (rw (← c.self.view_is) at c.requires)
+    rw (← c.mesh.ensures.state) (none_added g.V.HasPosition.place c.mesh.result.now
+    (rw (← c.mesh.ensures.state) at c.mesh.ensures.well_formed.kept) c.args.edge
+    (rw (← c.mesh.ensures.state) at c.requires)
     (rw c.as_undirected.ensures at (c.is_constraint_edge.ensures.0 c.if-is_constraint_edge.true)))
 
 pub overflow_add-self : goal.overflow_add-self

@@ -1,4 +1,4 @@
-use Rattle.std.proofs.Common.{◌+◌, length, refl, ap, arith}
+use Rattle.std.proofs.Common.{◌+◌, ◌∙◌, length, refl, sym, ap, arith}
 use Rattle.std.specs.Prelude.{true}
 use Rattle.delaunay_edit.specs.delaunay_legalization.CdtEdge.{is_constraint, with_mark}
 use Rattle.delaunay_edit.specs.delaunay_legalization.State.{state_of}
@@ -33,7 +33,8 @@ counted g c = counted_added is_constraint (λ ds. refl) c.self.invariant.0 (adde
 pub add_path-requires-clause-room : goal.add_path-requires-clause-room
 add_path-requires-clause-room g c =
     let few = c.self.invariant.0.legal.kept.few_edges in
-    let all = c.num_vertices-edges.ensures.value in (
+    let all = c.num_vertices-edges.ensures.value
+    ∙ ap (λ s. length s.vertices) (c.mesh.ensures.state ∙ sym c.self.view_is) in (
       cleared_work _ _ _ _ few (rw all at c.in_ok-reserve.ensures.room) c.clear.ensures.room
           c.clear.ensures.items,
       fewer_fit _ _ _ few (rw all at c.in_ok-reserve-2.ensures),

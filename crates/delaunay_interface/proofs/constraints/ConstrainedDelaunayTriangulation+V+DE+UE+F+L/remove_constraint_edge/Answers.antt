@@ -17,7 +17,7 @@ returns-then-not-is_constraint_edge-clause-releases g c =
 
 pub returns-then-not-is_constraint_edge-clause-headline :
     goal.returns-then-not-is_constraint_edge-clause-headline
-returns-then-not-is_constraint_edge-clause-headline g c = c.mesh-dcel.ensures.well_formed.headline
+returns-then-not-is_constraint_edge-clause-headline g c = c.mesh.ensures.well_formed.headline
 
 pub release_constraint-requires-clause-constraint :
     goal.release_constraint-requires-clause-constraint
@@ -28,7 +28,7 @@ release_constraint-requires-clause-constraint g c =
 pub release_constraint-requires-clause-sites : goal.release_constraint-requires-clause-sites
 release_constraint-requires-clause-sites g c =
     (rw (← c.self.view_is) at c.requires.sites)
-    (rw (← c.self.view_is) at c.mesh-dcel.ensures.well_formed.in_range)
+    (rw (← c.self.view_is) at c.mesh.ensures.well_formed.in_range)
 
 pub returns-in_err-reserve-clause-releases : goal.returns-in_err-reserve-clause-releases
 returns-in_err-reserve-clause-releases g c =

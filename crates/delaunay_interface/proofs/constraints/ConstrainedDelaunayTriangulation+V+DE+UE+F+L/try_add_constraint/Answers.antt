@@ -18,19 +18,19 @@ returns-then-eq-clause-path g c =
 
 pub returns-in_err-push-clause-none : goal.returns-in_err-push-clause-none
 returns-in_err-push-clause-none g c =
-    let kept = c.self.invariant.0.legal.kept in
+    let kept = rw (← c.mesh-dcel.ensures.state) at c.mesh-dcel.ensures.well_formed.kept in
     let found = index_found c.in-Some.ensures.some c.fix-edge.ensures.value
     c.fix-edge.ensures.in_range in
-    let free = joined_is_free g.V.HasPosition.place (state_of c.self.inside.dcel) kept
+    let free = joined_is_free g.V.HasPosition.place (state_of c.mesh-dcel.result.now) kept
     c.fix-edge.result (rw kept.fits.directed_fit at found.0) is_constraint constraint_edges
     (λ ds. refl) c.args.from c.args.to found.1 found.2 in
     λ barred. absurd (elim barred as (λ _. ⊥) [
       | inl same ↦ both_ways _ (c.eq.ensures ∙ eq-eqb _ _ same) c.if-eq.false
-      | inr none ↦ none (rw (← c.self.view_is) free)
+      | inr none ↦ none (rw (← c.mesh-dcel.ensures.state) free)
     ])
 
 pub constrain-requires : goal.constrain-requires
-constrain-requires g c = rw (← c.self.view_is) (index_found c.in-Some.ensures.some
+constrain-requires g c = rw (← c.mesh-dcel.ensures.state) (index_found c.in-Some.ensures.some
     c.fix-edge.ensures.value c.fix-edge.ensures.in_range).0
 
 pub returns-in-Some-clause-path : goal.returns-in-Some-clause-path
@@ -40,37 +40,38 @@ returns-in-Some-clause-path g c =
     let found = index_found c.in-Some.ensures.some c.fix-edge.ensures.value
     c.fix-edge.ensures.in_range in
     let kept = c.mesh-dcel.ensures.well_formed.kept in
-    let within : edge < length old.directed = rw (← c.self.view_is) found.0 in
+    let within : edge < length old.directed = rw (← c.mesh-dcel.ensures.state) found.0 in
     let listed = edge_listed c.constrain.ensures.adds kept (rw kept.fits.directed_fit at within)
     c.constrain.ensures.mesh _ (c.in_ok-push.ensures.items
     ∙ ap (λ (hs : List ℕ). hs ++ edge ∷ []) c.new-edges.ensures.items) in
     list_renamed g.V.HasPosition.place old c.constrain.new.self _ (origin old.mesh edge)
     (origin old.mesh (rev edge)) c.args.from c.args.to
-    (rw (← c.self.view_is) found.1) (rw (← c.self.view_is) found.2) listed
+    (rw (← c.mesh-dcel.ensures.state) found.1) (rw (← c.mesh-dcel.ensures.state) found.2) listed
 
 pub returns-in_default-count_path-clause-path : goal.returns-in_default-count_path-clause-path
 returns-in_default-count_path-clause-path g c =
     none_listed _ _ _ _ _ c.new-edges.ensures.items
-    (inr (rw (← c.self.view_is) c.in_default-count_path.ensures.barred))
+    (inr (rw (← c.mesh-dcel.ensures.state) c.in_default-count_path.ensures.barred))
 
 pub join_path-requires-clause-free : goal.join_path-requires-clause-free
-join_path-requires-clause-free g c = rw (← c.self.view_is) c.in-Some-count_path.ensures.free
+join_path-requires-clause-free g c =
+    rw (← c.mesh-dcel.ensures.state) c.in-Some-count_path.ensures.free
 
 pub returns-in_err-reserve-clause-none : goal.returns-in_err-reserve-clause-none
 returns-in_err-reserve-clause-none g c = λ barred. absurd (elim barred as (λ _. ⊥) [
   | inl same ↦ both_ways _ (c.eq.ensures ∙ eq-eqb _ _ same) c.if-eq.false
-  | inr none ↦ none (rw (← c.self.view_is) c.in-Some-count_path.ensures.free)
+  | inr none ↦ none (rw (← c.mesh-dcel.ensures.state) c.in-Some-count_path.ensures.free)
 ])
 
 pub returns-in_err-join_path-clause-none : goal.returns-in_err-join_path-clause-none
 returns-in_err-join_path-clause-none g c = λ barred. absurd (elim barred as (λ _. ⊥) [
   | inl same ↦ both_ways _ (c.eq.ensures ∙ eq-eqb _ _ same) c.if-eq.false
-  | inr none ↦ none (rw (← c.self.view_is) c.in-Some-count_path.ensures.free)
+  | inr none ↦ none (rw (← c.mesh-dcel.ensures.state) c.in-Some-count_path.ensures.free)
 ])
 
 pub edges_along-requires-clause-joined : goal.edges_along-requires-clause-joined
 edges_along-requires-clause-joined g c =
-    rw (← c.self-2.view_is) at (path_is_there g.V.HasPosition.place c.args.self.now
+    rw (← c.mesh-dcel-2.ensures.state) at (path_is_there g.V.HasPosition.place c.args.self.now
     c.join_path.new.self c.args.from c.args.to c.in_ok-join_path.ensures.plain
     c.in_ok-join_path.ensures.headline)
 
@@ -78,9 +79,9 @@ pub returns-clause-path : goal.returns-clause-path
 returns-clause-path g c = record {
   refused = λ barred. absurd (elim barred as (λ _. ⊥) [
     | inl same ↦ both_ways _ (c.eq.ensures ∙ eq-eqb _ _ same) c.if-eq.false
-    | inr none ↦ none (rw (← c.self.view_is) c.in-Some-count_path.ensures.free)
+    | inr none ↦ none (rw (← c.mesh-dcel.ensures.state) c.in-Some-count_path.ensures.free)
   ]);
   plain = λ apart free. c.in_ok-join_path.ensures.plain;
-  along = λ apart free. rw (← c.self-2.view_is) c.edges_along.ensures;
+  along = λ apart free. rw (← c.mesh-dcel-2.ensures.state) c.edges_along.ensures;
   «data» = c.in_ok-join_path.ensures.«data»;
 }

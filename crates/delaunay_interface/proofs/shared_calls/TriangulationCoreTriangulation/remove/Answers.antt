@@ -1,4 +1,4 @@
-use Rattle.std.proofs.Common.{◌*◌, ◌≤◌, length, arith}
+use Rattle.std.proofs.Common.{◌*◌, ◌≤◌, ◌∙◌, length, sym, ap, arith}
 use Rattle.std.proofs.lemmas.Bool.{eqb-true}
 use Rattle.std.proofs.lemmas.Option.{IfSome_then}
 use Rattle.delaunay_edit.specs.delaunay_legalization.State.{state_of}
@@ -65,7 +65,8 @@ settle-requires-clause-room g c =
     fewer_left _ g.M.ConstraintMarker.constraints (state_of c.self.inside.dcel)
     (state_of c.remove_vertex-removed.new.dcel) _ c.remove_vertex-removed.result
     c.remove_vertex-removed.ensures.takes.plain in
-    let size = c.num_vertices-edges.ensures.value in
+    let size = c.num_vertices-edges.ensures.value
+    ∙ ap (λ s. length s.vertices) (c.s.ensures.state ∙ sym c.self.view_is) in
     let room = c.in_ok-reserve.ensures.room in
     let tested = c.in_ok-reserve_for.ensures.tested in
     let same = c.remove_vertex-removed.ensures.capacity in

@@ -1,4 +1,4 @@
-use Rattle.std.proofs.Common.{◌≡◌, ℕ, length, eqb, refl, sym, ◌∙◌, inl, inr}
+use Rattle.std.proofs.Common.{◌≡◌, ℕ, length, eqb, refl, sym, ap, ◌∙◌, inl, inr}
 use Rattle.std.specs.Prelude.{◌↔◌, IsTrue}
 use Rattle.std.proofs.lemmas.Bool.{eq-eqb, eqb-true}
 use Rattle.std.proofs.lemmas.List.{nil_from_length}
@@ -6,6 +6,7 @@ use Rattle.delaunay_edit.specs.plane.Side.{left, on}
 use Rattle.delaunay_edit.specs.plane.Tiling.{Triangulation, IsTiling, vertex}
 use Rattle.delaunay_edit.proofs.plane_delaunay.Circles.EmptyCircles.{no_face}
 use Rattle.delaunay_edit.proofs.plane_delaunay.Tilings.Ground.{tiling}
+use Rattle.delaunay_edit.proofs.Counts.{count_of_faces}
 use Rattle.delaunay_interface.specs.Views.{AreOnLine}
 use Rattle.delaunay_interface.proofs.triangulation.Triangulation.all_vertices_on_line.Goals as goal
 
@@ -27,5 +28,6 @@ line_by_faces t (inr line) n count = (
 
 pub returns : goal.returns
 returns g c =
-    line_by_faces _ c.s.ensures.well_formed.headline.tiling _
-    (faces_counted _ _ _ c.num_inner_faces.ensures.value c.s.ensures.state)
+    let well = c.s.ensures.well_formed in
+    line_by_faces _ well.headline.tiling _ (c.num_inner_faces.ensures.value
+    ∙ ap (λ s. length s.faces) c.s.ensures.state ∙ count_of_faces _ _ well.kept)

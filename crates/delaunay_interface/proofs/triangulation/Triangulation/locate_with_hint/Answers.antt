@@ -7,5 +7,6 @@ vertex_near-vertex-requires g c =
     c.s-dcel.ensures.state c.locate_with_hint-answer.ensures
 
 pub returns : goal.returns
-returns g c = finds_in _ _ c.s-dcel.ensures.well_formed.kept _ _ c.s-dcel.result.now c.s-dcel.ensures.state
+returns g c =
+    finds_in _ _ c.s-dcel.ensures.well_formed.kept _ _ c.s-dcel.result.now c.s-dcel.ensures.state
     c.locate_with_hint-answer.ensures

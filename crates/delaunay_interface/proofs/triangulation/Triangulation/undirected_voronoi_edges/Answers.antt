@@ -4,4 +4,5 @@ use Rattle.delaunay_interface.proofs.triangulation.Triangulation.undirected_voro
 
 pub returns : goal.returns
 returns g c =
-    gives_all c.s.result (λ s. length s.undirected) c.undirected_voronoi_edges.ensures c.s.ensures.state
+    gives_all c.s.result (λ s. length s.undirected) c.undirected_voronoi_edges.ensures
+    c.s.ensures.state
