@@ -15,7 +15,7 @@ use delaunay_paths::delaunay_core::point::HasPosition;
 use delaunay_paths::delaunay_legalization::{
     ConstraintMarker, Placed, is_constraint_edge, is_strictly_within, position_of,
 };
-use delaunay_paths::delaunay_lines::{Intersection, line_between_vertices};
+use delaunay_paths::delaunay_lines::{Intersection, LineViews};
 use delaunay_paths::half_edge_mesh::FixedVertexHandle;
 use delaunay_paths::is_constraint_between;
 use delaunay_removal::VertexPair;
@@ -66,7 +66,7 @@ impl<V: HasPosition, DE, UE, F, P: PlaneTests<V::Scalar>> ConstraintViews<V, DE,
     ) -> Option<usize> {
         let mut count = 0;
         let mut at = from;
-        let mut line = line_between_vertices(self, from, to);
+        let mut line = self.line_between_vertices(from, to);
         while let Some(item) = line.next() {
             match item {
                 Intersection::EdgeIntersection(edge) => {

@@ -28,7 +28,7 @@ use delaunay_edit::delaunay_core::point::{HasPosition, Point2};
 use delaunay_edit::delaunay_legalization::{
     CdtEdge, EdgeConstraints, Placed, free_edge_data, is_constraint_edge,
 };
-use delaunay_edit::delaunay_lines::{ConflictViews, ConflictingEdgesIterator, HasMesh};
+use delaunay_edit::delaunay_lines::{ConflictingEdgesIterator, HasMesh, LineViews};
 use delaunay_edit::delaunay_paths::{PathViews, is_constraint_between, release_constraint};
 use delaunay_edit::half_edge_mesh::{
     FixedDirectedEdgeHandle, FixedUndirectedEdgeHandle, FixedVertexHandle, MeshViews,

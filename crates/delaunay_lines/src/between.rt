@@ -1,18 +1,24 @@
-//! The walk along a segment, from wherever its start is.
-ghost use Rattle.std.specs.Prelude.{◌<◌, length, map};
+//! What a segment meets, from wherever its start is.
+ghost use Rattle.std.specs.Prelude.{◌↔◌, ◌<◌, length, map, IsTrue};
 ghost use Rattle.delaunay_location.specs.delaunay_core.Place.{place_of};
-ghost use Rattle.delaunay_location.specs.delaunay_legalization.State.{state_of};
+ghost use Rattle.delaunay_location.specs.delaunay_legalization.Constraints.{constraints_by};
+ghost use Rattle.delaunay_location.specs.delaunay_legalization.Placed.{Reading};
+ghost use Rattle.delaunay_location.specs.delaunay_legalization.State.{state_of, triangulation_of};
 ghost use Rattle.delaunay_location.specs.Location.{Locates};
+ghost use Rattle.delaunay_lines.specs.Conflicts.{IntersectsConstraint};
 ghost use Rattle.delaunay_lines.specs.Over.{BeginsWith};
 ghost use Rattle.delaunay_lines.specs.Walk.{IsReady, WalksBetween, WalksLine};
 
+use crate::conflicts::ConflictingEdgesIterator;
 use crate::intersection::FixedIntersection;
 use crate::iterator::LineIntersectionIterator;
 use crate::outside::{first_along, first_on_outline, first_past, if_seen};
 use crate::starts::{first_in_face, first_on_edge};
 use delaunay_location::delaunay_core::math::PlaneTests;
 use delaunay_location::delaunay_core::point::{HasPosition, Point2};
-use delaunay_location::delaunay_legalization::{Placed, is_same_point, position_of};
+use delaunay_location::delaunay_legalization::{
+    ConstraintMarker, Placed, is_same_point, position_of,
+};
 use delaunay_location::half_edge_mesh::{FixedVertexHandle, MeshViews};
 use delaunay_location::{LocationViews, PositionInTriangulation};
 
@@ -54,53 +60,111 @@ fn first_from<V: HasPosition, DE, UE, F, P: PlaneTests<V::Scalar>>(
     }
 }
 
-/// What the segment from one position to another meets. Where it starts is looked for from the
-/// vertex `hint` on, or from vertex 0 where there is no such vertex.
-pub fn line_between<'a, V: HasPosition, DE, UE, F, P: PlaneTests<V::Scalar>>(
-    placed: &Placed<'a, V, DE, UE, F, P>,
-    from: Point2<V::Scalar>,
-    to: Point2<V::Scalar>,
-    hint: FixedVertexHandle,
-) -> LineIntersectionIterator<'a, V, DE, UE, F, P>
-    requires from_covered { P.covered placed.now.tests (place_of V.Scalar.whole from) }
-    requires to_covered { P.covered placed.now.tests (place_of V.Scalar.whole to) }
-    ensures line { WalksLine V.place V.Scalar.whole (state_of placed.now.dcel)
-        (place_of V.Scalar.whole from) (place_of V.Scalar.whole to) result }
-    ensures ready { IsReady V.place V.Scalar.whole P.sites P.covered result }
-{
-    let start = placed.locate_with_hint(from, hint);
-    let current = first_from(placed, from, to, start);
-    let dcel = placed.dcel;
-    LineIntersectionIterator {
-        dcel,
-        tests: placed.tests,
-        from,
-        to,
-        current,
-        left: dcel.num_vertices() + dcel.num_undirected_edges(),
-    }
+/// What segments meet, in a mesh with its points. What each call gives is said at `Placed`.
+pub trait LineViews<'a, V: HasPosition, DE, UE, F, P: PlaneTests<V::Scalar>> {
+    ghost reading: { Self → Reading V DE UE F P };
+
+    /// What the segment from one position to another meets. Where it starts is looked for from the
+    /// vertex `hint` on, or from vertex 0 where there is no such vertex.
+    fn line_between(
+        &self,
+        from: Point2<V::Scalar>,
+        to: Point2<V::Scalar>,
+        hint: FixedVertexHandle,
+    ) -> LineIntersectionIterator<'a, V, DE, UE, F, P>
+        requires from_covered { P.covered (reading self.now).tests (place_of V.Scalar.whole from) }
+        requires to_covered { P.covered (reading self.now).tests (place_of V.Scalar.whole to) };
+
+    /// What the segment from one vertex to another meets, from the vertex on: of a vertex to
+    /// itself, that vertex alone.
+    fn line_between_vertices(
+        &self,
+        from: FixedVertexHandle,
+        to: FixedVertexHandle,
+    ) -> LineIntersectionIterator<'a, V, DE, UE, F, P>
+        requires from_in { from < length (reading self.now).dcel.vertices }
+        requires to_in { to < length (reading self.now).dcel.vertices };
+
+    /// Whether two positions differ and the segment between them meets a constraint in one point,
+    /// strictly within the constraint. The search for the first position begins at the vertex
+    /// `hint`, or at vertex 0 where there is no such vertex.
+    fn intersects_constraint<M: ConstraintMarker<UE>>(
+        &self,
+        from: Point2<V::Scalar>,
+        to: Point2<V::Scalar>,
+        hint: FixedVertexHandle,
+    ) -> bool
+        requires from_covered { P.covered (reading self.now).tests (place_of V.Scalar.whole from) }
+        requires to_covered { P.covered (reading self.now).tests (place_of V.Scalar.whole to) };
 }
 
-/// What the segment from one vertex to another meets, from the vertex on: of a vertex to itself,
-/// that vertex alone.
-pub fn line_between_vertices<'a, V: HasPosition, DE, UE, F, P: PlaneTests<V::Scalar>>(
-    placed: &Placed<'a, V, DE, UE, F, P>,
-    from: FixedVertexHandle,
-    to: FixedVertexHandle,
-) -> LineIntersectionIterator<'a, V, DE, UE, F, P>
-    requires from_in { from < length placed.now.dcel.vertices }
-    requires to_in { to < length placed.now.dcel.vertices }
-    ensures line { WalksBetween V.place V.Scalar.whole (state_of placed.now.dcel) from to result }
-    ensures ready { IsReady V.place V.Scalar.whole P.sites P.covered result }
-{
-    let dcel = placed.dcel;
-    let (start, end) = (position_of(dcel, from), position_of(dcel, to));
-    LineIntersectionIterator {
-        dcel,
-        tests: placed.tests,
-        from: start,
-        to: end,
-        current: Some(FixedIntersection::Vertex(from)),
-        left: dcel.num_vertices() + dcel.num_undirected_edges(),
+impl<'a, V: HasPosition, DE, UE, F, P: PlaneTests<V::Scalar>> LineViews<'a, V, DE, UE, F, P>
+    for Placed<'a, V, DE, UE, F, P> {
+    ghost reading = { λ s. s };
+
+    fn line_between(
+        &self,
+        from: Point2<V::Scalar>,
+        to: Point2<V::Scalar>,
+        hint: FixedVertexHandle,
+    ) -> LineIntersectionIterator<'a, V, DE, UE, F, P>
+        requires from_covered { P.covered self.now.tests (place_of V.Scalar.whole from) }
+        requires to_covered { P.covered self.now.tests (place_of V.Scalar.whole to) }
+        ensures line { WalksLine V.place V.Scalar.whole (state_of self.now.dcel)
+            (place_of V.Scalar.whole from) (place_of V.Scalar.whole to) result }
+        ensures ready { IsReady V.place V.Scalar.whole P.sites P.covered result }
+    {
+        let start = self.locate_with_hint(from, hint);
+        let current = first_from(self, from, to, start);
+        let dcel = self.dcel;
+        LineIntersectionIterator {
+            dcel,
+            tests: self.tests,
+            from,
+            to,
+            current,
+            left: dcel.num_vertices() + dcel.num_undirected_edges(),
+        }
+    }
+
+    fn line_between_vertices(
+        &self,
+        from: FixedVertexHandle,
+        to: FixedVertexHandle,
+    ) -> LineIntersectionIterator<'a, V, DE, UE, F, P>
+        requires from_in { from < length self.now.dcel.vertices }
+        requires to_in { to < length self.now.dcel.vertices }
+        ensures line { WalksBetween V.place V.Scalar.whole (state_of self.now.dcel) from to result }
+        ensures ready { IsReady V.place V.Scalar.whole P.sites P.covered result }
+    {
+        let dcel = self.dcel;
+        let (start, end) = (position_of(dcel, from), position_of(dcel, to));
+        LineIntersectionIterator {
+            dcel,
+            tests: self.tests,
+            from: start,
+            to: end,
+            current: Some(FixedIntersection::Vertex(from)),
+            left: dcel.num_vertices() + dcel.num_undirected_edges(),
+        }
+    }
+
+    fn intersects_constraint<M: ConstraintMarker<UE>>(
+        &self,
+        from: Point2<V::Scalar>,
+        to: Point2<V::Scalar>,
+        hint: FixedVertexHandle,
+    ) -> bool
+        requires from_covered { P.covered self.now.tests (place_of V.Scalar.whole from) }
+        requires to_covered { P.covered self.now.tests (place_of V.Scalar.whole to) }
+        ensures { let s = state_of self.now.dcel in
+            IsTrue result ↔ IntersectsConstraint (triangulation_of V.place s)
+            (constraints_by M.constraints s) (place_of V.Scalar.whole from)
+            (place_of V.Scalar.whole to) }
+    {
+        let mut crossed = ConflictingEdgesIterator::<M, _, _, _, _, _>::between_points(
+            self, from, to, hint,
+        );
+        crossed.next().is_some()
     }
 }

@@ -1,16 +1,13 @@
 //! The constraints that a segment crosses.
-ghost use Rattle.std.specs.Prelude.{◌↔◌, ◌/◌, ◌<◌, length, map, Contains};
-ghost use Rattle.std.specs.Prelude.{IfNone, IsTrue};
+ghost use Rattle.std.specs.Prelude.{◌/◌, ◌<◌, length, map, Contains, IfNone};
 ghost use Rattle.std.specs.Iterator.{at_most};
 ghost use Rattle.delaunay_location.specs.delaunay_core.Place.{place_of};
-ghost use Rattle.delaunay_location.specs.delaunay_legalization.Constraints.{constraints_by};
 ghost use Rattle.delaunay_location.specs.delaunay_legalization.Known.{point_at};
-ghost use Rattle.delaunay_location.specs.delaunay_legalization.Placed.{Reading};
-ghost use Rattle.delaunay_location.specs.delaunay_legalization.State.{state_of, triangulation_of};
-ghost use Rattle.delaunay_lines.specs.Conflicts.{GivesConflict, IntersectsConstraint, IsConflictOf};
+ghost use Rattle.delaunay_location.specs.delaunay_legalization.State.{state_of};
+ghost use Rattle.delaunay_lines.specs.Conflicts.{GivesConflict, IsConflictOf};
 ghost use Rattle.delaunay_lines.specs.Walk.{IsReady, WalksLine};
 
-use crate::between::{line_between, line_between_vertices};
+use crate::between::LineViews;
 use crate::intersection::Intersection;
 use crate::iterator::LineIntersectionIterator;
 use delaunay_location::delaunay_core::math::PlaneTests;
@@ -77,7 +74,7 @@ impl<
         ensures ready { IsReady V.place V.Scalar.whole P.sites P.covered result.line }
     {
         ConflictingEdgesIterator {
-            line: line_between_vertices(placed, from, to),
+            line: placed.line_between_vertices(from, to),
             marks: PhantomData,
         }
     }
@@ -97,50 +94,9 @@ impl<
         ensures ready { IsReady V.place V.Scalar.whole P.sites P.covered result.line }
     {
         ConflictingEdgesIterator {
-            line: line_between(placed, from, to, hint),
+            line: placed.line_between(from, to, hint),
             marks: PhantomData,
         }
-    }
-}
-
-/// What crosses constraints, in a mesh with its points. What each call gives is said at `Placed`.
-pub trait ConflictViews<V: HasPosition, DE, UE, F, P: PlaneTests<V::Scalar>> {
-    ghost reading: { Self → Reading V DE UE F P };
-
-    /// Whether two positions differ and the segment between them meets a constraint in one point,
-    /// strictly within the constraint. The search for the first position begins at the vertex
-    /// `hint`, or at vertex 0 where there is no such vertex.
-    fn intersects_constraint<M: ConstraintMarker<UE>>(
-        &self,
-        from: Point2<V::Scalar>,
-        to: Point2<V::Scalar>,
-        hint: FixedVertexHandle,
-    ) -> bool
-        requires from_covered { P.covered (reading self.now).tests (place_of V.Scalar.whole from) }
-        requires to_covered { P.covered (reading self.now).tests (place_of V.Scalar.whole to) };
-}
-
-impl<V: HasPosition, DE, UE, F, P: PlaneTests<V::Scalar>> ConflictViews<V, DE, UE, F, P>
-    for Placed<'_, V, DE, UE, F, P> {
-    ghost reading = { λ s. s };
-
-    fn intersects_constraint<M: ConstraintMarker<UE>>(
-        &self,
-        from: Point2<V::Scalar>,
-        to: Point2<V::Scalar>,
-        hint: FixedVertexHandle,
-    ) -> bool
-        requires from_covered { P.covered self.now.tests (place_of V.Scalar.whole from) }
-        requires to_covered { P.covered self.now.tests (place_of V.Scalar.whole to) }
-        ensures { let s = state_of self.now.dcel in
-            IsTrue result ↔ IntersectsConstraint (triangulation_of V.place s)
-            (constraints_by M.constraints s) (place_of V.Scalar.whole from)
-            (place_of V.Scalar.whole to) }
-    {
-        let mut crossed = ConflictingEdgesIterator::<M, _, _, _, _, _>::between_points(
-            self, from, to, hint,
-        );
-        crossed.next().is_some()
     }
 }
 

@@ -21,6 +21,5 @@ pub use iterator::LineIntersectionIterator;
 pub use lines::HasMesh;
 
 // For the crates of paths, of sight and of the struct, and not for users.
-pub use between::{line_between, line_between_vertices};
-pub use conflicts::ConflictViews;
+pub use between::LineViews;
 pub use sides::side_along;

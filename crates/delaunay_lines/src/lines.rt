@@ -7,7 +7,7 @@ ghost use Rattle.delaunay_location.specs.delaunay_legalization.Shape.{IsTriangul
 ghost use Rattle.delaunay_location.specs.delaunay_legalization.State.{State, state_of};
 ghost use Rattle.delaunay_lines.specs.Walk.{IsReady, WalksLine};
 
-use crate::between::{line_between, line_between_vertices};
+use crate::between::LineViews;
 use crate::iterator::LineIntersectionIterator;
 use delaunay_location::delaunay_core::math::PlaneTests;
 use delaunay_location::delaunay_core::point::{HasPosition, Point2};
@@ -70,7 +70,7 @@ impl<'a, V: HasPosition, DE, UE, F, P: PlaneTests<V::Scalar>> LineIntersectionIt
             dcel: triangulation.mesh(),
             tests,
         };
-        line_between(&placed, from, to, start)
+        placed.line_between(from, to, start)
     }
 
     /// What the segment from one vertex to another meets, from the first vertex on: of a vertex to
@@ -95,6 +95,6 @@ impl<'a, V: HasPosition, DE, UE, F, P: PlaneTests<V::Scalar>> LineIntersectionIt
             dcel: triangulation.mesh(),
             tests,
         };
-        line_between_vertices(&placed, from, to)
+        placed.line_between_vertices(from, to)
     }
 }

@@ -6,7 +6,7 @@ use delaunay_lines::delaunay_core::math::PlaneTests;
 use delaunay_lines::delaunay_core::point::HasPosition;
 use delaunay_lines::delaunay_legalization::Placed;
 use delaunay_lines::half_edge_mesh::{FixedDirectedEdgeHandle, FixedVertexHandle};
-use delaunay_lines::{Intersection, line_between_vertices};
+use delaunay_lines::{Intersection, LineViews};
 use std::alloc::{AllocError, Global};
 
 /// The lists of the edges that cross a segment, each from its right to its left. What stands in
@@ -62,7 +62,7 @@ impl CrossingLists {
         }
         self.waiting.clear();
         self.unseen.clear();
-        let mut line = line_between_vertices(placed, from, to);
+        let mut line = placed.line_between_vertices(from, to);
         while let Some(item) = line.next() {
             match item {
                 Intersection::EdgeIntersection(edge) => {

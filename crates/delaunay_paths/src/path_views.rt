@@ -8,7 +8,7 @@ use delaunay_lines::delaunay_core::math::PlaneTests;
 use delaunay_lines::delaunay_core::point::HasPosition;
 use delaunay_lines::delaunay_legalization::{ConstraintMarker, Placed};
 use delaunay_lines::half_edge_mesh::{FixedDirectedEdgeHandle, FixedVertexHandle, MeshViews};
-use delaunay_lines::{ConflictingEdgesIterator, Intersection, line_between_vertices};
+use delaunay_lines::{ConflictingEdgesIterator, Intersection, LineViews};
 
 /// The paths between vertices, in a mesh with its points.
 pub trait PathViews<V: HasPosition, DE, UE, F, P: PlaneTests<V::Scalar>> {
@@ -72,7 +72,7 @@ impl<V: HasPosition, DE, UE, F, P: PlaneTests<V::Scalar>> PathViews<V, DE, UE, F
             return;
         }
         let mut at = from;
-        let mut line = line_between_vertices(self, from, to);
+        let mut line = self.line_between_vertices(from, to);
         while let Some(item) = line.next() {
             match item {
                 Intersection::EdgeIntersection(_) => {}

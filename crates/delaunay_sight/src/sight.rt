@@ -15,7 +15,7 @@ use delaunay_lines::delaunay_core::math::PlaneTests;
 use delaunay_lines::delaunay_core::point::{HasPosition, Point2};
 use delaunay_lines::delaunay_legalization::Placed;
 use delaunay_lines::half_edge_mesh::FixedVertexHandle;
-use delaunay_lines::{HasMesh, line_between};
+use delaunay_lines::{HasMesh, LineViews};
 
 // Whether a segment passes free faces at each item that it meets. The search for its start begins
 // at the vertex `hint`.
@@ -32,7 +32,7 @@ fn goes_free<'a, V: HasPosition, DE, UE, F, G: FreeFaces, P: PlaneTests<V::Scala
         (by_place (G.free free.now)) (fraction (place_of V.Scalar.whole from))
         (fraction (place_of V.Scalar.whole to)) result }
 {
-    let mut line = line_between(placed, from, to, hint);
+    let mut line = placed.line_between(from, to, hint);
     let sight = Sight {
         dcel: line.dcel,
         free,

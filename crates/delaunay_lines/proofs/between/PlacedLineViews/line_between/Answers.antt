@@ -1,15 +1,15 @@
 use Rattle.std.proofs.Common.{arith}
 use Rattle.delaunay_lines.proofs.Advance.{is_ready, walks_line}
-use Rattle.delaunay_lines.proofs.between.line_between.Goals as goal
+use Rattle.delaunay_lines.proofs.between.PlacedLineViews.line_between.Goals as goal
 
 pub returns : goal.returns
 returns g c =
-    let first = rw (← c.placed.view_is) at c.first_from-current.ensures in
-    let covered = rw (← c.placed.view_is) at c.requires in
-    rw (← c.placed.view_is) record {
+    let first = rw (← c.self.view_is) at c.first_from-current.ensures in
+    let covered = rw (← c.self.view_is) at c.requires in
+    rw (← c.self.view_is) record {
       line = walks_line first;
       ready = is_ready first (record {
-        placed = c.placed.invariant;
+        placed = c.self.invariant;
         from_covered = covered.from_covered;
         to_covered = covered.to_covered;
       }) (search arith);

@@ -1,5 +1,5 @@
 use Rattle.delaunay_lines.proofs.Intersecting.{first_decides}
-use Rattle.delaunay_lines.proofs.conflicts.PlacedConflictViews.intersects_constraint.Goals as goal
+use Rattle.delaunay_lines.proofs.between.PlacedLineViews.intersects_constraint.Goals as goal
 
 pub returns : goal.returns
 returns g c =
