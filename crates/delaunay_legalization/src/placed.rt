@@ -2,12 +2,16 @@
 ghost use Rattle.std.specs.Prelude.{◌≡◌, ◌↔◌, ◌<◌, ◌≤◌, length, map, IsTrue};
 ghost use Rattle.mesh_embedding.specs.half_edge_mesh.Mesh.{origin, prev, face_edge, rev};
 ghost use Rattle.mesh_embedding.specs.half_edge_mesh.Triangles.{triangle_at};
+ghost use Rattle.mesh_embedding.specs.plane.Fraction.{whole as fraction};
+ghost use Rattle.mesh_embedding.specs.plane.Pairs.{place};
+ghost use Rattle.mesh_embedding.specs.plane.Side.{side};
 ghost use Rattle.mesh_embedding.specs.Legal.{IsFailing};
 ghost use Rattle.delaunay_core.specs.Place.{place_of};
 ghost use Rattle.delaunay_legalization.specs.Known.{point_at};
 ghost use Rattle.delaunay_legalization.specs.Parts.{IsMeshFace};
 
 use crate::legalization::position_of;
+use delaunay_core::line_side_info::LineSideInfo;
 use delaunay_core::math::PlaneTests;
 use delaunay_core::point::{HasPosition, Point2};
 use mesh_embedding::half_edge_mesh::{Dcel, FixedDirectedEdgeHandle, FixedFaceHandle, MeshViews};
@@ -96,6 +100,24 @@ impl<'a, V: HasPosition, DE, UE, F, P: PlaneTests<V::Scalar>> Placed<'a, V, DE, 
             position_of(self.dcel, second),
             position_of(self.dcel, third),
         )
+    }
+
+    /// The side of a point that the tests cover, as seen along an edge.
+    pub fn side_along(
+        &self,
+        edge: FixedDirectedEdgeHandle,
+        point: Point2<V::Scalar>,
+    ) -> LineSideInfo
+        requires within { edge < length self.now.dcel.directed }
+        requires covered { P.covered self.now.tests (place_of V.Scalar.whole point) }
+        ensures { let points = map V.place self.now.dcel.vertices in let m = self.now.dcel.mesh in
+            result ≡ side (place points (origin m edge)) (place points (origin m (rev edge)))
+            (fraction (place_of V.Scalar.whole point)) }
+    {
+        let here = self.dcel.directed_edge(edge);
+        let start = position_of(self.dcel, here.from().fix());
+        let end = position_of(self.dcel, here.to().fix());
+        self.tests.side(start, end, point)
     }
 
     // Whether an edge lies between two inner faces, of which one has its third corner inside the

@@ -3,7 +3,6 @@ ghost use Rattle.delaunay_lines.specs.Over.{GoesOnTo, IsAtItem};
 ghost use Rattle.delaunay_lines.specs.declared.intersection.FixedIntersection.TheVariants.{Edge, Overlap};
 
 use crate::intersection::FixedIntersection;
-use crate::sides::side_along;
 use delaunay_location::delaunay_core::math::PlaneTests;
 use delaunay_location::delaunay_core::point::{HasPosition, Point2};
 use delaunay_location::delaunay_legalization::{
@@ -27,7 +26,7 @@ pub(crate) fn after_crossing<V: HasPosition, DE, UE, F, P: PlaneTests<V::Scalar>
     if here.is_outer_edge() {
         return None;
     }
-    let end = side_along(placed, edge, to);
+    let end = placed.side_along(edge, to);
     if end.is_on_line() {
         return None;
     }
@@ -39,7 +38,7 @@ pub(crate) fn after_crossing<V: HasPosition, DE, UE, F, P: PlaneTests<V::Scalar>
     } else {
         here.next().fix()
     };
-    if side_along(placed, exit, to).is_on_left_side() {
+    if placed.side_along(exit, to).is_on_left_side() {
         return None;
     }
     if side.is_on_line() {

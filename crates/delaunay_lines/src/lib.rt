@@ -11,7 +11,6 @@ mod intersection;
 mod iterator;
 mod lines;
 mod outside;
-mod sides;
 mod starts;
 mod vertex;
 
@@ -22,4 +21,3 @@ pub use lines::HasMesh;
 
 // For the crates of paths, of sight and of the struct, and not for users.
 pub use between::LineViews;
-pub use sides::side_along;

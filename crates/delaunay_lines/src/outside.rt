@@ -12,7 +12,6 @@ ghost use Rattle.delaunay_lines.specs.Starts.{IsNearestOf, IsOnSegment};
 ghost use Rattle.delaunay_lines.specs.Outline.{IsIfSeen, IsSeenOuter, IsTurningPoint};
 
 use crate::intersection::FixedIntersection;
-use crate::sides::side_along;
 use delaunay_location::delaunay_core::math::PlaneTests;
 use delaunay_location::delaunay_core::point::{HasPosition, Point2, SpadeNum};
 use delaunay_location::delaunay_legalization::{
@@ -64,8 +63,8 @@ fn is_crossed<V: HasPosition, DE, UE, F, P: PlaneTests<V::Scalar>>(
     {
         return false;
     }
-    side_along(placed, edge, from).is_on_right_side_or_on_line()
-        && side_along(placed, edge, to).is_on_left_side_or_on_line()
+    placed.side_along(edge, from).is_on_right_side_or_on_line()
+        && placed.side_along(edge, to).is_on_left_side_or_on_line()
 }
 
 // Whether a point is on a segment.
@@ -207,7 +206,7 @@ pub(crate) fn if_seen<V: HasPosition, DE, UE, F, P: PlaneTests<V::Scalar>>(
     ensures { IsIfSeen (map V.place placed.now.dcel.vertices) placed.now.dcel.mesh
         (place_of V.Scalar.whole from) edge result }
 {
-    if side_along(placed, edge, from).is_on_left_side() {
+    if placed.side_along(edge, from).is_on_left_side() {
         return Some(edge);
     }
     None
@@ -257,7 +256,7 @@ fn first_at<V: HasPosition, DE, UE, F, P: PlaneTests<V::Scalar>>(
     let here = placed.dcel.directed_edge(edge);
     let start = placed.tests.side(from, to, placed.start_of(edge));
     let end = placed.tests.side(from, to, placed.end_of(edge));
-    if side_along(placed, edge, to).is_on_left_side() {
+    if placed.side_along(edge, to).is_on_left_side() {
         return None;
     }
     if end.is_on_right_side() {
@@ -290,7 +289,7 @@ pub(crate) fn first_along<V: HasPosition, DE, UE, F, P: PlaneTests<V::Scalar>>(
     ensures { BeginsWith V.place V.Scalar.whole placed.now from to result }
 {
     let steps = placed.dcel.num_directed_edges();
-    if side_along(placed, edge, to).is_on_left_side() {
+    if placed.side_along(edge, to).is_on_left_side() {
         return None;
     }
     let mut here = edge;

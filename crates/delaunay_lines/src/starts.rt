@@ -5,7 +5,6 @@ ghost use Rattle.delaunay_lines.specs.Over.{AreEnds, BeginsWith, IsFromInside};
 ghost use Rattle.delaunay_lines.specs.Starts.{GoesOver, StartsWithin};
 
 use crate::intersection::FixedIntersection;
-use crate::sides::side_along;
 use crate::vertex::is_ahead;
 use delaunay_location::delaunay_core::math::PlaneTests;
 use delaunay_location::delaunay_core::point::{HasPosition, Point2};
@@ -26,7 +25,7 @@ pub(crate) fn first_on_edge<V: HasPosition, DE, UE, F, P: PlaneTests<V::Scalar>>
     ensures { BeginsWith V.place V.Scalar.whole placed.now from to (Some result) }
 {
     let twin = placed.dcel.directed_edge(edge).rev().fix();
-    let side = side_along(placed, edge, to);
+    let side = placed.side_along(edge, to);
     if side.is_on_left_side() {
         return FixedIntersection::Edge(edge);
     }
@@ -99,7 +98,7 @@ pub(crate) fn first_in_face<V: HasPosition, DE, UE, F, P: PlaneTests<V::Scalar>>
 {
     let exit = edge_over(placed, from, to, edge);
     let here = placed.dcel.directed_edge(exit);
-    if side_along(placed, exit, to).is_on_left_side() {
+    if placed.side_along(exit, to).is_on_left_side() {
         return None;
     }
     if placed

@@ -8,7 +8,6 @@ ghost use Rattle.delaunay_lines.specs.Steps.{IsInCone};
 ghost use Rattle.delaunay_lines.specs.declared.intersection.FixedIntersection.TheVariants.{Vertex};
 
 use crate::intersection::FixedIntersection;
-use crate::sides::side_along;
 use delaunay_location::delaunay_core::math::PlaneTests;
 use delaunay_location::delaunay_core::point::{HasPosition, Point2, SpadeNum};
 use delaunay_location::delaunay_legalization::{
@@ -55,8 +54,10 @@ fn is_in_cone<V: HasPosition, DE, UE, F, P: PlaneTests<V::Scalar>>(
 {
     let here = placed.dcel.directed_edge(edge);
     !here.is_outer_edge()
-        && side_along(placed, edge, position).is_on_left_side()
-        && side_along(placed, here.prev().fix(), position).is_on_left_side()
+        && placed.side_along(edge, position).is_on_left_side()
+        && placed
+            .side_along(here.prev().fix(), position)
+            .is_on_left_side()
 }
 
 // What a segment meets after a vertex: an edge along it, nothing where it ends at the vertex or
@@ -83,7 +84,7 @@ pub(crate) fn after_vertex<V: HasPosition, DE, UE, F, P: PlaneTests<V::Scalar>>(
         }
         if is_in_cone(placed, to, edge) {
             let far = here.next().fix();
-            if side_along(placed, far, to).is_on_left_side() {
+            if placed.side_along(far, to).is_on_left_side() {
                 return None;
             }
             return Some(FixedIntersection::Edge(far.rev()));

@@ -15,7 +15,7 @@ use delaunay_lines::delaunay_core::math::PlaneTests;
 use delaunay_lines::delaunay_core::point::{HasPosition, Point2};
 use delaunay_lines::delaunay_legalization::Placed;
 use delaunay_lines::half_edge_mesh::{Dcel, DirectedEdgeHandle, FixedDirectedEdgeHandle};
-use delaunay_lines::{Intersection, LineIntersectionIterator, side_along};
+use delaunay_lines::{Intersection, LineIntersectionIterator};
 use std::marker::Model;
 
 /// A segment over the mesh of a triangulation with free faces, and tests that cover its ends and
@@ -81,8 +81,8 @@ impl<'a, V: HasPosition, DE, UE, F, G: FreeFaces, P: PlaneTests<V::Scalar>> Sigh
             dcel: self.dcel,
             tests: self.tests,
         };
-        self.is_free_unless_on(twin, side_along(&placed, twin, self.from))
-            && self.is_free_unless_on(edge, side_along(&placed, edge, self.to))
+        self.is_free_unless_on(twin, placed.side_along(twin, self.from))
+            && self.is_free_unless_on(edge, placed.side_along(edge, self.to))
     }
 
     // Whether those that it has beside an item that it meets are: one of the two beside an edge
