@@ -1,5 +1,5 @@
 -- The vertices of a list, each with its place and its key, before and after their sort.
--- Notions: key_of, IsTrueOf, ArePlaced; key_by, none_placed, one_placed, sorted_is_listed.
+-- Notions: key_of, IsTrueOf, AreKeyed; key_by, none_keyed, one_keyed, sorted_is_listed.
 use Rattle.std.proofs.Common.{◌≡◌, ◌+◌, ◌-◌, ◌<◌, ◌≤◌, [], ◌∷◌, ◌++◌, ◌∙◌}
 use Rattle.std.proofs.Common.{ℕ, ℤ, zero, suc, List, length, map, Some, false}
 use Rattle.std.proofs.Common.{rules, sym, ap, subst, refl, arith, append_assoc, length-append}
@@ -19,7 +19,7 @@ use Rattle.std.proofs.lemmas.Option.{slice_get-get_or}
 use Rattle.delaunay_interface.specs.plane.Fraction.{Point}
 use Rattle.delaunay_bulk.specs.Curve.{key_at}
 use Rattle.delaunay_bulk.specs.Order.{IsListed, IsOrder, entry_of}
-use Rattle.delaunay_bulk.specs.declared.order.Placed.{Placed}
+use Rattle.delaunay_bulk.specs.declared.order.Keyed.{Keyed}
 use Rattle.delaunay_bulk.proofs.Orders.{no_place, one_place_more, reordered}
 
 -- where keys do not fall, and places do not fall where two neighbours have one key, places do not
@@ -75,23 +75,23 @@ module _ {V : Type 0} (place : V → Point) where
   key_of v = key_at (place v).x (place v).y
 
   -- an entry is of the vertex at its place in a list
-  pub record IsTrueOf (vertices : List V) (p : Placed V) : Type 0 where
+  pub record IsTrueOf (vertices : List V) (p : Keyed V) : Type 0 where
     pub there : slice_get vertices p.place ≡ Some p.vertex
     pub key : p.key ≡ key_of p.vertex
 
   -- the first vertices of a list have their entries, in their order, and these are left
-  pub record ArePlaced (vertices left : List V) (placed : List (Placed V)) : Type 0 where
+  pub record AreKeyed (vertices left : List V) (keyed : List (Keyed V)) : Type 0 where
     pub before : List V
     pub split : vertices ≡ before ++ left
-    pub so_many : length before ≡ length placed
-    pub order : IsOrder (length placed) (map (λ p. p.place) placed)
-    pub true_of : All (IsTrueOf vertices) placed
-    pub rise : IsNonDecreasingBy (λ (p : Placed V). p.place) placed
+    pub so_many : length before ≡ length keyed
+    pub order : IsOrder (length keyed) (map (λ p. p.place) keyed)
+    pub true_of : All (IsTrueOf vertices) keyed
+    pub rise : IsNonDecreasingBy (λ (p : Keyed V). p.place) keyed
 
-  pub none_placed : (vertices left : List V) (placed : List (Placed V)) → left ≡ vertices
-      → placed ≡ [] → ArePlaced vertices left placed
-  none_placed vertices left placed all none =
-      subst (λ (ps : List (Placed V)). ArePlaced vertices left ps) (sym none) (record {
+  pub none_keyed : (vertices left : List V) (keyed : List (Keyed V)) → left ≡ vertices
+      → keyed ≡ [] → AreKeyed vertices left keyed
+  none_keyed vertices left keyed all none =
+      subst (λ (ps : List (Keyed V)). AreKeyed vertices left ps) (sym none) (record {
         before = [];
         split = sym all;
         so_many = refl;
@@ -100,78 +100,78 @@ module _ {V : Type 0} (place : V → Point) where
         rise = λ i j d le b. absurd (omega (arith, b));
       })
 
-  module _ {vertices left rest : List V} {placed : List (Placed V)} {v : V} {e : Placed V}
-      (is : left ≡ v ∷ rest) (a : ArePlaced vertices left placed) (key : e.key ≡ key_of v)
-      (at : e.place ≡ length placed) (vertex : e.vertex ≡ v) where
+  module _ {vertices left rest : List V} {keyed : List (Keyed V)} {v : V} {e : Keyed V}
+      (is : left ≡ v ∷ rest) (a : AreKeyed vertices left keyed) (key : e.key ≡ key_of v)
+      (at : e.place ≡ length keyed) (vertex : e.vertex ≡ v) where
     split_later : vertices ≡ (a.before ++ v ∷ []) ++ rest
     split_later = a.split ∙ ap (λ (xs : List V). a.before ++ xs) is
         ∙ sym (append_assoc a.before (v ∷ []) rest)
 
     -- the vertex is in the list, at the number of entries
-    read : slice_get vertices (length placed) ≡ Some v
+    read : slice_get vertices (length keyed) ≡ Some v
     read =
         let size : length vertices ≡ (length a.before + 1) + length rest =
         ap (λ (xs : List V). length xs) split_later ∙ length-append (a.before ++ v ∷ []) rest
         ∙ ap (λ (n : ℕ). n + length rest) (length_push a.before v) in
         let many = a.so_many in
-        slice_get-get_or vertices (length placed) v (omega (arith, size, many))
-        ∙ ap Some (ap (λ (xs : List V). slice_index_or xs (length placed) v) split_later
-        ∙ get_or_append_left (a.before ++ v ∷ []) rest v (length placed)
+        slice_get-get_or vertices (length keyed) v (omega (arith, size, many))
+        ∙ ap Some (ap (λ (xs : List V). slice_index_or xs (length keyed) v) split_later
+        ∙ get_or_append_left (a.before ++ v ∷ []) rest v (length keyed)
         (omega (arith, many, length_push a.before v))
-        ∙ get_or_push a.before v v (length placed) many)
+        ∙ get_or_push a.before v v (length keyed) many)
 
-    last_below : (d : Placed V) → 0 < length placed
-        → (slice_index_or placed (length placed - 1) d).place ≤ e.place
+    last_below : (d : Keyed V) → 0 < length keyed
+        → (slice_index_or keyed (length keyed - 1) d).place ≤ e.place
     last_below d some =
-        let below = a.order.below (length placed - 1) 0
-        (omega (arith, some, length-map placed (λ (p : Placed V). p.place))) in
-        let same = get_or-map (λ (p : Placed V). p.place) placed (length placed - 1) d 0
+        let below = a.order.below (length keyed - 1) 0
+        (omega (arith, some, length-map keyed (λ (p : Keyed V). p.place))) in
+        let same = get_or-map (λ (p : Keyed V). p.place) keyed (length keyed - 1) d 0
         (omega (arith, some)) in
         omega (arith, below, same, at)
 
-    one_more : ArePlaced vertices rest (placed ++ e ∷ [])
+    one_more : AreKeyed vertices rest (keyed ++ e ∷ [])
     one_more = record {
       before = a.before ++ v ∷ [];
       split = split_later;
       so_many = let many = a.so_many in
-          omega (arith, length_push a.before v, length_push placed e, many);
-      order = subst (λ (n : ℕ). IsOrder n (map (λ p. p.place) (placed ++ e ∷ [])))
-          (sym (length_push placed e)) (subst (λ (xs : List ℕ). IsOrder (length placed + 1) xs)
-          (sym (map-append (λ (p : Placed V). p.place) placed (e ∷ [])
-          ∙ ap (λ (n : ℕ). map (λ (p : Placed V). p.place) placed ++ n ∷ []) at))
-          (one_place_more (length placed) (map (λ p. p.place) placed) a.order));
-      true_of = All-push (IsTrueOf vertices) placed e a.true_of (record {
+          omega (arith, length_push a.before v, length_push keyed e, many);
+      order = subst (λ (n : ℕ). IsOrder n (map (λ p. p.place) (keyed ++ e ∷ [])))
+          (sym (length_push keyed e)) (subst (λ (xs : List ℕ). IsOrder (length keyed + 1) xs)
+          (sym (map-append (λ (p : Keyed V). p.place) keyed (e ∷ [])
+          ∙ ap (λ (n : ℕ). map (λ (p : Keyed V). p.place) keyed ++ n ∷ []) at))
+          (one_place_more (length keyed) (map (λ p. p.place) keyed) a.order));
+      true_of = All-push (IsTrueOf vertices) keyed e a.true_of (record {
         there = ap (slice_get vertices) at ∙ read ∙ ap Some (sym vertex);
         key = key ∙ ap key_of (sym vertex);
       });
-      rise = IsNonDecreasingBy-push (λ (p : Placed V). p.place) placed e a.rise last_below;
+      rise = IsNonDecreasingBy-push (λ (p : Keyed V). p.place) keyed e a.rise last_below;
     }
 
-    pub one_placed : {more : List (Placed V)} → more ≡ placed ++ e ∷ []
-        → ArePlaced vertices rest more
-    one_placed pushed = subst (λ (ps : List (Placed V)). ArePlaced vertices rest ps) (sym pushed)
+    pub one_keyed : {more : List (Keyed V)} → more ≡ keyed ++ e ∷ []
+        → AreKeyed vertices rest more
+    one_keyed pushed = subst (λ (ps : List (Keyed V)). AreKeyed vertices rest ps) (sym pushed)
         one_more
 
-  fused : (ps : List (Placed V))
-      → map (λ (e : ℕ × V). e.0) (map entry_of ps) ≡ map (λ (p : Placed V). p.place) ps
+  fused : (ps : List (Keyed V))
+      → map (λ (e : ℕ × V). e.0) (map entry_of ps) ≡ map (λ (p : Keyed V). p.place) ps
   fused [] = refl
   fused (p ∷ ps) = ap (λ (ns : List ℕ). p.place ∷ ns) (fused ps)
 
-  module _ {vertices left : List V} {placed sorted : List (Placed V)}
-      (a : ArePlaced vertices left placed) (none : length left ≡ 0)
-      (moved : IsPermutation placed sorted)
-      (up : IsNonDecreasingBy (λ (p : Placed V). p.key) sorted)
-      (stable : IsStableByKey (λ (p : Placed V). p.key) nat_cmp placed sorted) where
+  module _ {vertices left : List V} {keyed sorted : List (Keyed V)}
+      (a : AreKeyed vertices left keyed) (none : length left ≡ 0)
+      (moved : IsPermutation keyed sorted)
+      (up : IsNonDecreasingBy (λ (p : Keyed V). p.key) sorted)
+      (stable : IsStableByKey (λ (p : Keyed V). p.key) nat_cmp keyed sorted) where
     still_true : All (IsTrueOf vertices) sorted
-    still_true = All-permutation (IsTrueOf vertices) placed sorted moved a.true_of
+    still_true = All-permutation (IsTrueOf vertices) keyed sorted moved a.true_of
 
-    rise_at : (i j : ℕ) (d : Placed V) → i < j → j < length sorted
+    rise_at : (i j : ℕ) (d : Keyed V) → i < j → j < length sorted
         → place (slice_index_or sorted i d).vertex ≡ place (slice_index_or sorted j d).vertex
         → (slice_index_or sorted i d).place ≤ (slice_index_or sorted j d).place
-    rise_at i j d less within same = far_ties (λ (p : Placed V). p.key)
-        (λ (p : Placed V). p.place) sorted up
-        (ties_still_rise (λ (p : Placed V). p.place) (λ (p : Placed V). p.key) placed sorted
-        (sorted_from_rise (λ (p : Placed V). p.place) placed a.rise) stable)
+    rise_at i j d less within same = far_ties (λ (p : Keyed V). p.key)
+        (λ (p : Keyed V). p.place) sorted up
+        (ties_still_rise (λ (p : Keyed V). p.place) (λ (p : Keyed V). p.key) keyed sorted
+        (sorted_from_rise (λ (p : Keyed V). p.place) keyed a.rise) stable)
         i (j - i) j d (omega (arith, less)) within
         ((still_true i d (omega (arith, less, within))).key
         ∙ ap (λ (q : Point). key_at q.x q.y) same ∙ sym (still_true j d within).key)
@@ -182,19 +182,19 @@ module _ {V : Type 0} (place : V → Point) where
           let many = a.so_many in
           let size : length vertices ≡ length a.before + length left =
           ap (λ (xs : List V). length xs) a.split ∙ length-append a.before left in
-          let e : length placed ≡ length vertices = omega (arith, size, many, none) in
+          let e : length keyed ≡ length vertices = omega (arith, size, many, none) in
           subst (λ (n : ℕ). IsOrder n (map (λ (e : ℕ × V). e.0) (map entry_of sorted))) e
-          (subst (λ (ns : List ℕ). IsOrder (length placed) ns) (sym (fused sorted))
-          (reordered (length placed) (map (λ (p : Placed V). p.place) placed)
-          (map (λ (p : Placed V). p.place) sorted)
-          (IsPermutation-map (λ (p : Placed V). p.place) placed sorted moved) a.order));
+          (subst (λ (ns : List ℕ). IsOrder (length keyed) ns) (sym (fused sorted))
+          (reordered (length keyed) (map (λ (p : Keyed V). p.place) keyed)
+          (map (λ (p : Keyed V). p.place) sorted)
+          (IsPermutation-map (λ (p : Keyed V). p.place) keyed sorted moved) a.order));
       there = All-map (λ (e : ℕ × V). slice_get vertices e.0 ≡ Some e.1) entry_of sorted
           (All-weaker (IsTrueOf vertices)
-          (λ (p : Placed V). slice_get vertices p.place ≡ Some p.vertex)
+          (λ (p : Keyed V). slice_get vertices p.place ≡ Some p.vertex)
           (λ p t. t.there) sorted still_true);
       rise = λ i j d less within.
           let inside : j < length sorted = omega (arith, within, length-map sorted entry_of) in
-          let p : Placed V = record { key = 0; place = d.0; vertex = d.1 } in
+          let p : Keyed V = record { key = 0; place = d.0; vertex = d.1 } in
           let one = get_or-map entry_of sorted i p d (omega (arith, less, inside)) in
           let two = get_or-map entry_of sorted j p d inside in
           λ same. subst (λ (e : ℕ × V). e.0 ≤ (slice_index_or (map entry_of sorted) j d).0)

@@ -3,7 +3,7 @@ use Rattle.std.specs.Prelude.{◌≡◌, ◌<◌, ◌≤◌, ℕ, List, length, 
 use Rattle.std.specs.Prelude.{Some, slice_get, take}
 use Rattle.delaunay_interface.specs.plane.Fraction.{Point}
 use Rattle.delaunay_interface.specs.plane.Tests.{InRange}
-use Rattle.delaunay_bulk.specs.declared.order.Placed.{Placed}
+use Rattle.delaunay_bulk.specs.declared.order.Keyed.{Keyed}
 
 -- these are the places of a list of so many, each of them once
 pub record IsOrder (count : ℕ) (order : List ℕ) : Type 0 where
@@ -12,7 +12,7 @@ pub record IsOrder (count : ℕ) (order : List ℕ) : Type 0 where
   pub once : length order ≡ count
 
 -- an entry's place and vertex
-abbrev pub entry_of : {V : Type 0} → Placed V → ℕ × V
+abbrev pub entry_of : {V : Type 0} → Keyed V → ℕ × V
 entry_of p = (p.place, p.vertex)
 
 module _ {V : Type 0} (place : V → Point) where

@@ -6,7 +6,7 @@ ghost use Rattle.delaunay_bulk.specs.Order.{IsListed};
 ghost use Rattle.delaunay_bulk.specs.Bulk.{InsertsNext, RefusesList};
 
 use crate::error::BulkInsertionError;
-use crate::order::{Placed, along_curve, first_too_large};
+use crate::order::{Keyed, along_curve, first_too_large};
 use delaunay_interface::Triangulation;
 use delaunay_interface::delaunay_core::math::{InsertionError, PlaneTests};
 use delaunay_interface::delaunay_core::point::HasPosition;
@@ -29,7 +29,7 @@ use std::vec::IntoIter;
 /// ```
 #[derive(Drop)]
 pub struct BulkInsertion<V: Drop> {
-    left: IntoIter<Placed<V>>,
+    left: IntoIter<Keyed<V>>,
     // The vertex that was inserted last: the next one is near it.
     hint: FixedVertexHandle,
 }
@@ -59,11 +59,11 @@ impl<V: HasPosition + Drop> BulkInsertion<V> {
             let error = InsertionError::TooLarge;
             return Err(BulkInsertionError::Vertex { place, error });
         }
-        let Ok(placed) = along_curve(vertices) else {
+        let Ok(keyed) = along_curve(vertices) else {
             return Err(BulkInsertionError::NoRoom(InsertionError::OutOfMemory));
         };
         Ok(BulkInsertion {
-            left: placed.into_iter(),
+            left: keyed.into_iter(),
             hint: FixedVertexHandle::from_index(0),
         })
     }
@@ -102,7 +102,7 @@ impl<V: HasPosition + Drop> BulkInsertion<V> {
     {
         triangulation.recall_invariant();
         let Some(
-            Placed {
+            Keyed {
                 key: _,
                 place,
                 vertex,

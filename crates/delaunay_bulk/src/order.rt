@@ -10,7 +10,7 @@ use std::alloc::AllocError;
 
 /// A vertex with its place in the list and the key that it is sorted by.
 #[derive(Drop)]
-pub(crate) struct Placed<V> {
+pub(crate) struct Keyed<V> {
     pub(crate) key: u64,
     pub(crate) place: usize,
     pub(crate) vertex: V,
@@ -33,17 +33,17 @@ pub(crate) fn first_too_large<V: HasPosition>(vertices: &[V]) -> Option<usize>
 /// memory was refused.
 pub(crate) fn along_curve<V: HasPosition + Drop>(
     vertices: Vec<V>,
-) -> Result<Vec<Placed<V>>, AllocError>
+) -> Result<Vec<Keyed<V>>, AllocError>
     ensures { IfOk result
-        (λ placed. IsListed V.place vertices.items (map entry_of placed.items)) }
+        (λ keyed. IsListed V.place vertices.items (map entry_of keyed.items)) }
 {
-    let mut placed = Vec::with_capacity(*vertices.allocator(), vertices.len())?;
+    let mut keyed = Vec::with_capacity(*vertices.allocator(), vertices.len())?;
     for vertex in vertices {
         let position = vertex.position();
         let key = curve_key(position.x.to_i64(), position.y.to_i64());
-        let place = placed.len();
-        placed.push_reserved(Placed { key, place, vertex });
+        let place = keyed.len();
+        keyed.push_reserved(Keyed { key, place, vertex });
     }
-    placed.sort_by_key(|entry| entry.key)?;
-    Ok(placed)
+    keyed.sort_by_key(|entry| entry.key)?;
+    Ok(keyed)
 }
