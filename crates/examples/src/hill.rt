@@ -37,9 +37,18 @@ fn tell_path(
     Ok(())
 }
 
-pub fn run(rt: &HostRuntime) -> anyhow::Result<()> {
-    tell_nearest(rt, &survey(rt)?)?;
+fn visit_camp(rt: &HostRuntime) -> anyhow::Result<()> {
+    let hill: DelaunayTriangulation<Point2<i64>> = survey(rt)?;
+    tell_nearest(rt, &hill)
+}
+
+fn pass_fence(rt: &HostRuntime) -> anyhow::Result<()> {
     let mut hill: ConstrainedDelaunayTriangulation<Point2<i64>> = survey(rt)?;
     hill.add_constraint_edge(Point2::new(0, 0), Point2::new(-80, 140), &ExactTests)?;
     tell_path(rt, &hill)
+}
+
+pub fn run(rt: &HostRuntime) -> anyhow::Result<()> {
+    visit_camp(rt)?;
+    pass_fence(rt)
 }
