@@ -1,8 +1,10 @@
 -- The mesh that a value of `Links` holds.
--- Notions: mesh_in; joined_in.
+-- Notions: mesh_in; joined_in; IsRoundStored, round_stored.
+use Rattle.std.proofs.Common.{◌≡◌, ℕ, ◌<◌, List, length}
 use Rattle.half_edge_links.specs.declared.links.Links.TheInside.{Inside}
+use Rattle.half_edge_links.specs.declared.records.StoredEdge.{StoredEdge}
 use Rattle.half_edge_links.specs.EdgeList.{shown}
-use Rattle.half_edge_links.specs.Mesh.{Mesh, IsValidMesh}
+use Rattle.half_edge_links.specs.Mesh.{Mesh, IsValidMesh, AreSoundLinks, next, prev}
 use Rattle.half_edge_links.specs.Places.{AreJoined}
 use Rattle.half_edge_links.specs.VertexList.{out_edges_of}
 use Rattle.half_edge_links.proofs.Stored.Joined.{joined_sound}
@@ -28,3 +30,23 @@ pub ruleset inside_reads = (shown_reads, joined_in)
 
 -- reads of whole edges inside, whose links lead to edges inside
 pub ruleset joined_reads = (whole_reads, length_shown, joined_in, next_kept_within)
+
+-- an edge, the next two and the one before it are in the list
+pub record IsRoundStored (m : Mesh) (rs : List StoredEdge) (e : ℕ) : Type 0 where
+  pub here : e < length rs
+  pub after : next m e < length rs
+  pub second : next m (next m e) < length rs
+  pub before : prev m e < length rs
+
+-- a sound mesh of the list's edges has its links in the list
+pub round_stored : {m : Mesh} {rs : List StoredEdge} → AreSoundLinks m → shown rs ≡ m.half_edges
+    → (e : ℕ) → e < length m.half_edges → IsRoundStored m rs e
+round_stored {m} {rs} s is e within =
+    let count : length m.half_edges ≡ length rs = rw (← is) (length_shown rs) in
+    let after = s.edges e within in
+    record {
+      here = rw count at within;
+      after = rw count at after.next_in;
+      second = rw count at (s.edges _ after.next_in).next_in;
+      before = rw count at after.prev_in;
+    }

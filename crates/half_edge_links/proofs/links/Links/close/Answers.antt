@@ -1,10 +1,11 @@
-use Rattle.std.proofs.Common.{◌+◌, arith}
+use Rattle.std.proofs.Common.{◌+◌, ap, arith}
 use Rattle.half_edge_links.specs.Grow.{closed}
 use Rattle.half_edge_links.proofs.Sound.Valid.{valid_as, valid_closed}
 use Rattle.half_edge_links.proofs.Growing.Close.{corner}
 use Rattle.half_edge_links.proofs.Growing.Grown.{closes_corner}
 use Rattle.half_edge_links.proofs.Stored.Hung.{shows_closed}
-use Rattle.half_edge_links.proofs.Views.{joined_in}
+use Rattle.half_edge_links.proofs.Stored.Shown.{length_shown}
+use Rattle.half_edge_links.proofs.Views.{joined_in, round_stored}
 use Rattle.half_edge_links.proofs.links.Links.close.Goals as goal
 
 pub half_edge-second-requires : goal.half_edge-second-requires
@@ -16,6 +17,98 @@ half_edge-end-requires g c =
     let s = c.half_edge-edge.ensures.sound in
     rw (c.half_edge-second.ensures.value, c.half_edge-edge.ensures.value)
     (s.edges _ (s.edges c.args.e c.requires.closable.within).next_in).next_in
+
+pub set_next-requires : goal.set_next-requires
+set_next-requires g c =
+    let stored = round_stored c.half_edge-edge.ensures.sound
+    (ap (λ held. held.mesh.half_edges) c.self.view_is) c.args.e c.requires.closable.within in
+    rw c.half_edge-edge.ensures.value stored.before
+
+pub set_next-requires-2 : goal.set_next-requires-2
+set_next-requires-2 g c =
+    let stored = round_stored c.half_edge-edge.ensures.sound
+    (ap (λ held. held.mesh.half_edges) c.self.view_is) c.args.e c.requires.closable.within in
+    rw (c.set_next.ensures.len, c.half_edge-edge.ensures.value) stored.after
+
+pub set_prev-requires : goal.set_prev-requires
+set_prev-requires g c =
+    let stored = round_stored c.half_edge-edge.ensures.sound
+    (ap (λ held. held.mesh.half_edges) c.self.view_is) c.args.e c.requires.closable.within in
+    rw (
+      c.set_next-2.ensures.len,
+      c.set_next.ensures.len,
+      c.half_edge-second.ensures.value,
+      c.half_edge-edge.ensures.value,
+    ) stored.second
+
+pub set_prev-requires-2 : goal.set_prev-requires-2
+set_prev-requires-2 g c =
+    let stored = round_stored c.half_edge-edge.ensures.sound
+    (ap (λ held. held.mesh.half_edges) c.self.view_is) c.args.e c.requires.closable.within in
+    rw (c.set_prev.ensures.len, c.set_next-2.ensures.len, c.set_next.ensures.len) stored.here
+
+pub set_face-requires : goal.set_face-requires
+set_face-requires g c =
+    let stored = round_stored c.half_edge-edge.ensures.sound
+    (ap (λ held. held.mesh.half_edges) c.self.view_is) c.args.e c.requires.closable.within in
+    rw (
+      c.set_prev-2.ensures.len,
+      c.set_prev.ensures.len,
+      c.set_next-2.ensures.len,
+      c.set_next.ensures.len,
+    ) stored.here
+
+pub set_face-requires-2 : goal.set_face-requires-2
+set_face-requires-2 g c =
+    let stored = round_stored c.half_edge-edge.ensures.sound
+    (ap (λ held. held.mesh.half_edges) c.self.view_is) c.args.e c.requires.closable.within in
+    rw (
+      c.set_face.ensures.len,
+      c.set_prev-2.ensures.len,
+      c.set_prev.ensures.len,
+      c.set_next-2.ensures.len,
+      c.set_next.ensures.len,
+      c.half_edge-edge.ensures.value,
+    ) stored.after
+
+pub set_corner-requires : goal.set_corner-requires
+set_corner-requires g c =
+    let stored = round_stored c.half_edge-edge.ensures.sound
+    (ap (λ held. held.mesh.half_edges) c.self.view_is) c.args.e c.requires.closable.within in
+    rw (
+      c.set_face-2.ensures.len,
+      c.set_face.ensures.len,
+      c.set_prev-2.ensures.len,
+      c.set_prev.ensures.len,
+      c.set_next-2.ensures.len,
+      c.set_next.ensures.len,
+      c.half_edge-second.ensures.value,
+      c.half_edge-edge.ensures.value,
+    ) stored.second
+
+pub set_corner-requires-2 : goal.set_corner-requires-2
+set_corner-requires-2 g c =
+    let stored = round_stored c.half_edge-edge.ensures.sound
+    (ap (λ held. held.mesh.half_edges) c.self.view_is) c.args.e c.requires.closable.within in
+    rw (
+      c.set_corner.ensures.len,
+      c.set_face-2.ensures.len,
+      c.set_face.ensures.len,
+      c.set_prev-2.ensures.len,
+      c.set_prev.ensures.len,
+      c.set_next-2.ensures.len,
+      c.set_next.ensures.len,
+    ) stored.here
+
+pub push-requires : goal.push-requires
+push-requires g c =
+    let room = rw (← c.self.view_is) at c.requires.room.edges_fit in
+    omega (arith, room, length_shown c.self.inside.half_edges.items)
+
+pub push-requires-2 : goal.push-requires-2
+push-requires-2 g c =
+    let room = rw (← c.self.view_is) at c.requires.room.edges_fit in
+    omega (arith, room, length_shown c.self.inside.half_edges.items)
 
 pub returns-clause-mesh : goal.returns-clause-mesh
 unfolding closed

@@ -1,5 +1,5 @@
 use Rattle.std.proofs.Common.{ap, arith, ◌∙◌}
-use Rattle.half_edge_links.proofs.Views.{mesh_in}
+use Rattle.half_edge_links.proofs.Views.{mesh_in, round_stored}
 use Rattle.half_edge_links.specs.Mesh.{Mesh, origin, rev}
 use Rattle.half_edge_links.proofs.Lists.Rev.{rev-rev}
 use Rattle.half_edge_links.specs.Flip.{flip_by, flipped}
@@ -27,11 +27,23 @@ prev_origin-right-requires g c =
     let v = c.half_edge-edge.ensures.valid in
     rw c.reversed-t.ensures (six_round _ _ v.sound (turns_between _ _ v c.requires.between)).b_in
 
+pub set-requires : goal.set-requires
+set-requires g c =
+    let stored = round_stored c.half_edge-edge.ensures.sound
+    (ap (λ held. held.mesh.half_edges) c.self.view_is) c.args.e c.requires.between.within in
+    stored.here
+
 pub set-requires-2 : goal.set-requires-2
 set-requires-2 g c =
     let can = turns_between _ _ c.self.invariant (rw (← c.self.view_is) at c.requires.between) in
     let six = six_round _ _ c.self.invariant.sound can in
     rw (c.set.ensures.len, c.reversed-t.ensures) (rw length_shown at six.b_in)
+
+pub set-requires-3 : goal.set-requires-3
+set-requires-3 g c =
+    let stored = round_stored c.half_edge-edge.ensures.sound
+    (ap (λ held. held.mesh.half_edges) c.self.view_is) c.args.e c.requires.between.within in
+    rw (c.set-2.ensures.len, c.set.ensures.len, c.half_edge-edge.ensures.value) stored.after
 
 pub set-requires-4 : goal.set-requires-4
 set-requires-4 g c =
@@ -40,6 +52,18 @@ set-requires-4 g c =
     let twin = rw (c.reversed-t.ensures, ← c.self.view_is) at c.half_edge-twin.ensures.value in
     rw (c.set-3.ensures.len, c.set-2.ensures.len, c.set.ensures.len, twin)
     (rw length_shown at six.d_in)
+
+pub set-requires-5 : goal.set-requires-5
+set-requires-5 g c =
+    let stored = round_stored c.half_edge-edge.ensures.sound
+    (ap (λ held. held.mesh.half_edges) c.self.view_is) c.args.e c.requires.between.within in
+    rw (
+      c.set-4.ensures.len,
+      c.set-3.ensures.len,
+      c.set-2.ensures.len,
+      c.set.ensures.len,
+      c.half_edge-edge.ensures.value,
+    ) stored.before
 
 pub set-requires-6 : goal.set-requires-6
 set-requires-6 g c =

@@ -1,14 +1,43 @@
-use Rattle.std.proofs.Common.{arith}
+use Rattle.std.proofs.Common.{ap, arith}
 use Rattle.half_edge_links.specs.Grow.{hung}
 use Rattle.half_edge_links.proofs.Sound.Valid.{valid_as, valid_hung}
 use Rattle.half_edge_links.proofs.Growing.Grown.{hangs_edge}
 use Rattle.half_edge_links.proofs.Stored.Hung.{shows_hung}
-use Rattle.half_edge_links.proofs.Views.{joined_in}
+use Rattle.half_edge_links.proofs.Stored.Shown.{length_shown}
+use Rattle.half_edge_links.proofs.Views.{joined_in, round_stored}
 use Rattle.half_edge_links.proofs.links.Links.hang.Goals as goal
 
 pub half_edge-end-requires : goal.half_edge-end-requires
 half_edge-end-requires g c = rw c.half_edge-edge.ensures.value
     (c.half_edge-edge.ensures.sound.edges c.args.x c.requires.outer.0).next_in
+
+pub set_next-requires : goal.set_next-requires
+set_next-requires g c =
+    let stored = round_stored c.half_edge-edge.ensures.sound
+    (ap (λ held. held.mesh.half_edges) c.self.view_is) c.args.x c.requires.outer.0 in
+    stored.here
+
+pub set_prev-requires : goal.set_prev-requires
+set_prev-requires g c =
+    let stored = round_stored c.half_edge-edge.ensures.sound
+    (ap (λ held. held.mesh.half_edges) c.self.view_is) c.args.x c.requires.outer.0 in
+    rw (c.set_next.ensures.len, c.half_edge-edge.ensures.value) stored.after
+
+pub set_corner-requires : goal.set_corner-requires
+set_corner-requires g c =
+    let stored = round_stored c.half_edge-edge.ensures.sound
+    (ap (λ held. held.mesh.half_edges) c.self.view_is) c.args.x c.requires.outer.0 in
+    rw (c.set_prev.ensures.len, c.set_next.ensures.len, c.half_edge-edge.ensures.value) stored.after
+
+pub push-requires : goal.push-requires
+push-requires g c =
+    let room = rw (← c.self.view_is) at c.requires.edge_room in
+    omega (arith, room, length_shown c.self.inside.half_edges.items)
+
+pub push-requires-2 : goal.push-requires-2
+push-requires-2 g c =
+    let room = rw (← c.self.view_is) at c.requires.edge_room in
+    omega (arith, room, length_shown c.self.inside.half_edges.items)
 
 pub returns-clause-mesh : goal.returns-clause-mesh
 unfolding hung
