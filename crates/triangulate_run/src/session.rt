@@ -3,7 +3,7 @@ ghost use Rattle.std.specs.Prelude.{◌≡◌, true, false, All};
 ghost use Rattle.triangulate_watched.specs.Watched.{has_failed};
 ghost use Rattle.triangulate_run.specs.Points.{place};
 ghost use Rattle.triangulate_run.specs.Output.{Writes, WritesSome};
-ghost use Rattle.triangulate_run.specs.Stage.{Fits};
+ghost use Rattle.triangulate_run.specs.Stage.{first_stage, Fits};
 ghost use Rattle.triangulate_run.specs.Engine.{stage_of, IsEngineReady};
 ghost use Rattle.triangulate_run.specs.Run.{Answers, Ran, bad_line};
 
@@ -56,6 +56,40 @@ fn answer<P: PlaneTests<i64>, L: HintGenerator<i64>, W: Write>(
     writer.flush()
 }
 
+/// Has the engine answer each line of the reader to the writer, before more is read.
+fn answer_lines<P: PlaneTests<i64>, L: HintGenerator<i64>, R: Read, W: Write>(
+    engine: &mut PointEngine<'_, P, L>,
+    reader: &mut Watched<R>,
+    writer: &mut Watched<W>,
+) -> Result<(), RunError>
+    requires ready { IsEngineReady P.covered P.sites engine.old }
+    requires first { stage_of engine.old.triangulation ≡ first_stage }
+    requires reader_works { has_failed reader.old ≡ false }
+    requires writer_works { has_failed writer.old ≡ false }
+    ensures { Ran engine.old.points.now R.remaining W.contents reader.old reader.new writer.old
+        writer.new result }
+{
+    let mut line: ArrayVec<u8, LINE_ROOM> = ArrayVec::new();
+    loop {
+        let mut byte = [0u8; 1];
+        match reader.read(&mut byte) {
+            Ok(0) if line.is_empty() => return Ok(()),
+            Ok(0) => match refuse(writer) {
+                Ok(()) => return Ok(()),
+                Err(Failed) => return Err(RunError::Write),
+            },
+            Ok(_) if byte[0] == b'\n' => match answer(engine, line.as_slice(), writer) {
+                Ok(()) => line.clear(),
+                Err(Failed) => return Err(RunError::Write),
+            },
+            Ok(_) => {
+                let _ = line.try_push(byte[0]);
+            }
+            Err(Failed) => return Err(RunError::Read),
+        }
+    }
+}
+
 /// Answers each line of the reader to the writer, and passes the answer on before more is read.
 ///
 /// The tests cover each of `points`, and have it as a site where it says so; vertices are inserted
@@ -85,23 +119,5 @@ pub fn run<L: HintGenerator<i64>, P: PlaneTests<i64>, R: Read, W: Write>(
         points,
         alloc,
     };
-    let mut line: ArrayVec<u8, LINE_ROOM> = ArrayVec::new();
-    loop {
-        let mut byte = [0u8; 1];
-        match reader.read(&mut byte) {
-            Ok(0) if line.is_empty() => return Ok(()),
-            Ok(0) => match refuse(writer) {
-                Ok(()) => return Ok(()),
-                Err(Failed) => return Err(RunError::Write),
-            },
-            Ok(_) if byte[0] == b'\n' => match answer(&mut engine, line.as_slice(), writer) {
-                Ok(()) => line.clear(),
-                Err(Failed) => return Err(RunError::Write),
-            },
-            Ok(_) => {
-                let _ = line.try_push(byte[0]);
-            }
-            Err(Failed) => return Err(RunError::Read),
-        }
-    }
+    answer_lines(&mut engine, reader, writer)
 }

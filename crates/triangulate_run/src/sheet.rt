@@ -51,25 +51,31 @@ pub fn letter_named(word: &str) -> Option<Sheet>
 
 impl Sheet {
     /// All points of the sheet.
+    #[tactic(auto, unfolding(crate::specs::Sheet::points_of))]
     pub fn points(self) -> &'static [SheetPoint]
         ensures list { result.now ≡ points_of self }
         ensures covered { All (λ s. IsCovered self (place s)) result.now }
         ensures sites { All (λ s. s.site ≡ true → IsSite self (place s)) result.now }
     {
-        self.table().0
+        match self {
+            Sheet::G => &G_POINTS,
+            Sheet::B => &B_POINTS,
+            Sheet::R => &R_POINTS,
+            Sheet::L => &L_POINTS,
+            Sheet::X => &X_POINTS,
+        }
     }
 
-    /// Its points, and its circles by their indexes.
-    #[tactic(auto, unfolding(crate::specs::Sheet::points_of, crate::specs::Sheet::circles_of))]
-    fn table(self) -> (&'static [SheetPoint], &'static [Circle])
-        ensures { (result.0.now ≡ points_of self) × (result.1.now ≡ circles_of self) }
+    /// Its circles, which hold the indexes of its points.
+    #[tactic(auto, unfolding(crate::specs::Sheet::circles_of))]
+    fn circles(self) -> &'static [Circle]
+        ensures { result.now ≡ circles_of self }
     {
         match self {
-            Sheet::G => (&G_POINTS, &GRID_CIRCLES),
-            Sheet::B => (&B_POINTS, &GRID_CIRCLES),
-            Sheet::R => (&R_POINTS, &[]),
-            Sheet::L => (&L_POINTS, &L_CIRCLES),
-            Sheet::X => (&X_POINTS, &X_CIRCLES),
+            Sheet::G | Sheet::B => &GRID_CIRCLES,
+            Sheet::R => &[],
+            Sheet::L => &L_CIRCLES,
+            Sheet::X => &X_CIRCLES,
         }
     }
 }
@@ -90,7 +96,8 @@ impl PlaneTests<i64> for Sheet {
         ensures { result ≡ side (whole (position from)) (whole (position to))
             (whole (position point)) }
     {
-        let (points, circles) = self.table();
+        let points = self.points();
+        let circles = self.circles();
         let i = index_of(points, from).unwrap();
         let j = index_of(points, to).unwrap();
         let k = index_of(points, point).unwrap();
@@ -119,7 +126,8 @@ impl PlaneTests<i64> for Sheet {
         ensures { IsTrue result ↔ InsideCircle (whole (position v1)) (whole (position v2))
             (whole (position v3)) (whole (position point)) }
     {
-        let (points, circles) = self.table();
+        let points = self.points();
+        let circles = self.circles();
         let i = site_index_of(points, v1).unwrap();
         let j = site_index_of(points, v2).unwrap();
         let k = site_index_of(points, v3).unwrap();
