@@ -2,11 +2,11 @@
 -- and products of them.
 -- Lemmas: kept_is, multiplied, product_of, sum_of, sum_fits, sum_bound, difference_of,
 -- difference_fits, difference_bound, term_of, long_difference_fits, long_difference_of.
-use Rattle.std.proofs.Common.{◌≡◌, ◌≤◌, arith, w64, to_z, of_z}
+use Rattle.std.proofs.Common.{◌≡◌, ◌≤◌, arith, w64, to_z, of_z, mul-le-mul}
 use mir.Syntax.{w128}
 use Rattle.std.specs.Prelude.{ℤ, ◌+ℤ◌, ◌-ℤ◌, ◌*ℤ◌, unsigned_abs}
 use Rattle.std.specs.Int.RustNames.{FitsSigned}
-use Rattle.std.proofs.lemmas.Int.{ints, fits_signed_from_abs}
+use Rattle.std.proofs.lemmas.Int.{ints, fits_signed_from_abs, unsigned_abs-mul}
 use Rattle.delaunay_core.proofs.Projections.{product_bound}
 
 -- what 64 bits keep of a number
@@ -64,6 +64,22 @@ pub difference_bound : (a b : ℤ) → unsigned_abs a ≤ 1152921504606846976 �
 difference_bound a b h k = omega (arith, ints)
 
 -- ---- 128 bits
+-- a number of absolute value at most 2^122 keeps its value in 128 bits
+kept_long_is : (z : ℤ) → unsigned_abs z ≤ 5316911983139663491615228241121378304 → kept_long z ≡ z
+kept_long_is z h = omega (arith, ints)
+
+-- a product of numbers of absolute value at most 2^61 has one of at most 2^122
+pub long_product_bound : (a b : ℤ) → unsigned_abs a ≤ 2305843009213693952
+    → unsigned_abs b ≤ 2305843009213693952
+    → unsigned_abs (a *ℤ b) ≤ 5316911983139663491615228241121378304
+long_product_bound a b h k = rw (unsigned_abs-mul a b) (mul-le-mul h k)
+
+-- a product of numbers of absolute value at most 2^61 is exact in 128 bits
+pub long_product : (a b : ℤ) → unsigned_abs a ≤ 2305843009213693952
+    → unsigned_abs b ≤ 2305843009213693952 → kept_long (kept_long a *ℤ kept_long b) ≡ a *ℤ b
+long_product a b h k = rw (kept_long_is a (omega (arith, h)), kept_long_is b (omega (arith, k)))
+    (kept_long_is (a *ℤ b) (long_product_bound a b h k))
+
 -- a product of numbers of absolute value at most 2^61 that were kept in 64 bits is exact
 pub term_of : {a b x y z : ℤ} → unsigned_abs a ≤ 2305843009213693952
     → unsigned_abs b ≤ 2305843009213693952 → a ≡ x → b ≡ y → z ≡ kept a *ℤ kept b → z ≡ x *ℤ y

@@ -1,5 +1,30 @@
 pub use Rattle.half_edge_dcel.specs.half_edge_links as half_edge_links
 pub use Rattle.half_edge_dcel.specs as half_edge_dcel
+pub use Rattle.half_edge_dcel.specs.half_edge_links.Mesh
+pub use Rattle.half_edge_dcel.specs.half_edge_links.Room
+pub use Rattle.half_edge_dcel.specs.half_edge_links.Flip
+pub use Rattle.half_edge_dcel.specs.half_edge_links.Insert
+pub use Rattle.half_edge_dcel.specs.half_edge_links.Triangles
+pub use Rattle.half_edge_dcel.specs.half_edge_links.Grow
+pub use Rattle.half_edge_dcel.specs.half_edge_links.Outline
+pub use Rattle.half_edge_dcel.specs.half_edge_links.Renames
+pub use Rattle.half_edge_dcel.specs.half_edge_links.Remove
+pub use Rattle.half_edge_dcel.specs.half_edge_links.Peel
+pub use Rattle.half_edge_dcel.specs.half_edge_links.Move
+pub use Rattle.half_edge_dcel.specs.half_edge_links.Taken
+pub use Rattle.half_edge_dcel.specs.half_edge_links.Flow
+pub use Rattle.half_edge_dcel.specs.half_edge_links.Round
+pub use Rattle.half_edge_dcel.specs.half_edge_links.Hull
+pub use Rattle.half_edge_dcel.specs.half_edge_links.Pass
+pub use Rattle.half_edge_dcel.specs.Contents
+pub use Rattle.half_edge_dcel.specs.Empty
+pub use Rattle.half_edge_dcel.specs.GrownData
+pub use Rattle.half_edge_dcel.specs.Growth
+pub use Rattle.half_edge_dcel.specs.Hole
+pub use Rattle.half_edge_dcel.specs.Mapped
+pub use Rattle.half_edge_dcel.specs.Removal
+pub use Rattle.half_edge_dcel.specs.Shapes
+pub use Rattle.half_edge_dcel.specs.Writing
 pub mod Left
 pub mod Rounds
 pub mod Walks

@@ -2,7 +2,15 @@
 #![tactic(auto)]
 
 pub use half_edge_dcel;
-pub use half_edge_dcel::half_edge_links;
+pub use half_edge_dcel::half_edge_links::{
+    Links, edges_go_round, outline_goes_round, reversed, sides_add_up, sides_cancel,
+};
+pub use half_edge_dcel::{
+    Dcel, FixedDirectedEdgeHandle, FixedDirectedEdgeIterator, FixedFaceHandle, FixedFaceIterator,
+    FixedUndirectedEdgeHandle, FixedUndirectedEdgeIterator, FixedVertexHandle, FixedVertexIterator,
+    HalfEdge, IsolateVertexResult, MAX_ELEMENTS, ReserveError, are_few_enough, half_edge_links,
+    is_full,
+};
 
 mod edge;
 mod edge_walk;

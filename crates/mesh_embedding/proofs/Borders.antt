@@ -4,10 +4,10 @@
 use Rattle.std.proofs.Common.{◌≡◌, ◌<◌, [], ◌∷◌, ◌∙◌}
 use Rattle.std.proofs.Common.{ℕ, zero, suc, List, length, sym, ap, subst, arith}
 use Rattle.std.specs.Prelude.{slice_index}
-use Rattle.half_edge_mesh.specs.Mesh.{Mesh, origin, next, prev, face, AreSoundLinks}
-use Rattle.half_edge_mesh.specs.Peel.{turn, spoke, IsWheel, IsStrip}
-use Rattle.half_edge_mesh.specs.Hole.{IsBorder, IsHub}
-use Rattle.half_edge_mesh.specs.Removal.{AreSidesOf, first_spoke}
+use Rattle.half_edge_views.specs.Mesh.{Mesh, origin, next, prev, face, AreSoundLinks}
+use Rattle.half_edge_views.specs.Peel.{turn, spoke, IsWheel, IsStrip}
+use Rattle.half_edge_views.specs.Hole.{IsBorder, IsHub}
+use Rattle.half_edge_views.specs.Removal.{AreSidesOf, first_spoke}
 
 -- the three sides round a vertex with three faces
 pub border_of_wheel : (m : Mesh) (v first : ℕ) → AreSoundLinks m → IsWheel m first → origin m first

@@ -7,9 +7,9 @@ use Rattle.std.specs.Prelude.{Contains}
 use Rattle.std.proofs.lemmas.Bool.{cases_eq}
 use Rattle.std.proofs.lemmas.Grind.{common_steps}
 use Rattle.std.proofs.lemmas.List.{get_or-map, length-map}
-use Rattle.half_edge_mesh.specs.Mesh.{Mesh, origin, rev, AreSoundLinks}
-use Rattle.half_edge_mesh.specs.Outline.{Ends, ends}
-use Rattle.half_edge_mesh.proofs.half_edge_links.Sound.Ends.{length-ends_twice, get_or-ends}
+use Rattle.half_edge_views.specs.Mesh.{Mesh, origin, rev, AreSoundLinks}
+use Rattle.half_edge_views.specs.Outline.{Ends, ends}
+use Rattle.half_edge_views.proofs.half_edge_links_lemmas.Sound.Ends.{length-ends_twice, get_or-ends}
 use Rattle.plane.specs.Pairs.{Joins}
 use Rattle.mesh_embedding.specs.Drawn.{pair_of, edges_of}
 

@@ -9,9 +9,9 @@ use Rattle.std.proofs.Common.{arith, length-set, get_or-set_same, get_or-set_oth
 use mathlib.Core.Logic.{inl, inr, ◌≢◌}
 use Rattle.std.specs.Prelude.{ℤ, ◌+ℤ◌, Contains}
 use Rattle.std.proofs.lemmas.Int.{ints}
-use Rattle.half_edge_mesh.specs.Mesh.{Mesh, origin, next, prev, face, face_edge, AreSoundLinks}
-use Rattle.half_edge_mesh.specs.Triangles.{Triangle, triangles, triangle_at}
-use Rattle.half_edge_mesh.proofs.half_edge_links.Sound.Triangles as T
+use Rattle.half_edge_views.specs.Mesh.{Mesh, origin, next, prev, face, face_edge, AreSoundLinks}
+use Rattle.half_edge_views.specs.Triangles.{Triangle, triangles, triangle_at}
+use Rattle.half_edge_views.proofs.half_edge_links_lemmas.Sound.Triangles as T
 use Rattle.plane.specs.Tiling.{Face, face as corners}
 use Rattle.plane_tiling.specs.Local.{total}
 use Rattle.plane_tiling.proofs.Totals.{Contains-head, Contains-later, Contains-none, Contains-cases}

@@ -8,12 +8,12 @@ use Rattle.std.specs.Prelude.{ℤ, pos, ◌+ℤ◌, Contains}
 use Rattle.std.specs.List.{AllZip}
 use Rattle.std.proofs.lemmas.Int.{ints}
 use Rattle.std.proofs.lemmas.List.Sorted.{Contains-permutation, IsPermutation-sym}
-use Rattle.half_edge_mesh.specs.Flow as Sums
-use Rattle.half_edge_mesh.specs.Triangles.{Triangle}
-use Rattle.half_edge_mesh.specs.Contents.{Contents, IsMeshWithData}
-use Rattle.half_edge_mesh.specs.Removal.{FullFace, full_faces, HasCorners, LosesFaces, FillsHole}
-use Rattle.half_edge_mesh.specs.Removal.{faces_between}
-use Rattle.half_edge_mesh.proofs.half_edge_dcel.OuterSums.{total-permutation, total-append}
+use Rattle.half_edge_views.specs.Flow as Sums
+use Rattle.half_edge_views.specs.Triangles.{Triangle}
+use Rattle.half_edge_views.specs.Contents.{Contents, IsMeshWithData}
+use Rattle.half_edge_views.specs.Removal.{FullFace, full_faces, HasCorners, LosesFaces, FillsHole}
+use Rattle.half_edge_views.specs.Removal.{faces_between}
+use Rattle.half_edge_views.proofs.half_edge_dcel_lemmas.OuterSums.{total-permutation, total-append}
 use Rattle.plane.specs.Tiling.{Face, face as corners}
 use Rattle.plane_tiling.specs.Local.{total}
 use Rattle.plane_tiling.proofs.Totals.{Contains-head, Contains-none, Contains-cases}

@@ -1,9 +1,9 @@
 pub use Rattle.plane.proofs as plane
 pub use Rattle.plane_tiling.proofs as plane_tiling
 pub use Rattle.plane_edits.proofs as plane_edits
-pub use Rattle.half_edge_mesh.proofs.half_edge_links as half_edge_links
-pub use Rattle.half_edge_mesh.proofs.half_edge_dcel as half_edge_dcel
-pub use Rattle.half_edge_mesh.proofs.half_edge_views as half_edge_views
+pub use Rattle.half_edge_views.proofs.half_edge_links_lemmas as half_edge_links
+pub use Rattle.half_edge_views.proofs.half_edge_dcel_lemmas as half_edge_dcel
+pub use Rattle.half_edge_views.proofs as half_edge_views
 -- Lists, and lists of edges to test.
 pub mod Entries
 pub mod WorkLists

@@ -7,15 +7,15 @@ use Rattle.std.proofs.Common.{ℕ, List, length, map, refl, sym, ap, subst}
 use Rattle.std.proofs.Common.{arith}
 use Rattle.std.specs.Prelude.{Contains, swap_remove, nat_eq, if◌then◌else◌}
 use Rattle.std.proofs.lemmas.Option.{slice_get_within}
-use Rattle.half_edge_mesh.specs.Mesh.{Mesh, AreSoundLinks, IsAlone, origin, out_edge}
-use Rattle.half_edge_mesh.specs.Outline.{Ends}
-use Rattle.half_edge_mesh.specs.Flow.{outline}
-use Rattle.half_edge_mesh.specs.Triangles.{Triangle, triangles, triangle_at}
-use Rattle.half_edge_mesh.proofs.half_edge_links.Removing.OpenSound.{swap_remove_default}
-use Rattle.half_edge_mesh.specs.Contents.{Contents, IsMeshWithData}
-use Rattle.half_edge_mesh.specs.Removal.{FullFace, full_faces, full_faces_of, renumbered_ends}
-use Rattle.half_edge_mesh.specs.Removal.{renumbered_face, DropsVertex}
-use Rattle.half_edge_mesh.proofs.half_edge_dcel.Dropped.{renumbered_triangle}
+use Rattle.half_edge_views.specs.Mesh.{Mesh, AreSoundLinks, IsAlone, origin, out_edge}
+use Rattle.half_edge_views.specs.Outline.{Ends}
+use Rattle.half_edge_views.specs.Flow.{outline}
+use Rattle.half_edge_views.specs.Triangles.{Triangle, triangles, triangle_at}
+use Rattle.half_edge_views.proofs.half_edge_links_lemmas.Removing.OpenSound.{swap_remove_default}
+use Rattle.half_edge_views.specs.Contents.{Contents, IsMeshWithData}
+use Rattle.half_edge_views.specs.Removal.{FullFace, full_faces, full_faces_of, renumbered_ends}
+use Rattle.half_edge_views.specs.Removal.{renumbered_face, DropsVertex}
+use Rattle.half_edge_views.proofs.half_edge_dcel_lemmas.Dropped.{renumbered_triangle}
 use Rattle.plane.specs.Fraction.{Point}
 use Rattle.plane.specs.Plain.{TakesOut}
 use Rattle.plane.specs.Tiling.{Face}
@@ -29,7 +29,7 @@ use Rattle.mesh_embedding.proofs.EdgePairs.{no_joins}
 use Rattle.mesh_embedding.proofs.Entries.{not_some}
 use Rattle.mesh_embedding.proofs.OuterEdges.{real}
 use Rattle.mesh_embedding.proofs.FaceChanges.{length_map}
-use Rattle.half_edge_mesh.proofs.half_edge_links.Removing.ShrinkTriangles.{map-swap_remove}
+use Rattle.half_edge_views.proofs.half_edge_links_lemmas.Removing.ShrinkTriangles.{map-swap_remove}
 
 -- no outer edge starts at a vertex without edges
 pub alone_has_none : (m : Mesh) (v j : ℕ) → AreSoundLinks m → IsAlone m v

@@ -8,16 +8,16 @@ use mathlib.Core.Logic.{inl, ◌≢◌}
 use Rattle.std.specs.Prelude.{ℤ, pos, ◌+ℤ◌, Contains}
 use Rattle.std.proofs.lemmas.Int.{ints}
 use Rattle.std.proofs.lemmas.List.Elements.{Contains-append_left, Contains-append_right}
-use Rattle.half_edge_mesh.specs.Mesh.{Mesh, origin, next, prev, face, rev, AreSoundLinks}
-use Rattle.half_edge_mesh.specs.Mesh.{IsInnerEdge}
-use Rattle.half_edge_mesh.specs.Flip.{IsFlippable}
-use Rattle.half_edge_mesh.specs.Grow.{IsHalfSplittable}
-use Rattle.half_edge_mesh.specs.Triangles.{Triangle, triangles, FlipsTriangles, InsertsTriangles}
-use Rattle.half_edge_mesh.specs.Triangles.{SplitsTriangles}
-use Rattle.half_edge_mesh.specs.Outline.{KeepsOuter, ReplacesOuter, AddsTriangle}
-use Rattle.half_edge_mesh.specs.Outline.{HalfSplitsTriangles}
-use Rattle.half_edge_mesh.proofs.half_edge_links.Lists.Rev.{rev-rev, rev_within}
-use Rattle.half_edge_mesh.proofs.half_edge_links.Sound.Triangles as T
+use Rattle.half_edge_views.specs.Mesh.{Mesh, origin, next, prev, face, rev, AreSoundLinks}
+use Rattle.half_edge_views.specs.Mesh.{IsInnerEdge}
+use Rattle.half_edge_views.specs.Flip.{IsFlippable}
+use Rattle.half_edge_views.specs.Grow.{IsHalfSplittable}
+use Rattle.half_edge_views.specs.Triangles.{Triangle, triangles, FlipsTriangles, InsertsTriangles}
+use Rattle.half_edge_views.specs.Triangles.{SplitsTriangles}
+use Rattle.half_edge_views.specs.Outline.{KeepsOuter, ReplacesOuter, AddsTriangle}
+use Rattle.half_edge_views.specs.Outline.{HalfSplitsTriangles}
+use Rattle.half_edge_views.proofs.half_edge_links_lemmas.Lists.Rev.{rev-rev, rev_within}
+use Rattle.half_edge_views.proofs.half_edge_links_lemmas.Sound.Triangles as T
 use Rattle.plane.specs.Fraction.{Point, whole, WithinSegment, InsideTriangle}
 use Rattle.plane.specs.Side.{TurnsLeft}
 use Rattle.plane.specs.Pairs.{place}

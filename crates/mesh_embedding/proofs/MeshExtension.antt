@@ -6,9 +6,9 @@ use Rattle.std.proofs.Common.{◌≡◌, ◌⊎◌, ◌<◌, [], ◌∷◌, ◌+
 use Rattle.std.proofs.Common.{ℕ, List, length, refl, sym, ap, subst, arith}
 use mathlib.Core.Logic.{inl, inr}
 use Rattle.std.specs.Prelude.{pos, ◌+ℤ◌, Contains}
-use Rattle.half_edge_mesh.specs.Mesh.{Mesh, origin, next, face, rev, AreSoundLinks, HasApartEnds}
-use Rattle.half_edge_mesh.specs.Outline.{ClosesOuter, AddsTriangle}
-use Rattle.half_edge_mesh.proofs.half_edge_links.Lists.Rev.{rev_within}
+use Rattle.half_edge_views.specs.Mesh.{Mesh, origin, next, face, rev, AreSoundLinks, HasApartEnds}
+use Rattle.half_edge_views.specs.Outline.{ClosesOuter, AddsTriangle}
+use Rattle.half_edge_views.proofs.half_edge_links_lemmas.Lists.Rev.{rev_within}
 use Rattle.plane.specs.Fraction.{Point}
 use Rattle.plane.specs.Side.{TurnsLeft}
 use Rattle.plane.specs.Pairs.{place}

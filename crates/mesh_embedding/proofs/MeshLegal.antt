@@ -12,18 +12,18 @@ use Rattle.std.specs.Prelude.{Contains}
 use Rattle.std.proofs.lemmas.Bool.{cases_eq}
 use Rattle.std.proofs.Math.Nat.{mul-le-mul_right, suc-mul}
 use Rattle.std.proofs.lemmas.List.{length-append}
-use Rattle.half_edge_mesh.specs.Mesh.{Mesh, origin, next, prev, face, rev, AreSoundLinks}
-use Rattle.half_edge_mesh.specs.Mesh.{IsValidMesh, IsInnerEdge}
-use Rattle.half_edge_mesh.specs.Flip.{IsFlippable, Flips, flipped}
-use Rattle.half_edge_mesh.specs.Triangles.{FlipsTriangles}
-use Rattle.half_edge_mesh.specs.Outline.{KeepsOuter}
-use Rattle.half_edge_mesh.proofs.half_edge_links.Lists.Rev.{rev-rev, rev_differs, rev_within}
-use Rattle.half_edge_mesh.proofs.half_edge_links.Sound.Triangles as T
-use Rattle.half_edge_mesh.specs.half_edge_links.Places.{AreSixPlaces}
-use Rattle.half_edge_mesh.proofs.half_edge_links.Faces.FlipLemmas.{flips}
-use Rattle.half_edge_mesh.proofs.half_edge_links.Faces.FlipSound.{origin_kept}
-use Rattle.half_edge_mesh.proofs.half_edge_links.Faces.FlipTriangles.{triangles_flipped}
-use Rattle.half_edge_mesh.proofs.half_edge_links.Faces.KeepsOuter.{outer_flipped_is}
+use Rattle.half_edge_views.specs.Mesh.{Mesh, origin, next, prev, face, rev, AreSoundLinks}
+use Rattle.half_edge_views.specs.Mesh.{IsValidMesh, IsInnerEdge}
+use Rattle.half_edge_views.specs.Flip.{IsFlippable, Flips, flipped}
+use Rattle.half_edge_views.specs.Triangles.{FlipsTriangles}
+use Rattle.half_edge_views.specs.Outline.{KeepsOuter}
+use Rattle.half_edge_views.proofs.half_edge_links_lemmas.Lists.Rev.{rev-rev, rev_differs, rev_within}
+use Rattle.half_edge_views.proofs.half_edge_links_lemmas.Sound.Triangles as T
+use Rattle.half_edge_views.specs.half_edge_links.Places.{AreSixPlaces}
+use Rattle.half_edge_views.proofs.half_edge_links_lemmas.Faces.FlipLemmas.{flips}
+use Rattle.half_edge_views.proofs.half_edge_links_lemmas.Faces.FlipSound.{origin_kept}
+use Rattle.half_edge_views.proofs.half_edge_links_lemmas.Faces.FlipTriangles.{triangles_flipped}
+use Rattle.half_edge_views.proofs.half_edge_links_lemmas.Faces.KeepsOuter.{outer_flipped_is}
 use Rattle.plane.specs.Fraction.{Point}
 use Rattle.plane.specs.Side.{TurnsLeft}
 use Rattle.plane.specs.Circle.{InsideCircle}

@@ -8,12 +8,12 @@ use lib.Dec.{eqb, eqb_refl}
 use borrow.Author.Tests.{eqb-true}
 use Rattle.std.specs.Prelude.{Contains}
 use Rattle.std.proofs.lemmas.Bool.{cases_eq, cases_lt}
-use Rattle.half_edge_mesh.specs.Mesh.{Mesh, origin, prev, face, rev, IsValidMesh}
-use Rattle.half_edge_mesh.specs.Peel.{turn, spoke}
-use Rattle.half_edge_mesh.specs.Round.{IsRound, neighbour}
-use Rattle.half_edge_mesh.proofs.half_edge_links.Lists.Rev.{rev-rev, rev_within}
-use Rattle.half_edge_mesh.proofs.half_edge_links.Lists.OneOrbit.{edges_go_round}
-use Rattle.half_edge_mesh.specs.Removal.{HasFewEdges}
+use Rattle.half_edge_views.specs.Mesh.{Mesh, origin, prev, face, rev, IsValidMesh}
+use Rattle.half_edge_views.specs.Peel.{turn, spoke}
+use Rattle.half_edge_views.specs.Round.{IsRound, neighbour}
+use Rattle.half_edge_views.proofs.half_edge_links_lemmas.Lists.Rev.{rev-rev, rev_within}
+use Rattle.half_edge_views.proofs.half_edge_links_lemmas.Lists.OneOrbit.{edges_go_round}
+use Rattle.half_edge_views.specs.Removal.{HasFewEdges}
 use Rattle.plane.specs.Fraction.{Point}
 use Rattle.plane.specs.Pairs.{EachPairOnce}
 use Rattle.plane_tiling.specs.Local.{LineMesh, AreEdgesOf}

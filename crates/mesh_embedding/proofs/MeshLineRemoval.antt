@@ -4,10 +4,10 @@ use Rattle.std.proofs.Common.{◌≡◌, ◌⊎◌, ◌<◌, [], ◌∷◌, ◌�
 use Rattle.std.proofs.Common.{ℕ, List, length, map, refl, sym, ap, subst, arith}
 use mathlib.Core.Logic.{inl, inr, ◌≢◌}
 use Rattle.std.specs.Prelude.{Contains}
-use Rattle.half_edge_mesh.specs.Mesh.{AreSoundLinks}
-use Rattle.half_edge_mesh.specs.Contents.{Contents}
-use Rattle.half_edge_mesh.specs.Growth.{joins}
-use Rattle.half_edge_mesh.specs.Removal.{LeavesLine, LeavesMesh}
+use Rattle.half_edge_views.specs.Mesh.{AreSoundLinks}
+use Rattle.half_edge_views.specs.Contents.{Contents}
+use Rattle.half_edge_views.specs.Growth.{joins}
+use Rattle.half_edge_views.specs.Removal.{LeavesLine, LeavesMesh}
 use Rattle.plane.specs.Fraction.{Point}
 use Rattle.plane.specs.Pairs.{IsIndex}
 use Rattle.plane_tiling.specs.Local.{LineMesh}

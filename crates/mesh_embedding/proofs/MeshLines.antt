@@ -5,9 +5,9 @@ use Rattle.std.proofs.Common.{◌≡◌, ◌⊎◌, ◌<◌, ◌+◌, [], ◌∷
 use Rattle.std.proofs.Common.{ℕ, List, length, refl, sym, ap, subst, arith}
 use mathlib.Core.Logic.{inl, inr, ◌≢◌}
 use Rattle.std.specs.Prelude.{Contains}
-use Rattle.half_edge_mesh.specs.Mesh.{Mesh, origin, face, rev, AreSoundLinks, HasApartEnds}
-use Rattle.half_edge_mesh.specs.Outline.{IsOuterEdge, OuterChanges, SplitsOuter, IsThis}
-use Rattle.half_edge_mesh.proofs.half_edge_links.Lists.Rev.{rev-rev, rev_within}
+use Rattle.half_edge_views.specs.Mesh.{Mesh, origin, face, rev, AreSoundLinks, HasApartEnds}
+use Rattle.half_edge_views.specs.Outline.{IsOuterEdge, OuterChanges, SplitsOuter, IsThis}
+use Rattle.half_edge_views.proofs.half_edge_links_lemmas.Lists.Rev.{rev-rev, rev_within}
 use Rattle.plane.specs.Fraction.{Point, whole, WithinSegment}
 use Rattle.plane.specs.Pairs.{place, IsIndex}
 use Rattle.plane.specs.Location.{IsPast}

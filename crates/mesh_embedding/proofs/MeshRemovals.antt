@@ -2,8 +2,8 @@
 -- of the other points.
 -- Lemmas: vertex_goes, vertex_goes_to_line, plain_removes, line_plain_removes.
 use Rattle.std.proofs.Common.{◌≡◌, ℕ, List, [], map, sym, ap, subst}
-use Rattle.half_edge_mesh.specs.Contents.{Contents, IsMeshWithData}
-use Rattle.half_edge_mesh.specs.Removal.{DropsVertex, LeavesMesh}
+use Rattle.half_edge_views.specs.Contents.{Contents, IsMeshWithData}
+use Rattle.half_edge_views.specs.Removal.{DropsVertex, LeavesMesh}
 use Rattle.plane.specs.Fraction.{Point}
 use Rattle.plane.specs.Plain.{TakesOut}
 use Rattle.plane_tiling.specs.Local.{LocalMesh, LineMesh}

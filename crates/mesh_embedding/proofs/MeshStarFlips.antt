@@ -6,14 +6,14 @@ use Rattle.std.proofs.Common.{ℕ, suc, List, length, refl, sym, ap, subst, arit
 use mathlib.Core.Logic.{inl, inr, ◌≢◌}
 use Rattle.std.specs.Prelude.{ℤ, pos, ◌+ℤ◌}
 use Rattle.std.proofs.lemmas.Int.{ints}
-use Rattle.half_edge_mesh.specs.Mesh.{Mesh, origin, next, prev, face, rev, IsValidMesh}
-use Rattle.half_edge_mesh.specs.Flip.{IsFlippable}
-use Rattle.half_edge_mesh.specs.Outline.{KeepsOuter}
-use Rattle.half_edge_mesh.specs.Peel.{spoke}
-use Rattle.half_edge_mesh.specs.Round.{IsRound, neighbour}
-use Rattle.half_edge_mesh.specs.Triangles.{FlipsTriangles}
-use Rattle.half_edge_mesh.proofs.half_edge_links.Lists.Rev.{rev-rev, rev_within}
-use Rattle.half_edge_mesh.proofs.half_edge_links.Sound.Triangles as T
+use Rattle.half_edge_views.specs.Mesh.{Mesh, origin, next, prev, face, rev, IsValidMesh}
+use Rattle.half_edge_views.specs.Flip.{IsFlippable}
+use Rattle.half_edge_views.specs.Outline.{KeepsOuter}
+use Rattle.half_edge_views.specs.Peel.{spoke}
+use Rattle.half_edge_views.specs.Round.{IsRound, neighbour}
+use Rattle.half_edge_views.specs.Triangles.{FlipsTriangles}
+use Rattle.half_edge_views.proofs.half_edge_links_lemmas.Lists.Rev.{rev-rev, rev_within}
+use Rattle.half_edge_views.proofs.half_edge_links_lemmas.Sound.Triangles as T
 use Rattle.plane.specs.Fraction.{Point}
 use Rattle.plane.specs.Pairs.{place}
 use Rattle.plane.specs.Side.{TurnsLeft}

@@ -9,14 +9,14 @@ use mathlib.Core.Logic.{inl, inr, ◌≢◌}
 use Rattle.std.specs.Prelude.{Contains, IsSome}
 use Rattle.std.proofs.Math.Numerals.{add-one}
 use Rattle.std.proofs.lemmas.Bool.{cases_lt}
-use Rattle.half_edge_mesh.specs.Mesh.{Mesh, origin, next, prev, face, rev, out_edge, IsValidMesh}
-use Rattle.half_edge_mesh.specs.Mesh.{AreSoundLinks, IsInnerEdge}
-use Rattle.half_edge_mesh.specs.Outline.{IsOuterEdge}
-use Rattle.half_edge_mesh.specs.Peel.{turn, spoke, IsStrip}
-use Rattle.half_edge_mesh.specs.Round.{IsRound, neighbour}
-use Rattle.half_edge_mesh.specs.Triangles.{Triangle, triangles, triangle_at}
-use Rattle.half_edge_mesh.proofs.half_edge_links.Lists.Rev.{rev-rev, rev_within}
-use Rattle.half_edge_mesh.proofs.half_edge_links.Sound.Triangles as T
+use Rattle.half_edge_views.specs.Mesh.{Mesh, origin, next, prev, face, rev, out_edge, IsValidMesh}
+use Rattle.half_edge_views.specs.Mesh.{AreSoundLinks, IsInnerEdge}
+use Rattle.half_edge_views.specs.Outline.{IsOuterEdge}
+use Rattle.half_edge_views.specs.Peel.{turn, spoke, IsStrip}
+use Rattle.half_edge_views.specs.Round.{IsRound, neighbour}
+use Rattle.half_edge_views.specs.Triangles.{Triangle, triangles, triangle_at}
+use Rattle.half_edge_views.proofs.half_edge_links_lemmas.Lists.Rev.{rev-rev, rev_within}
+use Rattle.half_edge_views.proofs.half_edge_links_lemmas.Sound.Triangles as T
 use Rattle.plane.specs.Fraction.{Point}
 use Rattle.plane.specs.Pairs.{EachPairOnce, IsIndex}
 use Rattle.plane.specs.Tiling.{Face, face as corners}

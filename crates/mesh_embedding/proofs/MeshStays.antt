@@ -10,15 +10,15 @@ use Rattle.std.proofs.lemmas.Bool.{cases_eq, cases_lt}
 use Rattle.std.proofs.lemmas.Grind.{common_steps}
 use Rattle.std.proofs.lemmas.List.{length-map, get_or-map}
 use Rattle.std.proofs.lemmas.Option.{slice_get_within, get_or_from_slice_get, gets}
-use Rattle.half_edge_mesh.specs.Mesh.{Mesh, origin, next, prev, face, face_edge, rev, AreSoundLinks}
-use Rattle.half_edge_mesh.specs.Mesh.{IsValidMesh}
-use Rattle.half_edge_mesh.specs.Outline.{Ends, ends}
-use Rattle.half_edge_mesh.specs.Peel.{spoke}
-use Rattle.half_edge_mesh.specs.Round.{IsRound, neighbour}
-use Rattle.half_edge_mesh.specs.Triangles.{Triangle, triangle_at, triangles, FlipsTriangles}
-use Rattle.half_edge_mesh.proofs.half_edge_links.Sound.Ends.{length-ends_twice, get_or-ends}
-use Rattle.half_edge_mesh.proofs.half_edge_links.Lists.Rev.{rev-rev, rev_within}
-use Rattle.half_edge_mesh.proofs.half_edge_links.Sound.Triangles as T
+use Rattle.half_edge_views.specs.Mesh.{Mesh, origin, next, prev, face, face_edge, rev, AreSoundLinks}
+use Rattle.half_edge_views.specs.Mesh.{IsValidMesh}
+use Rattle.half_edge_views.specs.Outline.{Ends, ends}
+use Rattle.half_edge_views.specs.Peel.{spoke}
+use Rattle.half_edge_views.specs.Round.{IsRound, neighbour}
+use Rattle.half_edge_views.specs.Triangles.{Triangle, triangle_at, triangles, FlipsTriangles}
+use Rattle.half_edge_views.proofs.half_edge_links_lemmas.Sound.Ends.{length-ends_twice, get_or-ends}
+use Rattle.half_edge_views.proofs.half_edge_links_lemmas.Lists.Rev.{rev-rev, rev_within}
+use Rattle.half_edge_views.proofs.half_edge_links_lemmas.Sound.Triangles as T
 use Rattle.plane.specs.Fraction.{Point}
 use Rattle.plane.specs.Pairs.{Joins, IsSamePair, EachPairOnce}
 use Rattle.plane.specs.Tiling.{Face, IsTiling, face as corners}

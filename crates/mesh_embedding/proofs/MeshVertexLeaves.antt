@@ -5,14 +5,14 @@
 use Rattle.std.proofs.Common.{◌≡◌, ◌⊎◌, ◌<◌, ◌≤◌, ◌-◌, ◌*◌, ◌/◌, [], ◌∙◌}
 use Rattle.std.proofs.Common.{ℕ, suc, List, sym, subst, arith}
 use mathlib.Core.Logic.{inl, inr, ◌≢◌}
-use Rattle.half_edge_mesh.specs.Mesh.{face, rev}
-use Rattle.half_edge_mesh.specs.Flip.{flipped}
-use Rattle.half_edge_mesh.specs.Outline.{KeepsOuter}
-use Rattle.half_edge_mesh.specs.Peel.{spoke}
-use Rattle.half_edge_mesh.specs.Round.{IsRound, neighbour}
-use Rattle.half_edge_mesh.specs.Triangles.{FlipsTriangles}
-use Rattle.half_edge_mesh.specs.Contents.{Contents, IsMeshWithData}
-use Rattle.half_edge_mesh.specs.Removal.{FillsHole, LosesStrip}
+use Rattle.half_edge_views.specs.Mesh.{face, rev}
+use Rattle.half_edge_views.specs.Flip.{flipped}
+use Rattle.half_edge_views.specs.Outline.{KeepsOuter}
+use Rattle.half_edge_views.specs.Peel.{spoke}
+use Rattle.half_edge_views.specs.Round.{IsRound, neighbour}
+use Rattle.half_edge_views.specs.Triangles.{FlipsTriangles}
+use Rattle.half_edge_views.specs.Contents.{Contents, IsMeshWithData}
+use Rattle.half_edge_views.specs.Removal.{FillsHole, LosesStrip}
 use Rattle.plane.specs.Fraction.{Point, WithinSegment}
 use Rattle.plane.specs.Pairs.{place}
 use Rattle.plane.specs.Side.{side, on, TurnsLeft}

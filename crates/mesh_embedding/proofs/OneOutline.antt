@@ -4,8 +4,8 @@
 use Rattle.std.proofs.Common.{ℕ, List, length, sym, subst}
 use mathlib.Core.Logic.{inl, inr}
 use Rattle.std.specs.Prelude.{ℤ, Contains}
-use Rattle.half_edge_mesh.specs.Mesh.{Mesh, origin, next, AreSoundLinks, IsValidMesh}
-use Rattle.half_edge_mesh.specs.Hull.{HasOneOutline}
+use Rattle.half_edge_views.specs.Mesh.{Mesh, origin, next, AreSoundLinks, IsValidMesh}
+use Rattle.half_edge_views.specs.Hull.{HasOneOutline}
 use Rattle.plane.specs.Fraction.{Point}
 use Rattle.plane.proofs.Bracket.{Vec3}
 use Rattle.plane_tiling.specs.Local.{IsMesh, LocalMesh}

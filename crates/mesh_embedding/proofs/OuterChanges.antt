@@ -4,10 +4,10 @@ use Rattle.std.proofs.Common.{◌≡◌, ◌⊎◌, ◌<◌, ◌+◌, [], ◌∷
 use Rattle.std.proofs.Common.{ℕ, length, refl, sym, ap, subst, arith}
 use mathlib.Core.Logic.{inl, inr, ◌≢◌}
 use Rattle.std.specs.Prelude.{Contains}
-use Rattle.half_edge_mesh.specs.Mesh.{Mesh, origin, next, face, rev, AreSoundLinks, IsSoundEdge}
-use Rattle.half_edge_mesh.specs.Outline.{IsOuterEdge, KeepsOuter, ReplacesOuter, ClosesOuter}
-use Rattle.half_edge_mesh.specs.Outline.{IsThis}
-use Rattle.half_edge_mesh.proofs.half_edge_links.Lists.Rev.{rev_within}
+use Rattle.half_edge_views.specs.Mesh.{Mesh, origin, next, face, rev, AreSoundLinks, IsSoundEdge}
+use Rattle.half_edge_views.specs.Outline.{IsOuterEdge, KeepsOuter, ReplacesOuter, ClosesOuter}
+use Rattle.half_edge_views.specs.Outline.{IsThis}
+use Rattle.half_edge_views.proofs.half_edge_links_lemmas.Lists.Rev.{rev_within}
 use Rattle.plane_tiling.proofs.Totals.{Contains-head, Contains-later, Contains-none, Contains-cases}
 use Rattle.plane_edits.specs.Change.{OuterChange}
 use Rattle.plane_edits.proofs.LocalMesh.Changes.{IsOnce}

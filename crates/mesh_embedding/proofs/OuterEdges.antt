@@ -8,9 +8,9 @@ use mathlib.Core.Logic.{inl, inr, ◌≢◌}
 use Rattle.std.specs.Prelude.{Contains}
 use Rattle.std.proofs.lemmas.Bool.{cases_eq}
 use Rattle.std.proofs.lemmas.Grind.{common_steps}
-use Rattle.half_edge_mesh.specs.Mesh.{Mesh, origin, face, rev}
-use Rattle.half_edge_mesh.specs.Outline.{Ends, IsOuterEdge, OuterChanges}
-use Rattle.half_edge_mesh.specs.Flow.{outer_among}
+use Rattle.half_edge_views.specs.Mesh.{Mesh, origin, face, rev}
+use Rattle.half_edge_views.specs.Outline.{Ends, IsOuterEdge, OuterChanges}
+use Rattle.half_edge_views.specs.Flow.{outer_among}
 use Rattle.plane_tiling.proofs.Totals.{Contains-head, Contains-later, Contains-none, Contains-cases}
 use Rattle.plane_edits.specs.Change.{OuterChange}
 use Rattle.plane_edits.proofs.LocalMesh.Changes.{IsOnce, once_none, once_head, once_tail, once_cons}

@@ -11,11 +11,11 @@ use Rattle.std.specs.List.{range_with_len}
 use Rattle.std.proofs.Math.Nat.{mod_self, mod-eq_of_lt}
 use Rattle.std.proofs.lemmas.Bool.{cases_eq}
 use Rattle.std.proofs.lemmas.List.FromFn.{get_or-map-range_with_len, length-map-range_with_len}
-use Rattle.half_edge_mesh.specs.Mesh.{Mesh, next, iterate, IsValidMesh}
-use Rattle.half_edge_mesh.specs.Hull.{HasOneOutline}
-use Rattle.half_edge_mesh.specs.Contents.{Contents}
-use Rattle.half_edge_mesh.specs.Left.{each_in}
-use Rattle.half_edge_mesh.specs.Rounds.{GivesOuterLoop, IsOuterLoop}
+use Rattle.half_edge_views.specs.Mesh.{Mesh, next, iterate, IsValidMesh}
+use Rattle.half_edge_views.specs.Hull.{HasOneOutline}
+use Rattle.half_edge_views.specs.Contents.{Contents}
+use Rattle.half_edge_views.specs.Left.{each_in}
+use Rattle.half_edge_views.specs.Rounds.{GivesOuterLoop, IsOuterLoop}
 use Rattle.plane_tiling.proofs.Totals.{Contains-none, Contains-cases, Contains-head, Contains-later}
 use Rattle.plane_edits.proofs.LocalMesh.Changes.{IsOnce}
 use Rattle.mesh_embedding.proofs.Entries.{not_some}

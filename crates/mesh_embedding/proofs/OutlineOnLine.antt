@@ -5,11 +5,11 @@ use mathlib.Core.Logic.{inl, inr, ◌≢◌}
 use Rattle.std.specs.Prelude.{ℤ, ◌<ℤ◌, Contains}
 use Rattle.std.proofs.lemmas.Bool.{cases_eq}
 use Rattle.std.proofs.lemmas.List.{length-map}
-use Rattle.half_edge_mesh.specs.Mesh.{Mesh, origin, next, prev, rev, IsValidMesh}
-use Rattle.half_edge_mesh.specs.Outline.{IsOuterEdge}
-use Rattle.half_edge_mesh.specs.Triangles.{triangles, triangle_at}
-use Rattle.half_edge_mesh.specs.Hull.{HasOneOutline}
-use Rattle.half_edge_mesh.proofs.half_edge_links.Lists.Rev.{rev-rev, rev_within}
+use Rattle.half_edge_views.specs.Mesh.{Mesh, origin, next, prev, rev, IsValidMesh}
+use Rattle.half_edge_views.specs.Outline.{IsOuterEdge}
+use Rattle.half_edge_views.specs.Triangles.{triangles, triangle_at}
+use Rattle.half_edge_views.specs.Hull.{HasOneOutline}
+use Rattle.half_edge_views.proofs.half_edge_links_lemmas.Lists.Rev.{rev-rev, rev_within}
 use Rattle.plane.specs.Fraction.{Point}
 use Rattle.plane.proofs.Signs.{less_if_not_same, less_both_ways}
 use Rattle.plane.proofs.IntegerOrder.{lt_or_ge_ℤ}

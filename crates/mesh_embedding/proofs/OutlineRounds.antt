@@ -9,10 +9,10 @@ use mathlib.Core.Logic.{inl, inr}
 use Rattle.std.specs.Prelude.{ℤ, ◌<ℤ◌, ◌≤ℤ◌, neg_ℤ, Contains}
 use Rattle.std.proofs.lemmas.Int.{ints}
 use Rattle.std.proofs.lemmas.Bool.{cases_eq}
-use Rattle.half_edge_mesh.specs.Mesh.{Mesh, origin, next, prev, face, iterate, AreSoundLinks}
-use Rattle.half_edge_mesh.specs.Outline.{IsOuterEdge}
-use Rattle.half_edge_mesh.specs.Hull.{IsClosedAlong, HasOneOutline}
-use Rattle.half_edge_mesh.proofs.half_edge_links.Lists.Orbits.{step_add, comes_back}
+use Rattle.half_edge_views.specs.Mesh.{Mesh, origin, next, prev, face, iterate, AreSoundLinks}
+use Rattle.half_edge_views.specs.Outline.{IsOuterEdge}
+use Rattle.half_edge_views.specs.Hull.{IsClosedAlong, HasOneOutline}
+use Rattle.half_edge_views.proofs.half_edge_links_lemmas.Lists.Orbits.{step_add, comes_back}
 use Rattle.plane.proofs.Signs.{less_if_not_same, at_most_both_ways}
 use Rattle.plane_tiling.proofs.Rising.{greatest}
 use Rattle.plane_edits.proofs.LocalMesh.Changes.{IsOnce}

@@ -3,15 +3,15 @@
 -- Lemmas: total-read, total-map, own_edges.
 use Rattle.std.proofs.Common.{◌≡◌, List, [], ◌∷◌, map, refl, sym, ◌∙◌}
 use Rattle.std.specs.Prelude.{ℤ, ◌+ℤ◌}
-use Rattle.half_edge_mesh.specs.Mesh.{Mesh, IsValidMesh}
-use Rattle.half_edge_mesh.specs.Triangles.{triangles}
-use Rattle.half_edge_mesh.specs.Outline.{ends}
-use Rattle.half_edge_mesh.specs.Flow.{outline}
-use Rattle.half_edge_mesh.specs.Flow as F
-use Rattle.half_edge_mesh.proofs.half_edge_links.Sound.Flow.{sides_add_up}
+use Rattle.half_edge_views.specs.Mesh.{Mesh, IsValidMesh}
+use Rattle.half_edge_views.specs.Triangles.{triangles}
+use Rattle.half_edge_views.specs.Outline.{ends}
+use Rattle.half_edge_views.specs.Flow.{outline}
+use Rattle.half_edge_views.specs.Flow as F
+use Rattle.half_edge_views.proofs.half_edge_links_lemmas.Sound.Flow.{sides_add_up}
 use Rattle.plane_tiling.specs.Local.{total, around, along, AreEdgesOf}
 use Rattle.mesh_embedding.specs.Drawn.{corners_of, pair_of, faces_of, edges_of, outer_of}
-use Rattle.half_edge_mesh.proofs.half_edge_links.Lists.Sums.{same_sum}
+use Rattle.half_edge_views.proofs.half_edge_links_lemmas.Lists.Sums.{same_sum}
 
 -- the sum over a list that was read anew
 pub total-read : {X Y : Type 0} (f : Y → ℤ) (g : X → Y) (xs : List X)

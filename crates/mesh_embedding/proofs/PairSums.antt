@@ -6,10 +6,10 @@ use mathlib.Core.Logic.{inl, inr}
 use Rattle.std.specs.Prelude.{ℤ, pos, ◌+ℤ◌, ◌≤ℤ◌, ◌<ℤ◌, Contains}
 use Rattle.std.proofs.lemmas.Int.{ints}
 use Rattle.plane.proofs.IntegerOrder.{lt_or_ge_ℤ}
-use Rattle.half_edge_mesh.specs.Mesh.{Mesh}
-use Rattle.half_edge_mesh.specs.Outline.{Ends}
-use Rattle.half_edge_mesh.specs.Flow.{outline}
-use Rattle.half_edge_mesh.specs.Removal.{OuterSumsChange}
+use Rattle.half_edge_views.specs.Mesh.{Mesh}
+use Rattle.half_edge_views.specs.Outline.{Ends}
+use Rattle.half_edge_views.specs.Flow.{outline}
+use Rattle.half_edge_views.specs.Removal.{OuterSumsChange}
 use Rattle.plane_tiling.specs.Local.{total, along}
 use Rattle.plane_tiling.proofs.Flows.{is_pair, is_pair_nonneg, is_pair_own, pair_found}
 use Rattle.plane_tiling.proofs.Flows.{outer_counts}

@@ -5,16 +5,16 @@
 -- again_end, strip_left, wheel_of_three.
 use Rattle.std.proofs.Common.{◌≡◌, ℕ, zero, suc, ◌<◌, ◌*◌, ◌/◌, length, sym, ap, ◌∙◌, subst, arith}
 use mathlib.Core.Logic.{inl, inr, ◌≢◌}
-use Rattle.half_edge_mesh.specs.half_edge_links.declared.records.HalfEdge.{HalfEdge}
-use Rattle.half_edge_mesh.specs.Mesh.{Mesh, edge_at, origin, next, prev, face, rev, IsValidMesh}
-use Rattle.half_edge_mesh.specs.Mesh.{AreSoundLinks}
-use Rattle.half_edge_mesh.specs.Flip.{IsFlippable, Flips, flipped}
-use Rattle.half_edge_mesh.specs.Peel.{turn, spoke, IsWheel, IsStrip}
-use Rattle.half_edge_mesh.specs.Round.{IsRound, neighbour}
-use Rattle.half_edge_mesh.proofs.half_edge_links.Faces.FlipLemmas.{flips_is}
-use Rattle.half_edge_mesh.proofs.half_edge_links.Faces.FlipSound.{IsOffFlip, origin_kept}
-use Rattle.half_edge_mesh.proofs.half_edge_links.Lists.Rev.{rev-rev}
-use Rattle.half_edge_mesh.proofs.half_edge_links.Sound.Triangles as T
+use Rattle.half_edge_views.specs.half_edge_links.declared.records.HalfEdge.{HalfEdge}
+use Rattle.half_edge_views.specs.Mesh.{Mesh, edge_at, origin, next, prev, face, rev, IsValidMesh}
+use Rattle.half_edge_views.specs.Mesh.{AreSoundLinks}
+use Rattle.half_edge_views.specs.Flip.{IsFlippable, Flips, flipped}
+use Rattle.half_edge_views.specs.Peel.{turn, spoke, IsWheel, IsStrip}
+use Rattle.half_edge_views.specs.Round.{IsRound, neighbour}
+use Rattle.half_edge_views.proofs.half_edge_links_lemmas.Faces.FlipLemmas.{flips_is}
+use Rattle.half_edge_views.proofs.half_edge_links_lemmas.Faces.FlipSound.{IsOffFlip, origin_kept}
+use Rattle.half_edge_views.proofs.half_edge_links_lemmas.Lists.Rev.{rev-rev}
+use Rattle.half_edge_views.proofs.half_edge_links_lemmas.Sound.Triangles as T
 use Rattle.mesh_embedding.proofs.MeshStays.{halved}
 use Rattle.mesh_embedding.proofs.TurnedEnds.{KeepsOtherOrigins}
 

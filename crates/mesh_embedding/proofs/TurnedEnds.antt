@@ -1,8 +1,8 @@
 -- Where directed edges start and end, before and after one edge is turned.
 -- Notions: KeepsOtherOrigins; other_ends_stay, ends_at_next.
 use Rattle.std.proofs.Common.{◌≡◌, ◌≢◌, ℕ, ◌<◌, length, sym, ap, ◌∙◌}
-use Rattle.half_edge_mesh.specs.Mesh.{Mesh, origin, next, rev, AreSoundLinks}
-use Rattle.half_edge_mesh.proofs.half_edge_links.Lists.Rev.{rev-rev}
+use Rattle.half_edge_views.specs.Mesh.{Mesh, origin, next, rev, AreSoundLinks}
+use Rattle.half_edge_views.proofs.half_edge_links_lemmas.Lists.Rev.{rev-rev}
 
 -- all directed edges but the two of edge e start where they did
 abbrev pub KeepsOtherOrigins : Mesh → Mesh → ℕ → Type 0

@@ -1,9 +1,9 @@
 -- What the links of a mesh draw: its faces, edges and outer edges by the indexes of their vertices.
 use Rattle.std.specs.Prelude.{ℕ, List, map}
-use Rattle.half_edge_mesh.specs.Mesh.{Mesh}
-use Rattle.half_edge_mesh.specs.Triangles.{Triangle, triangles}
-use Rattle.half_edge_mesh.specs.Outline.{Ends, ends}
-use Rattle.half_edge_mesh.specs.Flow.{outline}
+use Rattle.half_edge_views.specs.Mesh.{Mesh}
+use Rattle.half_edge_views.specs.Triangles.{Triangle, triangles}
+use Rattle.half_edge_views.specs.Outline.{Ends, ends}
+use Rattle.half_edge_views.specs.Flow.{outline}
 use Rattle.plane.specs.Fraction.{Point}
 use Rattle.plane.specs.Tiling.{Face, Triangulation}
 

@@ -1,7 +1,7 @@
 -- The edges of a mesh that are still to be tested while it is legalised.
 use Rattle.std.specs.Prelude.{◌≡◌, ◌≢◌, ◌⊎◌, ◌+◌, ◌*◌, ◌/◌, ◌<◌}
 use Rattle.std.specs.Prelude.{ℕ, List, length, map, Contains, AllPairs}
-use Rattle.half_edge_mesh.specs.Mesh.{Mesh, origin, next, prev, face, rev}
+use Rattle.half_edge_views.specs.Mesh.{Mesh, origin, next, prev, face, rev}
 use Rattle.plane.specs.Fraction.{Point}
 use Rattle.plane.specs.Circle.{InsideCircle}
 use Rattle.plane.specs.Pairs.{place}

@@ -1,7 +1,7 @@
 -- Which edges and faces of a mesh keep their indexes while it changes.
 use Rattle.std.specs.Prelude.{◌≡◌, ◌⊎◌, ℕ, ◌<◌, List, length, Some, slice_get}
-use Rattle.half_edge_mesh.specs.Mesh.{Mesh, origin, rev}
-use Rattle.half_edge_mesh.specs.Triangles.{Triangle, triangles}
+use Rattle.half_edge_views.specs.Mesh.{Mesh, origin, rev}
+use Rattle.half_edge_views.specs.Triangles.{Triangle, triangles}
 use Rattle.plane.specs.Pairs.{Joins}
 use Rattle.plane_tiling.specs.Laws.{IsTurned}
 

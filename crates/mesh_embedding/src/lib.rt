@@ -2,4 +2,4 @@
 //! what each call of the mesh does to them.
 #![tactic(auto)]
 
-pub use half_edge_mesh;
+pub use half_edge_views as half_edge_mesh;

@@ -3,9 +3,9 @@
 
 use crate::lookups::{directed, edge_at, vertex};
 use half_edge_mesh::{
-    Dcel, DirectedEdgeHandle, FixedFaceHandle, HalfEdge, IsolateVertexResult, ReserveError,
+    AsVoronoiEdge, AsVoronoiFace, Dcel, DirectedEdgeHandle, DirectedVoronoiEdge, FixedFaceHandle,
+    HalfEdge, IsolateVertexResult, ReserveError,
 };
-use half_edge_voronoi::{AsVoronoiEdge, AsVoronoiFace, DirectedVoronoiEdge};
 use std::cmp::Ordering;
 use std::fmt::Debug;
 use std::hash::Hash;

@@ -1,8 +1,7 @@
 //! What the iterators of a mesh give from their far end, and how many items they have.
 
 use crate::iterators::count_of;
-use half_edge_mesh::{Dcel, MeshViews};
-use half_edge_voronoi::VoronoiViews;
+use half_edge_mesh::{Dcel, MeshViews, VoronoiViews};
 use std::alloc::AllocError;
 
 /// How many vertices, directed edges, undirected edges, faces, inner faces, Voronoi faces, directed

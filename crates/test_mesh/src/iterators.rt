@@ -2,8 +2,7 @@
 ghost use Rattle.std.specs.Iterator.{IsFinite};
 
 use crate::lookups::vertex;
-use half_edge_mesh::{Dcel, MeshViews};
-use half_edge_voronoi::{AsVoronoiFace, VoronoiViews};
+use half_edge_mesh::{AsVoronoiFace, Dcel, MeshViews, VoronoiViews};
 
 /// How many items are given. No list here is so long that it saturates.
 pub fn count_of<T: Drop, I: Iterator<Item = T> + Drop>(items: I) -> usize

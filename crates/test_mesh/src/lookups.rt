@@ -3,10 +3,9 @@ ghost use Rattle.std.specs.Prelude.{◌≡◌, ◌<◌, ◌≤◌, ◌↔◌, le
 ghost use Rattle.half_edge_mesh.specs.Mesh.{face};
 
 use half_edge_mesh::{
-    Dcel, DirectedEdgeHandle, FixedDirectedEdgeHandle, FixedFaceHandle, FixedUndirectedEdgeHandle,
-    FixedVertexHandle, MeshViews,
+    Dcel, DirectedEdgeHandle, DirectedVoronoiEdge, FixedDirectedEdgeHandle, FixedFaceHandle,
+    FixedUndirectedEdgeHandle, FixedVertexHandle, MeshViews,
 };
-use half_edge_voronoi::DirectedVoronoiEdge;
 
 pub type Mesh = Dcel<u8, u16, u32, u64>;
 

@@ -1,8 +1,10 @@
 //! What rounds give from behind, and from both ends in turn.
 
 use crate::lookups::vertex;
-use half_edge_mesh::{CircularIterator, Dcel, DirectedEdgeHandle, HullIterator, MeshViews};
-use half_edge_voronoi::{AsVoronoiFace, DirectedVoronoiEdge, VoronoiCircularIterator};
+use half_edge_mesh::{
+    AsVoronoiFace, CircularIterator, Dcel, DirectedEdgeHandle, DirectedVoronoiEdge, HullIterator,
+    MeshViews, VoronoiCircularIterator,
+};
 
 fn index<V, DE, UE, F>(edge: Option<DirectedEdgeHandle<'_, V, DE, UE, F>>) -> Option<u32> {
     edge.map(|edge| edge.index())

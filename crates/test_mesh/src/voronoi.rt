@@ -1,9 +1,9 @@
 //! The Voronoi forms of a mesh, by the indexes of what they are forms of.
 
 use crate::lookups::{edge_at, has_face, undirected_at, vertex};
-use half_edge_mesh::{Dcel, FixedFaceHandle, MeshViews};
-use half_edge_voronoi::{
-    AsVoronoiEdge, AsVoronoiFace, AsVoronoiVertex, DirectedVoronoiEdge, VoronoiVertex, VoronoiViews,
+use half_edge_mesh::{
+    AsVoronoiEdge, AsVoronoiFace, AsVoronoiVertex, Dcel, DirectedVoronoiEdge, FixedFaceHandle,
+    MeshViews, VoronoiVertex, VoronoiViews,
 };
 
 fn index_of<V, DE, UE, F>(edge: &DirectedVoronoiEdge<'_, V, DE, UE, F>) -> u32 {
