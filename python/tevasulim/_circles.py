@@ -50,66 +50,187 @@ def circle_test(
     return sign, depth
 
 
-def disks(a: np.ndarray, b: np.ndarray, c: np.ndarray) -> Tuple[np.ndarray, np.ndarray]:
-    """Disks that hold those of triples that turn left, rows of int64: centres and radii as
-    floats."""
-    u, v = b - a, c - a
-    area = (u[:, 0] * v[:, 1] - u[:, 1] * v[:, 0]).astype(np.float64)
-    uu, vv = (u * u).sum(1), (v * v).sum(1)
-    across = ((u - v) * (u - v)).sum(1)
-    x = (v[:, 1].astype(np.float64) * uu - u[:, 1].astype(np.float64) * vv) / (2 * area)
-    y = (u[:, 0].astype(np.float64) * vv - v[:, 0].astype(np.float64) * uu) / (2 * area)
-    radius = np.hypot(x, y)
+# How many faces are looked at together, so that what they need stays in a processor's cache.
+TOGETHER = 1 << 13
+
+
+def disks(points: np.ndarray, corners: np.ndarray) -> np.ndarray:
+    """The circles of faces that turn left, as floats: rows of the centre's x and y, the radius, and
+    the radius of a disk with this centre that surely holds that of the face. The difference of both
+    radii is more than a coordinate of the centre can be off.
+
+    Points are rows of int64, corners of shape (3, f)."""
+    found = np.empty((corners.shape[1], 4))
+    x, y = points[:, 0], points[:, 1]
+    for begin in range(0, len(found), TOGETHER):
+        some = slice(begin, begin + TOGETHER)
+        found[some] = circles(*(axis[corners[k, some]] for k in range(3) for axis in (x, y))).T
+    return found
+
+
+def circles(
+    ax: np.ndarray, ay: np.ndarray, bx: np.ndarray, by: np.ndarray, cx: np.ndarray, cy: np.ndarray
+) -> np.ndarray:
+    """The same for corners as columns of int64, with the results as columns."""
+    ux, uy, vx, vy = bx - ax, by - ay, cx - ax, cy - ay
+    twice = (ux * vy - uy * vx).astype(np.float64) * 2
+    wx, wy = ux - vx, uy - vy
+    uu, vv = (ux * ux + uy * uy).astype(np.float64), (vx * vx + vy * vy).astype(np.float64)
+    across = (wx * wx + wy * wy).astype(np.float64)
+    x, y = (vy * uu - uy * vv) / twice, (ux * vv - vx * uu) / twice
     # The products above are exact but for three roundings, and the radius is |u| |v| |u - v| / 2
     # area: so each coordinate of the centre is off by less than 4e-16 (|u| + |v|) / |u - v| of the
     # radius.
     sides = (np.sqrt(uu) + np.sqrt(vv)) / np.sqrt(across)
-    wide = radius * (1 + 4e-15 * (sides + 1)) + 1e-6
-    return np.stack([a[:, 0] + x, a[:, 1] + y], 1), wide
+    radii = np.sqrt(x * x + y * y)
+    wide = radii * (1 + 4e-15 * (sides + 1)) + 1e-6
+    return np.stack([ax + x, ay + y, radii, wide])
 
 
-def joined(points: np.ndarray, simplices: np.ndarray, neighbors: np.ndarray) -> np.ndarray:
-    """For each face and corner whether the face opposite it has its corners on the same circle."""
-    is_joined = np.zeros(simplices.shape, bool)
+# Primes below 2**31. Their product times 2**64 is above 2**126, and a determinant of the circle
+# test is below 2**125 in absolute value: so it is 0 exactly where it leaves 0 by all three.
+PRIMES = 2**31 - 1, 2**31 - 19
+
+
+def are_on_circle(columns: list) -> np.ndarray:
+    """Whether the circle test of differences to the fourth point, columns of int64, is exactly 0:
+    then the fourth point is on the circle of the other three. No float decides."""
+    # A product that passes 64 bits keeps what it leaves by 2**64.
+    is_on = determinant(columns) == 0
+    for prime in PRIMES:
+        rows = np.flatnonzero(is_on)
+        if len(rows):
+            is_on[rows] = remainder([it[rows] % prime for it in columns], prime) == 0
+    return is_on
+
+
+def remainder(columns: list, prime: int) -> np.ndarray:
+    """What the determinant of the circle test leaves by a prime below 2**31."""
+    ax, ay, bx, by, cx, cy = columns
+    a, b, c = ((x * x + y * y) % prime for x, y in ((ax, ay), (bx, by), (cx, cy)))
+    u, v, w = (
+        (x * y - z * q) % prime for x, y, z, q in ((bx, cy, by, cx), (cx, ay, cy, ax), (ax, by, ay, bx))
+    )
+    return ((a * u) % prime + (b * v) % prime + (c * w) % prime) % prime
+
+
+def maybe_joined(found: np.ndarray, neighbors: np.ndarray) -> Tuple[np.ndarray, np.ndarray]:
+    """Faces, and a corner of each, whose circle may be that of the face opposite the corner: the
+    centres are as near as rounding can bring them. Of two faces the first is named.
+
+    `found` is what `disks` gives for all faces, neighbors are of shape (3, f)."""
+    slack = found[:, 3] - found[:, 2]
+    low, high = found[:, 0] - slack, found[:, 0] + slack
+    faces, corners = [], []
     for k in range(3):
-        faces = np.flatnonzero(neighbors[:, k] > np.arange(len(simplices)))
-        others = neighbors[faces, k]
-        back = np.argmax(neighbors[others] == faces[:, None], axis=1)
-        corners = [points[simplices[faces, i]] for i in range(3)]
-        sign, _ = circle_test(*corners, points[simplices[others, back]])
-        on_circle = sign == 0
-        is_joined[faces[on_circle], k] = True
-        is_joined[others[on_circle], back[on_circle]] = True
-    return is_joined
+        for begin in range(0, len(found), TOGETHER):
+            some = slice(begin, begin + TOGETHER)
+            others = neighbors[k, some]
+            is_near = (low[some] <= high[others]) & (low[others] <= high[some])
+            near = np.flatnonzero(is_near) + begin
+            near = near[neighbors[k, near] > near]
+            faces.append(near)
+            corners.append(np.full(len(near), k))
+    faces, corners = np.concatenate(faces), np.concatenate(corners)
+    others = neighbors[corners, faces]
+    apart = np.abs(found[faces, 1] - found[others, 1])
+    is_near = apart <= slack[faces] + slack[others]
+    return faces[is_near], corners[is_near]
 
 
-def least_of_joined(values: np.ndarray, neighbors: np.ndarray, is_joined: np.ndarray) -> np.ndarray:
-    """For each face the least value of all faces that it is joined with, over others too."""
-    faces, corners = np.nonzero(is_joined)
-    others = neighbors[faces, corners]
-    least = values.copy()
+def joined(
+    points: np.ndarray, corners: np.ndarray, neighbors: np.ndarray, found: np.ndarray
+) -> Tuple[np.ndarray, np.ndarray]:
+    """Faces, and a corner of each, whose circle is that of the face opposite the corner; both faces
+    are named."""
+    if not len(found):
+        return np.empty(0, np.int64), np.empty(0, np.int64)
+    faces, k = maybe_joined(found, neighbors)
+    others = neighbors[k, faces]
+    own = [corners[(k + turn) % 3, faces] for turn in range(3)]
+    # The corner of the other face that is none of this one.
+    far = corners[:, others].sum(0, dtype=np.int64) - own[1] - own[2]
+    ways = [points[it] - points[far] for it in own]
+    is_on = are_on_circle([way[:, axis] for way in ways for axis in (0, 1)])
+    faces, k, others = faces[is_on], k[is_on], others[is_on]
+    back = np.argmax(neighbors[:, others] == faces, axis=0)
+    return np.concatenate([faces, others]), np.concatenate([k, back])
+
+
+def spread_over(
+    values: np.ndarray, join: np.ufunc, neighbors: np.ndarray, faces: np.ndarray, at: np.ndarray
+) -> np.ndarray:
+    """For each face the least, or the greatest, value of all faces that it is joined with, over
+    others too."""
+    others = neighbors[at, faces]
+    found = values.copy()
     while len(faces):
-        before = least.copy()
-        np.minimum.at(least, faces, least[others])
-        # A face with this least value knows one that is as low or lower.
-        if np.array_equal(least, before):
+        before = found.copy()
+        join.at(found, faces, found[others])
+        # A face with this value knows one that has it.
+        if np.array_equal(found, before):
             break
-    return least
+    return found
 
 
-def cells(points: np.ndarray, simplices: np.ndarray, neighbors: np.ndarray) -> np.ndarray:
-    """The faces of a Delaunay triangulation, but each polygon of points on one circle is cut from
-    its least point, by x and then y: rows of three, counterclockwise from that on."""
-    points = points.astype(np.int64)
-    rank = np.empty(len(points), np.int64)
-    order = np.lexsort(points.T[::-1])
-    rank[order] = np.arange(len(points))
-    is_joined = joined(points, simplices, neighbors)
-    least = least_of_joined(rank[simplices].min(1, initial=len(points)), neighbors, is_joined)
-    apex = order[least]
+def from_least(corners: np.ndarray, keys: np.ndarray) -> np.ndarray:
+    """The corners of faces, each from the one with the least key on: rows of three."""
+    a, b, c = corners
+    of_a, of_b, of_c = keys[a], keys[b], keys[c]
+    is_b = (of_b < of_a) & (of_b < of_c)
+    is_c = (of_c < of_a) & (of_c < of_b)
+    rows = np.empty((len(a), 3), corners.dtype)
+    rows[:, 0] = np.where(is_b, b, np.where(is_c, c, a))
+    rows[:, 1] = np.where(is_b, c, np.where(is_c, a, b))
+    rows[:, 2] = np.where(is_b, a, np.where(is_c, b, c))
+    return rows
+
+
+def polygons(
+    keys: np.ndarray,
+    corners: np.ndarray,
+    neighbors: np.ndarray,
+    faces: np.ndarray,
+    at: np.ndarray,
+    is_sure: np.ndarray,
+) -> np.ndarray:
+    """The polygons that joined faces make, where one of these is sure, each cut from its point with
+    the least key."""
+    order = np.argsort(keys, kind="stable")
+    rank = np.empty(len(keys), np.int64)
+    rank[order] = np.arange(len(keys))
+    least = spread_over(rank[corners].min(0), np.minimum, neighbors, faces, at)
+    is_sure = spread_over(is_sure, np.logical_or, neighbors, faces, at)
+    is_joined = np.zeros(corners.shape, bool)
+    is_joined[at, faces] = True
+    some = np.flatnonzero(is_joined.any(0) & is_sure)
+    apex = order[least[some]]
     rows = []
     for k in range(3):
-        start, end = simplices[:, (k + 1) % 3], simplices[:, (k + 2) % 3]
-        is_side = ~is_joined[:, k] & (start != apex) & (end != apex)
+        start, end = corners[(k + 1) % 3, some], corners[(k + 2) % 3, some]
+        is_side = ~is_joined[k, some] & (start != apex) & (end != apex)
         rows.append(np.stack([apex[is_side], start[is_side], end[is_side]], 1))
     return np.concatenate(rows)
+
+
+def cells(
+    points: np.ndarray,
+    corners: np.ndarray,
+    neighbors: np.ndarray,
+    found: np.ndarray,
+    is_sure: np.ndarray,
+) -> np.ndarray:
+    """The faces of a Delaunay triangulation that are sure, but each polygon of points on one circle
+    is cut from its least point, by x and then y: rows of three, counterclockwise from that on. A
+    polygon is sure where one of its faces is.
+
+    Points are rows of int64, corners and neighbors of shape (3, f), and `found` is what `disks`
+    gives for these faces."""
+    keys = (points[:, 0] << 32) + points[:, 1]
+    faces, at = joined(points, corners, neighbors, found)
+    is_alone = is_sure.copy()
+    is_alone[faces] = False
+    alone = from_least(corners[:, is_alone], keys)
+    if not len(faces):
+        return alone
+    return np.concatenate([alone, polygons(keys, corners, neighbors, faces, at, is_sure)])

@@ -3,8 +3,6 @@ from __future__ import annotations
 
 import numpy as np
 
-# The directions in which extreme points are looked for first, counterclockwise.
-DIRECTIONS = ((-1, 0), (-1, -1), (0, -1), (1, -1), (1, 0), (1, 1), (0, 1), (-1, 1))
 # Fewer points are taken as they are.
 FEW = 1000
 
@@ -14,15 +12,25 @@ def turn(a: tuple, b: tuple, c: tuple) -> int:
     return (b[0] - a[0]) * (c[1] - a[1]) - (b[1] - a[1]) * (c[0] - a[0])
 
 
+def extremes(points: np.ndarray) -> list:
+    """Rows of points that are furthest in eight directions, counterclockwise."""
+    x, y = points[:, 0], points[:, 1]
+    along, across = x + y, x - y
+    ends = [(it.argmin(), it.argmax()) for it in (x, along, y, across)]
+    (west, east), (south_west, north_east), (south, north), (north_west, south_east) = ends
+    return [west, south_west, south, south_east, east, north_east, north, north_west]
+
+
 def maybe_corners(points: np.ndarray) -> np.ndarray:
     """Rows of points, as int64 up to 2**29, but for those inside of a polygon of extreme ones. All
     products stay below 2**63."""
-    rows = [int(np.argmax(points @ np.array(way))) for way in DIRECTIONS]
+    rows = [int(it) for it in extremes(points)]
+    x, y = points[:, 0], points[:, 1]
     is_inside = np.ones(len(points), bool)
     for start, end in zip(rows, rows[1:] + rows[:1]):
-        way, to = points[end] - points[start], points - points[start]
-        if way.any():
-            is_inside &= way[0] * to[:, 1] - way[1] * to[:, 0] > 0
+        dx, dy = points[end] - points[start]
+        if dx or dy:
+            is_inside &= dx * (y - y[start]) - dy * (x - x[start]) > 0
     return np.flatnonzero(~is_inside)
 
 

@@ -29,6 +29,12 @@ def spread(numbers: np.ndarray) -> np.ndarray:
     return bits
 
 
+def near_keys(points: np.ndarray) -> np.ndarray:
+    """A number for each position, rows of shape (n, 2): near positions mostly have near ones."""
+    moved = points.astype(np.int64) + MOST
+    return spread(moved[:, 0]) | spread(moved[:, 1]) << np.uint64(1)
+
+
 def near_order(points: np.ndarray) -> np.ndarray:
     """Rows of points of shape (n, 2) in an order in which most stand beside near ones: quarters of
     the plane one after another, and in each of them the same.
@@ -38,9 +44,7 @@ def near_order(points: np.ndarray) -> np.ndarray:
     """
     if len(points) < FEW:
         return np.arange(len(points))
-    moved = points.astype(np.int64) + MOST
-    keys = spread(moved[:, 0]) | spread(moved[:, 1]) << np.uint64(1)
-    return np.argsort(keys, kind="stable")
+    return np.argsort(near_keys(points), kind="stable")
 
 
 def rounds(points: np.ndarray) -> List[np.ndarray]:

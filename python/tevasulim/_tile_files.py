@@ -11,6 +11,7 @@ import numpy as np
 from ._hull import hull_rows
 from ._library import MOST
 from ._numbers import point_list
+from ._order import near_keys
 from .errors import TevasulimError
 
 # How many points a block has.
@@ -87,16 +88,6 @@ def survey(part: str, count: int) -> Tuple[int, np.ndarray]:
     return len(points), points[np.sort(picked)]
 
 
-def blocked(points: np.ndarray) -> np.ndarray:
-    """An order of points by strips from left to right, and in each from below: neighbours stand
-    near."""
-    blocks = -(-len(points) // BLOCK)
-    strip = BLOCK * max(1, round(np.sqrt(blocks)))
-    order = np.argsort(points[:, 0], kind="stable")
-    number = np.arange(len(points)) // strip
-    return order[np.lexsort((points[order, 1], number))]
-
-
 def boxes_of(points: np.ndarray) -> np.ndarray:
     """The bounds of each block, as rows of x and y from, x and y to."""
     begins = np.arange(0, len(points), BLOCK)
@@ -127,7 +118,8 @@ class TileFiles:
         """Cuts what was handed in by tile: the points in the order of their tiles, and their
         numbers, from `first` on. Gives where each tile begins."""
         points = point_list(load(part), None)
-        tile = np.empty(len(points), np.int32)
+        # Numbers of 16 bits are sorted soonest.
+        tile = np.empty(len(points), np.uint16 if tiles <= 2**16 else np.int32)
         assign(plan, points, np.arange(len(points)), tile)
         order = np.argsort(tile, kind="stable")
         save(self.name("cut-points", number), points[order])
@@ -146,12 +138,13 @@ class TileFiles:
                 ("cut-numbers", np.empty(0, np.int64)),
             )
         )
-        order = np.lexsort((numbers, points[:, 1], points[:, 0]))
-        points, numbers = points[order], numbers[order]
-        is_first = np.ones(len(points), bool)
-        is_first[1:] = (points[1:] != points[:-1]).any(1)
-        points, numbers = points[is_first], numbers[is_first]
-        order = blocked(points)
+        # Parts come in the order of their numbers, so of equal points the least number is first.
+        keys = near_keys(points)
+        order = np.argsort(keys, kind="stable")
+        keys = keys[order]
+        is_first = np.ones(len(keys), bool)
+        np.not_equal(keys[1:], keys[:-1], out=is_first[1:])
+        order = order[is_first]
         points, numbers = points[order], numbers[order]
         boxes = boxes_of(points) if len(points) else np.empty((0, 4), np.int32)
         for kind, array in ("points", points), ("numbers", numbers), ("boxes", boxes):

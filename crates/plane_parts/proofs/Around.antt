@@ -14,11 +14,11 @@ use Rattle.plane.specs.Fraction.{Fraction, whole, InHull}
 use Rattle.plane.specs.Side.{TurnsLeft}
 use Rattle.plane.specs.Tiling.{Triangulation, IsVertex, vertex, IsFace, TilesHull, IsTiling}
 use Rattle.plane.specs.Delaunay.{IsConstrainedDelaunay}
-use Rattle.plane_delaunay.specs.History.{IsPartOf, HaveOneCircle}
-use Rattle.plane_parts.specs.Parts.{KnowsDisk, PartKnowsFaces}
+use Rattle.plane_delaunay.specs.History.{HaveOneCircle}
+use Rattle.plane_parts.specs.Parts.{IsPartOfPlane, KnowsDisk, PartKnowsFaces}
 use Rattle.plane_parts.proofs.Known.{part_faces_tie}
 
-module _ (s t : Triangulation) (d c : List (ℕ × ℕ)) (there : IsPartOf s d t c)
+module _ (s t : Triangulation) (d c : List (ℕ × ℕ)) (there : IsPartOfPlane s d t c)
     (D : IsConstrainedDelaunay s d) (h : TilesHull s) (E : IsConstrainedDelaunay t c)
     (g : TilesHull t) (l m n : ℕ) (face : IsFace t l m n) (i : ℕ) (v : IsVertex s i)
     (same : vertex s i ≡ vertex t l)

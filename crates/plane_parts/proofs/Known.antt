@@ -1,7 +1,7 @@
 -- A triple of a part that knows its disk, moved into the whole.
 -- Lemmas: part_face_is_seen, part_faces_tie.
 use Rattle.std.proofs.Common.{◌≡◌, ℕ, List, sym, ◌∙◌, ap, subst}
-use mathlib.Core.Path.{subst₂, subst₃}
+use mathlib.Core.Path.{subst₃}
 use mathlib.Core.Logic.{◌⊎◌, inl, inr}
 use Rattle.std.specs.Prelude.{◌≢◌, pos}
 use Rattle.plane.proofs.Centre.{centre, centre_is_centre}
@@ -20,17 +20,16 @@ use Rattle.plane.specs.Tiling.{Triangulation, IsVertex, vertex, TilesHull}
 use Rattle.plane.specs.Tiling.{IsTiling}
 use Rattle.plane.specs.Delaunay.{IsSeen}
 use Rattle.plane_delaunay.specs.Cells.{HasVertexAt, HasFaceAt}
-use Rattle.plane_delaunay.specs.History.{IsVisiblyEmpty, IsPartOf, HaveOneCircle}
-use Rattle.plane_parts.specs.Parts.{KnowsDisk, PartFaceIsSeen, PartFacesTie}
+use Rattle.plane_delaunay.specs.History.{IsVisiblyEmpty, HaveOneCircle}
+use Rattle.plane_parts.specs.Parts.{IsPartOfPlane, KnowsDisk, PartFaceIsSeen, PartFacesTie}
 
-module _ (s t : Triangulation) (d c : List (ℕ × ℕ)) (there : IsPartOf s d t c) where
+module _ (s t : Triangulation) (d c : List (ℕ × ℕ)) (there : IsPartOfPlane s d t c) where
   -- what is seen past all constraints of the whole is seen past those of the part
   seen_back : (u v w p : Fraction) → IsSeen t c u v w p → IsSeen s d u v w p
   seen_back u v w p e = record {
     from = e.from;
     inside = e.inside;
-    free = λ i j h y k l. let m = there.pairs i j h in
-        e.free m.0 m.1 m.2 y k (subst₂ (λ a b. OnSegment a b y) m.3 m.4 l);
+    free = λ i j h y k l. let m = there.covered i j h y l in e.free m.0 m.1 m.2 y k m.3;
   }
 
   module _ (i j k : ℕ) (hi : IsVertex s i) (hj : IsVertex s j) (hk : IsVertex s k)
@@ -38,13 +37,13 @@ module _ (s t : Triangulation) (d c : List (ℕ × ℕ)) (there : IsPartOf s d t
       (left : TurnsLeft (vertex s i) (vertex s j) (vertex s k))
       (unentered : (p : Fraction) → InsideTriangle (vertex s i) (vertex s j) (vertex s k) p
       → (m n : ℕ) → Joins d m n → ¬ OnSegment (vertex s m) (vertex s n) p) where
-    abbrev x : (m : ℕ) × IsVertex t m × (vertex s i ≡ vertex t m)
+    abbrev x : HasVertexAt t (vertex s i)
     x = there.vertices i hi
 
-    abbrev y : (m : ℕ) × IsVertex t m × (vertex s j ≡ vertex t m)
+    abbrev y : HasVertexAt t (vertex s j)
     y = there.vertices j hj
 
-    abbrev z : (m : ℕ) × IsVertex t m × (vertex s k ≡ vertex t m)
+    abbrev z : HasVertexAt t (vertex s k)
     z = there.vertices k hk
 
     moved_turns : TurnsLeft (vertex t x.0) (vertex t y.0) (vertex t z.0)
@@ -63,7 +62,7 @@ module _ (s t : Triangulation) (d c : List (ℕ × ℕ)) (there : IsPartOf s d t
     moved_unentered p a m n h l =
         let q = back (λ u v w. InsideTriangle u v w p) a in
         let r = known.entering p q m n h l in
-        unentered p q r.0 r.1 r.2 (subst₂ (λ u v. OnSegment u v p) r.3 r.4 l)
+        unentered p q r.0 r.1 r.2 r.3
 
     -- ---- a triple that is alone among what is seen
     module _ (h : TilesHull t) (alone : (n : ℕ) → IsVertex s n → n ≢ i → n ≢ j → n ≢ k
@@ -79,7 +78,7 @@ module _ (s t : Triangulation) (d c : List (ℕ × ℕ)) (there : IsPartOf s d t
           m : HasVertexAt s (vertex t n)
           m = known.seen n v seen u
 
-          other : (e : ℕ) (w : (m : ℕ) × IsVertex t m × (vertex s e ≡ vertex t m)) → n ≢ w.0
+          other : (e : ℕ) (w : HasVertexAt t (vertex s e)) → n ≢ w.0
               → m.0 ≢ e
           other e w differs same = differs
               (distinct t h n w.0 v w.1 (m.2 ∙ ap (vertex s) same ∙ w.2))
@@ -135,13 +134,13 @@ module _ (s t : Triangulation) (d c : List (ℕ × ℕ)) (there : IsPartOf s d t
 pub part_face_is_seen : PartFaceIsSeen
 part_face_is_seen s t d c there E i j k alone known = go E.tiling
   where
-    x : (m : ℕ) × IsVertex t m × (vertex s i ≡ vertex t m)
+    x : HasVertexAt t (vertex s i)
     x = there.vertices i alone.corners.0
 
-    y : (m : ℕ) × IsVertex t m × (vertex s j ≡ vertex t m)
+    y : HasVertexAt t (vertex s j)
     y = there.vertices j alone.corners.1
 
-    z : (m : ℕ) × IsVertex t m × (vertex s k ≡ vertex t m)
+    z : HasVertexAt t (vertex s k)
     z = there.vertices k alone.corners.2
 
     go : IsTiling t → HasFaceAt t (vertex s i) (vertex s j) (vertex s k)
@@ -197,13 +196,13 @@ part_faces_tie s t d c there D E i j k l m n q f known g in_f in_g = go D.tiling
         turns : TurnsLeft (vertex s i) (vertex s j) (vertex s k)
         turns = h.turning i j k f
 
-        x : (m : ℕ) × IsVertex t m × (vertex s i ≡ vertex t m)
+        x : HasVertexAt t (vertex s i)
         x = there.vertices i v.0
 
-        y : (m : ℕ) × IsVertex t m × (vertex s j ≡ vertex t m)
+        y : HasVertexAt t (vertex s j)
         y = there.vertices j v.1
 
-        z : (m : ℕ) × IsVertex t m × (vertex s k ≡ vertex t m)
+        z : HasVertexAt t (vertex s k)
         z = there.vertices k v.2
 
         o : IsOpenTriple t c x.0 y.0 z.0

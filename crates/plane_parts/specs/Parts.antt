@@ -7,24 +7,34 @@ use Rattle.plane.specs.Pairs.{Joins}
 use Rattle.plane.specs.Tiling.{Triangulation, IsVertex, vertex, IsFace, InsideCorners}
 use Rattle.plane.specs.Tiling.{TilesHull}
 use Rattle.plane.specs.Delaunay.{IsSeen, IsConstrainedDelaunay}
-use Rattle.plane_delaunay.specs.Cells.{HasVertexAt, HasFaceAt}
-use Rattle.plane_delaunay.specs.History.{IsVisiblyEmpty, IsPartOf, HaveOneCircle}
+use Rattle.plane_delaunay.specs.Cells.{HasVertexAt, HasFaceAt, HasVerticesOf}
+use Rattle.plane_delaunay.specs.History.{IsVisiblyEmpty, HaveOneCircle}
+
+-- s, with some constraints, is a part of t, with others: its vertices are some of t's, by position,
+-- and each point of its constraints is a point of t's. A constraint of s may be several of t's one
+-- after another, where t has vertices on it that s has not
+pub record IsPartOfPlane (s : Triangulation) (constraints : List (ℕ × ℕ)) (t : Triangulation)
+    (others : List (ℕ × ℕ)) : Type 0 where
+  pub vertices : HasVerticesOf t s
+  pub covered : (i j : ℕ) → Joins constraints i j → (p : Fraction)
+      → OnSegment (vertex s i) (vertex s j) p
+      → (m n : ℕ) × Joins others m n × OnSegment (vertex t m) (vertex t n) p
 
 -- s, with some constraints, knows what t, with others, has for the triple a b c: each vertex of t
--- that is seen from inside the triple, and inside its circle or on it, is one of s; each constraint
--- of t that has a point strictly inside the triple is one of s; both by position
+-- that is seen from inside the triple, and inside its circle or on it, is one of s, by position;
+-- and each point of a constraint of t that is strictly inside the triple is on a constraint of s
 pub record KnowsDisk (s : Triangulation) (constraints : List (ℕ × ℕ)) (t : Triangulation)
     (others : List (ℕ × ℕ)) (a b c : Fraction) : Type 0 where
   pub seen : (n : ℕ) → IsVertex t n → IsSeen t others a b c (vertex t n)
       → InsideCircle a b c (vertex t n) ⊎ OnCircle a b c (vertex t n) → HasVertexAt s (vertex t n)
   pub entering : (p : Fraction) → InsideTriangle a b c p → (m n : ℕ) → Joins others m n
       → OnSegment (vertex t m) (vertex t n) p
-      → (i j : ℕ) × Joins constraints i j × (vertex t m ≡ vertex s i) × (vertex t n ≡ vertex s j)
+      → (i j : ℕ) × Joins constraints i j × OnSegment (vertex s i) (vertex s j) p
 
 -- a visibly empty triple of a part that knows its disk is a face of the whole
 abbrev pub PartFaceIsSeen : Type 0
 PartFaceIsSeen = (s t : Triangulation) (constraints others : List (ℕ × ℕ))
-    → IsPartOf s constraints t others → IsConstrainedDelaunay t others
+    → IsPartOfPlane s constraints t others → IsConstrainedDelaunay t others
     → (i j k : ℕ) → IsVisiblyEmpty s constraints i j k
     → KnowsDisk s constraints t others (vertex s i) (vertex s j) (vertex s k)
     → HasFaceAt t (vertex s i) (vertex s j) (vertex s k)
@@ -32,7 +42,7 @@ PartFaceIsSeen = (s t : Triangulation) (constraints others : List (ℕ × ℕ))
 -- where a face of a part that knows its disk and a face of the whole overlap, they have one circle
 abbrev pub PartFacesTie : Type 0
 PartFacesTie = (s t : Triangulation) (constraints others : List (ℕ × ℕ))
-    → IsPartOf s constraints t others → IsConstrainedDelaunay s constraints
+    → IsPartOfPlane s constraints t others → IsConstrainedDelaunay s constraints
     → IsConstrainedDelaunay t others
     → (i j k l m n : ℕ) (q : Fraction) → IsFace s i j k
     → KnowsDisk s constraints t others (vertex s i) (vertex s j) (vertex s k)
@@ -43,7 +53,7 @@ PartFacesTie = (s t : Triangulation) (constraints others : List (ℕ × ℕ))
 -- the whole there has one circle with a face of the part there
 abbrev pub PartKnowsFaces : Type 0
 PartKnowsFaces = (s t : Triangulation) (constraints others : List (ℕ × ℕ))
-    → IsPartOf s constraints t others → IsConstrainedDelaunay s constraints → TilesHull s
+    → IsPartOfPlane s constraints t others → IsConstrainedDelaunay s constraints → TilesHull s
     → IsConstrainedDelaunay t others
     → ((p : Fraction) → InHull (map whole t.points) p → InHull (map whole s.points) p)
     → (i : ℕ) → IsVertex s i

@@ -1,0 +1,58 @@
+"""A triangulation of the library with nothing between: points by the rows in which they came."""
+from __future__ import annotations
+
+from ctypes import byref, c_size_t
+from typing import Tuple
+
+import numpy as np
+
+from . import _library as library
+from ._order import rounds
+
+
+class Mesh:
+    """A plain triangulation of different points, which only grows. A point is named by its row: of
+    all lists that were inserted, one after another."""
+
+    def __init__(self, points: np.ndarray):
+        self._handle = library.Mesh()
+        library.call("open", byref(self._handle), library.PLAIN)
+        self._rows = np.empty(0, np.int32)
+        self._faces = np.empty((0, 9), np.uint32)
+        try:
+            self.insert_all(points)
+        except BaseException:
+            self.close()
+            raise
+
+    def close(self) -> None:
+        library.LIBRARY.tevasulim_close(byref(self._handle))
+
+    def insert_all(self, points: np.ndarray) -> None:
+        """Inserts further points, an int32 array of shape (n, 2), none of which is there."""
+        first = len(self._rows)
+        self._rows = np.concatenate([self._rows, np.empty(len(points), np.int32)])
+        for part in rounds(points):
+            some = np.ascontiguousarray(points[part])
+            vertices = np.empty(len(some), np.uint32)
+            words = *library.rows(some), vertices.ctypes.data, len(vertices)
+            library.call("insert_all", byref(self._handle), *words)
+            self._rows[vertices] = part + first
+
+    def faces(self) -> Tuple[np.ndarray, np.ndarray]:
+        """The corners of each face, counterclockwise, as three columns of rows of points, and the
+        face opposite each corner, as three columns with -1 for none. Both arrays have the shape
+        (3, f). A face keeps its place as long as no later insertion changes its corners."""
+        room = 2 * len(self._rows)
+        if len(self._faces) < room:
+            self._faces = np.empty((room + room // 8, 9), np.uint32)
+        length = c_size_t()
+        words = self._faces.ctypes.data, len(self._faces), byref(length)
+        library.call("faces", byref(self._handle), *words)
+        found = self._faces[: length.value]
+        corners = np.empty((3, len(found)), np.int32)
+        neighbors = np.empty((3, len(found)), np.int32)
+        for k in range(3):
+            np.take(self._rows, found[:, k], out=corners[k])
+            neighbors[k] = found[:, 3 + k]
+        return corners, neighbors
