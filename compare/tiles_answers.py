@@ -13,11 +13,13 @@ import numpy as np
 from distributed import Client, LocalCluster
 
 from geometry import in_circle
-from tevasulim import NotWholeError, TooLargeError, Triangulation
+from tevasulim import CrossingError, NoSuchPointError, NotWholeError, TooLargeError, Triangulation
 from tevasulim.tiles import triangulate_tiles
 
 MOST = 2**29
 COUNT, ON_LINE, WORKERS, TILES = 100_000, 3_990, 4, (1, 4, 25, 100)
+FEWER = 20_000
+NO_SEGMENTS = np.empty((0, 2), np.int64)
 
 
 def random_points(draw):
@@ -43,16 +45,83 @@ def line(draw):
     return np.arange(-ON_LINE // 2, ON_LINE // 2)[:, None] * (3, 2) + (0, 1)
 
 
+def legal_segments(draw, points, tries, near=None):
+    """Segments between points that cross none before, to one of the nearest points where it is said
+    how many these are."""
+    found = []
+    with Triangulation(points, segments=[]) as triangulation:
+        for _ in range(tries):
+            start, end = draw.integers(0, len(points), 2).tolist()
+            if near:
+                far = ((points - points[start]).astype(float) ** 2).sum(1)
+                end = int(np.argpartition(far, near)[draw.integers(near)])
+            try:
+                triangulation.add_constraint(start, end)
+                found.append((start, end))
+            except CrossingError:
+                continue
+    return np.array(found, np.int64).reshape(-1, 2)
+
+
+def random_segments(draw):
+    """Short segments everywhere, and some long ones."""
+    points = np.unique(draw.integers(-MOST, MOST, (FEWER, 2)), axis=0)
+    near, far = legal_segments(draw, points, 600, 12), legal_segments(draw, points, 20)
+    with Triangulation(points, near) as triangulation:
+        added = []
+        for start, end in far.tolist():
+            try:
+                triangulation.add_constraint(start, end)
+                added.append((start, end))
+            except CrossingError:
+                continue
+    return points, np.concatenate([near, np.array(added, np.int64).reshape(-1, 2)])
+
+
+def contours(draw):
+    """Rings round a hill, one inside another."""
+    turn = np.linspace(0, 2 * np.pi, FEWER // 20, endpoint=False)
+    rings = [np.stack([np.cos(turn), np.sin(turn)], 1) * radius * 25e6 for radius in range(1, 21)]
+    points = np.rint(np.concatenate(rings)).astype(np.int64)
+    at = np.arange(len(points)).reshape(20, -1)
+    return points, np.stack([at, np.roll(at, -1, axis=1)], -1).reshape(-1, 2)
+
+
+def parcels(draw):
+    """Borders as long lines that cross at stones, and points in the parcels."""
+    side, step = 30, 30_000
+    x, y = np.meshgrid(np.arange(side) * step, np.arange(side) * step)
+    stones = np.stack([x, y], -1).reshape(-1, 2)
+    others = draw.integers(0, (side - 1) * step, (FEWER, 2))
+    points = np.unique(np.concatenate([stones, others]), axis=0)
+    keys = points[:, 0] * 2**31 + points[:, 1]
+    last = (side - 1) * step
+    lines = [((0, at), (last, at)) for at in range(0, last + 1, step)]
+    lines += [((at, 0), (at, last)) for at in range(0, last + 1, step)]
+    ends = np.array(lines).reshape(-1, 2)
+    rows = np.searchsorted(keys, ends[:, 0] * 2**31 + ends[:, 1])
+    return points, rows.reshape(-1, 2)
+
+
+def one_wall(draw):
+    """One constraint through all tiles."""
+    points = np.unique(draw.integers(-MOST + 1, MOST, (FEWER, 2)), axis=0)
+    ends = [(-MOST, -MOST + 5), (MOST, MOST - 3)]
+    return np.concatenate([points, ends]), np.array([[len(points), len(points) + 1]])
+
+
 def rows_in_order(rows):
     return rows[np.lexsort(rows.T[::-1])]
 
 
-def cells_of_all(points):
+def cells_of_all(points, segments=None):
     """The cells of one triangulation: each face that is alone on its circle, and of the others the
-    polygons that they make, cut from their least corner. By sets and Python's whole numbers."""
-    with Triangulation(points) as triangulation:
+    polygons that they make past no constraint, cut from their least corner. By sets and Python's
+    whole numbers."""
+    with Triangulation(points, segments) as triangulation:
         faces = triangulation.simplices.tolist()
         neighbors = triangulation.neighbors.tolist()
+        is_constraint = triangulation.constraint_sides.tolist()
     places = [tuple(it) for it in points.tolist()]
     parts = list(range(len(faces)))
 
@@ -63,8 +132,8 @@ def cells_of_all(points):
         return i
 
     for i, across in enumerate(neighbors):
-        for j in across:
-            if i < j:
+        for side, j in enumerate(across):
+            if i < j and not is_constraint[i][side]:
                 (far,) = set(faces[j]) - set(faces[i])
                 if in_circle(*(places[k] for k in faces[i]), places[far]) == 0:
                     parts[root(i)] = root(j)
@@ -79,12 +148,13 @@ def cells_of_all(points):
     return rows_in_order(np.array(cells, np.int64).reshape(-1, 3))
 
 
-def check(points, tiles, client, folder, wanted):
+def check(points, tiles, client, folder, wanted, segments=NO_SEGMENTS):
     """Runs tiles over the points in three parts, one of them a file, and compares their cells."""
     parts = np.array_split(points, 3)
     np.save(f"{folder}/part.npy", parts[1])
     parts[1] = f"{folder}/part.npy"
-    found = triangulate_tiles(parts, -(-len(points) // tiles), client, folder)
+    words = parts, -(-len(points) // tiles), client, folder
+    found = triangulate_tiles(*words, segments=np.array_split(segments, 2))
     assert len(found.cells) == len(found.reports) == tiles
     rows = np.concatenate([np.load(name) for name in found.cells])
     assert np.array_equal(rows_in_order(rows), wanted)
@@ -109,6 +179,46 @@ def check_few():
         count += len(wanted)
     assert count > 1000
     print(f"few points: {count} cells as in one")
+
+
+def check_few_segments():
+    """The same with segments between the points, many of which overlap or meet on points."""
+    draw, count = np.random.default_rng(11), 0
+    for reach in (1, 2, 3, 5, 9, MOST) * 15:
+        points = draw.integers(-reach, reach + 1, (draw.integers(1, 30), 2))
+        if draw.integers(6) == 0:
+            points[:, 1] = points[:, 0]
+        segments = legal_segments(draw, points, draw.integers(0, 20))
+        wanted = cells_of_all(points, segments)
+        words = np.array_split(points, draw.integers(1, 4)), int(draw.integers(1, 8))
+        found = triangulate_tiles(*words, segments=np.array_split(segments, draw.integers(1, 4)))
+        rows = rows_in_order(np.concatenate(found.cells))
+        assert np.array_equal(rows, wanted), (points.tolist(), segments.tolist())
+        count += len(wanted)
+    assert count > 500
+    print(f"few points and segments: {count} cells as in one")
+
+
+def check_crossing():
+    """The first segment that crosses an earlier one is told with both rows, whatever the tiles."""
+    draw = np.random.default_rng(12)
+    for _ in range(20):
+        points = draw.integers(-50, 51, (40, 2))
+        segments = draw.integers(0, 40, (12, 2))
+        try:
+            Triangulation(points, segments).close()
+            wanted = None
+        except CrossingError as error:
+            wanted = error.index
+        for size in 5, 50:
+            try:
+                triangulate_tiles([points], size, segments=np.array_split(segments, 3))
+                found = None
+            except CrossingError as error:
+                found = error.index
+                assert f"segment {found} crosses segment" in str(error)
+            assert found == wanted, (points.tolist(), segments.tolist(), found, wanted)
+    print("segments that cross are told as in one")
 
 
 def check_refusals():
@@ -141,6 +251,18 @@ def check_refusals():
                 continue
             raise AssertionError(size)
         assert sorted(os.listdir(folder)) == kept
+    for segments, error in (
+        ([(0, 2)], NoSuchPointError),
+        ([(-1, 0)], NoSuchPointError),
+        ([(0.0, 1.0)], TypeError),
+        ([(0, 1, 2)], ValueError),
+    ):
+        try:
+            triangulate_tiles([[(0, 0), (4, 0)]], 5, segments=[segments])
+        except error as found:
+            assert error is not NoSuchPointError or found.index == 0
+        else:
+            raise AssertionError(segments)
     assert triangulate_tiles([], 5).cells[0].shape == (0, 3)
     print("what is handed in wrongly is refused")
 
@@ -163,8 +285,20 @@ class Ending(threading.Thread):
             time.sleep(0.002)
 
 
+def check_segments(client, folder):
+    """Tiles with constraints of each kind beside one triangulation."""
+    for number, make in enumerate((random_segments, contours, parcels, one_wall)):
+        points, segments = make(np.random.default_rng(20 + number))
+        wanted = cells_of_all(points, segments)
+        for tiles in 1, 4, 25:
+            check(points, tiles, client, folder, wanted, segments)
+        print(f"{make.__name__}: {len(wanted)} cells, {len(segments)} segments", flush=True)
+
+
 def main():
     check_few()
+    check_few_segments()
+    check_crossing()
     check_refusals()
     # A machine that is busy with other things is no reason to give up.
     waits = {"distributed.comm.timeouts.connect": "600s", "distributed.comm.timeouts.tcp": "600s"}
@@ -192,6 +326,7 @@ def main():
                 assert 10 < ending.found < 100
                 assert ending.pid not in client.run(os.getpid).values()
                 print(f"the same where a worker was ended after {ending.found} of 100 tiles")
+        check_segments(client, folder)
     with tempfile.TemporaryDirectory() as folder, ProcessPoolExecutor(2) as pool:
         check(points, 25, pool, folder, wanted)
         check(points, 25, None, folder, wanted)

@@ -2,7 +2,7 @@
 by Python's whole numbers elsewhere. What only narrows a search errs on the safe side."""
 from __future__ import annotations
 
-from typing import Tuple
+from typing import NamedTuple, Tuple
 
 import numpy as np
 
@@ -114,11 +114,27 @@ def remainder(columns: list, prime: int) -> np.ndarray:
     return ((a * u) % prime + (b * v) % prime + (c * w) % prime) % prime
 
 
-def maybe_joined(found: np.ndarray, neighbors: np.ndarray) -> Tuple[np.ndarray, np.ndarray]:
-    """Faces, and a corner of each, whose circle may be that of the face opposite the corner: the
-    centres are as near as rounding can bring them. Of two faces the first is named.
+class Faces(NamedTuple):
+    """All faces of a triangulation: its points, rows of int64; corners, the face opposite each
+    corner and whether the side there is a constraint, each of shape (3, f); and what `disks`
+    gives."""
 
-    `found` is what `disks` gives for all faces, neighbors are of shape (3, f)."""
+    points: np.ndarray
+    corners: np.ndarray
+    neighbors: np.ndarray
+    is_constraint: np.ndarray
+    found: np.ndarray
+
+
+def maybe_joined(
+    found: np.ndarray, neighbors: np.ndarray, is_constraint: np.ndarray
+) -> Tuple[np.ndarray, np.ndarray]:
+    """Faces, and a corner of each, where the side opposite is no constraint and whose circle may be
+    that of the face beyond it: the centres are as near as rounding can bring them. Of two faces the
+    first is named.
+
+    `found` is what `disks` gives for all faces; neighbors, and whether a side is a constraint, are
+    of shape (3, f)."""
     slack = found[:, 3] - found[:, 2]
     low, high = found[:, 0] - slack, found[:, 0] + slack
     faces, corners = [], []
@@ -128,7 +144,7 @@ def maybe_joined(found: np.ndarray, neighbors: np.ndarray) -> Tuple[np.ndarray, 
             others = neighbors[k, some]
             is_near = (low[some] <= high[others]) & (low[others] <= high[some])
             near = np.flatnonzero(is_near) + begin
-            near = near[neighbors[k, near] > near]
+            near = near[(neighbors[k, near] > near) & ~is_constraint[k, near]]
             faces.append(near)
             corners.append(np.full(len(near), k))
     faces, corners = np.concatenate(faces), np.concatenate(corners)
@@ -138,14 +154,13 @@ def maybe_joined(found: np.ndarray, neighbors: np.ndarray) -> Tuple[np.ndarray, 
     return faces[is_near], corners[is_near]
 
 
-def joined(
-    points: np.ndarray, corners: np.ndarray, neighbors: np.ndarray, found: np.ndarray
-) -> Tuple[np.ndarray, np.ndarray]:
-    """Faces, and a corner of each, whose circle is that of the face opposite the corner; both faces
-    are named."""
+def joined(faces_of: Faces) -> Tuple[np.ndarray, np.ndarray]:
+    """Faces, and a corner of each, where the side opposite is no constraint and whose circle is
+    that of the face beyond it; both faces are named."""
+    points, corners, neighbors, is_constraint, found = faces_of
     if not len(found):
         return np.empty(0, np.int64), np.empty(0, np.int64)
-    faces, k = maybe_joined(found, neighbors)
+    faces, k = maybe_joined(found, neighbors, is_constraint)
     others = neighbors[k, faces]
     own = [corners[(k + turn) % 3, faces] for turn in range(3)]
     # The corner of the other face that is none of this one.
@@ -213,21 +228,13 @@ def polygons(
     return np.concatenate(rows)
 
 
-def cells(
-    points: np.ndarray,
-    corners: np.ndarray,
-    neighbors: np.ndarray,
-    found: np.ndarray,
-    is_sure: np.ndarray,
-) -> np.ndarray:
-    """The faces of a Delaunay triangulation that are sure, but each polygon of points on one circle
-    is cut from its least point, by x and then y: rows of three, counterclockwise from that on. A
-    polygon is sure where one of its faces is.
-
-    Points are rows of int64, corners and neighbors of shape (3, f), and `found` is what `disks`
-    gives for these faces."""
+def cells(faces_of: Faces, is_sure: np.ndarray) -> np.ndarray:
+    """The faces of a constrained Delaunay triangulation that are sure, but each polygon of points
+    on one circle that no constraint cuts is cut from its least point, by x and then y: rows of
+    three, counterclockwise from that on. A polygon is sure where one of its faces is."""
+    points, corners, neighbors = faces_of[:3]
     keys = (points[:, 0] << 32) + points[:, 1]
-    faces, at = joined(points, corners, neighbors, found)
+    faces, at = joined(faces_of)
     is_alone = is_sure.copy()
     is_alone[faces] = False
     alone = from_least(corners[:, is_alone], keys)

@@ -3,13 +3,15 @@ it, until each cell at a point of its own is sure."""
 from __future__ import annotations
 
 import time
-from typing import NamedTuple, Optional, Tuple
+from typing import List, NamedTuple, Optional, Tuple
 
 import numpy as np
 
-from ._circles import cells, circle_test, disks
+from ._circles import Faces, cells, circle_test, disks
 from ._mesh import Mesh
-from ._tile_files import Box, Neighbour, TileFiles, save
+from ._segments import ENDS, NONE, NUMBERS, ROW, bounds_of, common_points, crossing, meet, side
+from ._tile_files import Neighbour, TileFiles, save
+from .errors import CrossingError
 
 # How wide a halo is at first, in mean distances of the tile's points.
 HALO = 6.0
@@ -22,7 +24,7 @@ AT_ONCE = 1024
 class TileReport(NamedTuple):
     """What a tile did: its points, those of its halo and those fetched later, how many circles it
     asked other tiles about, bytes that it read of theirs, how often it triangulated, processor
-    seconds, and cells."""
+    seconds, and cells; and the rows of two segments that cross, or none."""
 
     points: int
     halo: int
@@ -32,15 +34,19 @@ class TileReport(NamedTuple):
     rounds: int
     seconds: float
     cells: int
+    crossing: Tuple[int, ...] = ()
 
 
 class Plan(NamedTuple):
-    """What each tile knows of all: the bounds of the points of each, as rows of x and y from, x and
-    y to, and the corners of the hull of all points, with their numbers."""
+    """What each tile knows of all: the part of the plane of each, and the bounds of its points, as
+    rows of x and y from, x and y to; the corners of the hull of all points, with their numbers; and
+    for each part of the segments where those of a tile begin."""
 
+    boxes: np.ndarray
     bounds: np.ndarray
     corners: np.ndarray
     numbers: np.ndarray
+    segments: List[List[int]]
 
 
 def keys_of(points: np.ndarray) -> np.ndarray:
@@ -77,8 +83,15 @@ def are_within(found: np.ndarray, region: np.ndarray) -> np.ndarray:
 class Disks:
     """The closed disks of some faces, corners of shape (3, f), whose circles `disks` found."""
 
-    def __init__(self, points: np.ndarray, corners: np.ndarray, found: np.ndarray):
+    def __init__(
+        self,
+        points: np.ndarray,
+        corners: np.ndarray,
+        found: np.ndarray,
+        is_constraint: np.ndarray,
+    ):
         self.corners = points[corners]
+        self.is_constraint = is_constraint
         self.centers, self.radii = found[:, :2], found[:, 3]
         # So that no box which a disk reaches is passed over.
         self.reaches_2 = self.radii * self.radii * (1 + 1e-12)
@@ -102,22 +115,50 @@ class Disks:
         corners, of_near = self.corners[:, rows[near[0]]], points[near].astype(np.int64)
         signs, depths = np.full(points.shape[:2], -1, np.int8), np.zeros(points.shape[:2])
         signs[near], depths[near] = circle_test(*corners, of_near)
+        for k in range(3):
+            # What is in a disk beyond a side that is a constraint is hidden by it.
+            is_side = self.is_constraint[k, rows[near[0]]]
+            ends = (*corners[(k + 1) % 3][is_side].T, *corners[(k + 2) % 3][is_side].T)
+            is_hidden = side(*ends, *of_near[is_side].T) < 0
+            of_side = near[0][is_side][is_hidden], near[1][is_side][is_hidden]
+            signs[of_side] = -1
         return signs, depths
+
+
+class Crossing(Exception):
+    """The rows of a segment, and of one before it that it crosses."""
 
 
 class Part:
     """Some of all points, rows of int64 with their numbers and whether they are a tile's own, and
-    their triangulation."""
+    their triangulation, with the segments between them that are known."""
 
-    def __init__(self, points: np.ndarray, numbers: np.ndarray, is_own: np.ndarray):
+    def __init__(
+        self,
+        tile: Tile,
+        points: np.ndarray,
+        numbers: np.ndarray,
+        is_own: np.ndarray,
+        segments: np.ndarray,
+    ):
+        self.tile = tile
         self.points, self.numbers, self.is_own = points, numbers, is_own
+        self.segments = NONE
         self._keys: Optional[np.ndarray] = None
         self.mesh = Mesh(points.astype(np.int32))
-        self.look()
+        try:
+            self.constrain(segments)
+            self.look()
+        except BaseException:
+            self.close()
+            raise
+
+    def close(self) -> None:
+        self.mesh.close()
 
     def look(self) -> None:
         """Reads the faces as they are now, and finds their circles."""
-        self.corners, self.neighbors = self.mesh.faces()
+        self.corners, self.neighbors, self.is_constraint = self.mesh.faces()
         self.found = disks(self.points, self.corners)
 
     def faces_at(self, is_asked: np.ndarray) -> np.ndarray:
@@ -126,7 +167,13 @@ class Part:
         return np.flatnonzero(is_asked[a] | is_asked[b] | is_asked[c])
 
     def disks_of(self, faces: np.ndarray) -> Disks:
-        return Disks(self.points, self.corners[:, faces], self.found[faces])
+        words = self.corners[:, faces], self.found[faces], self.is_constraint[:, faces]
+        return Disks(self.points, *words)
+
+    def boxes_of(self, faces: np.ndarray) -> np.ndarray:
+        """The bounds of some faces, as rows of x and y from, x and y to."""
+        at = self.points[self.corners[:, faces]]
+        return np.hstack([at.min(0), at.max(0)])
 
     def is_known(self, points: np.ndarray) -> np.ndarray:
         if not len(points):
@@ -135,77 +182,149 @@ class Part:
             self._keys = np.sort(keys_of(self.points))
         return are_listed(self._keys, points)
 
-    def add(self, points: np.ndarray, numbers: np.ndarray, is_own: np.ndarray) -> None:
-        """Takes further points, none of which is known."""
+    def rows_of(self, numbers: np.ndarray) -> np.ndarray:
+        """The rows of points that are known, by their numbers."""
+        order = np.argsort(self.numbers, kind="stable")
+        return order[np.searchsorted(self.numbers, numbers, sorter=order)]
+
+    def insert_all(self, points: np.ndarray, numbers: np.ndarray, is_own: np.ndarray) -> None:
+        """Inserts further points, none of which is known."""
         self.mesh.insert_all(points.astype(np.int32))
         self.points = np.concatenate([self.points, points])
         self.numbers = np.concatenate([self.numbers, numbers])
         self.is_own = np.concatenate([self.is_own, is_own])
         self._keys = None
+
+    def constrain(self, segments: np.ndarray) -> None:
+        """Makes constraints along further segments, whose ends are known. Where one crosses an
+        earlier one at a point of all that is not known yet, that point is inserted first."""
+        while len(segments):
+            try:
+                self.mesh.constrain(self.rows_of(segments[:, NUMBERS].ravel()).reshape(-1, 2))
+                self.segments = np.concatenate([self.segments, segments])
+                return
+            except CrossingError as error:
+                self.segments = np.concatenate([self.segments, segments[: error.index]])
+                segments = segments[error.index :]
+                self.insert_meeting_points(segments[0])
+
+    def insert_meeting_points(self, segment: np.ndarray) -> None:
+        """Inserts the points at which a segment crosses those before it, and refuses it where it
+        crosses one elsewhere."""
+        points = common_points(self.segments, segment)
+        points = points[~self.is_known(points)]
+        numbers, is_own = self.tile.numbers_at(points)
+        is_there = numbers >= 0
+        if not is_there.any():
+            others = self.segments[crossing(self.segments, segment), ROW]
+            raise Crossing(int(segment[ROW]), int(others.min(initial=segment[ROW])))
+        self.insert_all(points[is_there], numbers[is_there], is_own[is_there])
+
+    def add(
+        self, points: np.ndarray, numbers: np.ndarray, is_own: np.ndarray, segments: np.ndarray
+    ) -> None:
+        """Takes further points, none of which is known, and segments with their ends."""
+        ends, of_them = ends_of(segments)
+        numbers, first = np.unique(np.concatenate([numbers, of_them]), return_index=True)
+        is_own = np.concatenate([is_own, self.tile.are_own(ends)])[first]
+        points = np.concatenate([points, ends])[first]
+        is_new = ~self.is_known(points)
+        self.insert_all(points[is_new], numbers[is_new], is_own[is_new])
+        self.constrain(segments)
         self.look()
 
     def cells(self, is_sure: np.ndarray) -> np.ndarray:
         """The cells of faces that are sure whose least point is the tile's own, by rows of points."""
-        rows = cells(self.points, self.corners, self.neighbors, self.found, is_sure)
+        words = self.points, self.corners, self.neighbors, self.is_constraint, self.found
+        rows = cells(Faces(*words), is_sure)
         return rows[self.is_own[rows[:, 0]]]
 
 
+def ends_of(segments: np.ndarray) -> Tuple[np.ndarray, np.ndarray]:
+    """The ends of segments, and their numbers."""
+    return segments[:, ENDS].reshape(-1, 2), segments[:, NUMBERS].ravel()
+
+
 class Given:
-    """Points that tiles gave, with their numbers and whether they are the asking tile's own, and
-    which of the disks that were asked about got any."""
+    """Points that tiles gave, with their numbers, and which of the disks that were asked about got
+    any."""
 
     def __init__(self, count: int):
         self.is_given = np.zeros(count, bool)
         # Nothing more is asked about a disk with a point inside.
         self.is_done = np.zeros(count, bool)
-        self.is_own = False
         self._points, self._numbers = [np.empty((0, 2), np.int64)], [np.empty(0, np.int64)]
-        self._are_own = [np.empty(0, bool)]
 
     def take(self, points: np.ndarray, numbers: np.ndarray) -> None:
         self._points.append(points)
         self._numbers.append(numbers)
-        self._are_own.append(np.full(len(points), self.is_own))
 
-    def points(self) -> Tuple[np.ndarray, np.ndarray, np.ndarray]:
-        """The points, each once, their numbers, and whether they are own ones."""
+    def points(self) -> Tuple[np.ndarray, np.ndarray]:
+        """The points, each once, and their numbers."""
         numbers, first = np.unique(np.concatenate(self._numbers), return_index=True)
-        return np.concatenate(self._points)[first], numbers, np.concatenate(self._are_own)[first]
+        return np.concatenate(self._points)[first], numbers
 
 
 class Tile:
     """A tile's own points and what it may ask: all tiles, of which it has the bounds."""
 
-    def __init__(self, files: TileFiles, tile: int, box: Box, plan: Plan):
-        self.tile, self.plan = tile, plan
+    def __init__(self, files: TileFiles, tile: int, plan: Plan):
+        self.files, self.tile, self.plan = files, tile, plan
         self.points, self.numbers = files.points(tile)
         self.points = self.points.astype(np.int64)
         self.tiles = [Neighbour(files, it) for it in range(len(plan.bounds))]
         self.bounds = plan.bounds.astype(np.int64)
         self.is_there = plan.bounds[:, 0] <= plan.bounds[:, 2]
-        self.region = self.widened(box)
+        self.region = self.widened(plan.boxes[tile])
         self.asked = 0
+        self._segments: dict = {}
 
-    def widened(self, box: Box) -> np.ndarray:
+    def widened(self, box: np.ndarray) -> np.ndarray:
         """The tile's part of the plane and a halo, as x and y from, x and y to."""
         spread = np.maximum(np.ptp(self.points, axis=0), 1).astype(np.float64)
         width = HALO * np.sqrt(spread[0] * spread[1] / len(self.points))
-        (x0, x1), (y0, y1) = box
-        return np.array([x0 - width, y0 - width, x1 + width, y1 + width])
+        return box + np.array([-width, -width, width, width])
+
+    def are_own(self, points: np.ndarray) -> np.ndarray:
+        """Which points lie in the tile's part of the plane; lower sides belong to it."""
+        x0, y0, x1, y1 = self.plan.boxes[self.tile]
+        x, y = points.T
+        return (x >= x0) & (x < x1) & (y >= y0) & (y < y1)
+
+    def numbers_at(self, points: np.ndarray) -> Tuple[np.ndarray, np.ndarray]:
+        """The numbers of the points at some positions, or -1 where none is, and whether these are
+        the tile's own."""
+        numbers = np.full(len(points), -1, np.int64)
+        boxes = self.plan.boxes
+        for row, (x, y) in enumerate(points.tolist()):
+            is_in = (boxes[:, 0] <= x) & (x < boxes[:, 2]) & (boxes[:, 1] <= y) & (y < boxes[:, 3])
+            (tile,) = np.flatnonzero(is_in)
+            numbers[row] = self.files.numbers_at(int(tile), points[row : row + 1])[0]
+        return numbers, self.are_own(points)
+
+    def segments_in(self, box: np.ndarray) -> np.ndarray:
+        """The segments whose bounds meet a box, by their rows."""
+        if not self.plan.segments:
+            return NONE
+        found = [NONE]
+        for tile in np.flatnonzero(meet(self.plan.boxes, box)).tolist():
+            if tile not in self._segments:
+                segments = self.files.segments(tile, self.plan.segments)
+                self._segments[tile] = segments, bounds_of(segments)
+            segments, bounds = self._segments[tile]
+            found.append(segments[meet(bounds, box)])
+        every = np.concatenate(found)
+        return every[np.unique(every[:, ROW], return_index=True)[1]]
 
     def halo(self) -> Tuple[np.ndarray, np.ndarray]:
         """The points of other tiles in the region."""
         x0, y0, x1, y1 = self.region
         points, numbers = [np.empty((0, 2), np.int64)], [np.empty(0, np.int64)]
-
-        def meets(bounds: np.ndarray) -> np.ndarray:
-            beside = (bounds[:, 2] < x0) | (bounds[:, 0] > x1)
-            return ~(beside | (bounds[:, 3] < y0) | (bounds[:, 1] > y1))
-
-        is_asked = meets(self.bounds) & self.is_there
+        is_asked = meet(self.bounds, self.region) & self.is_there
         is_asked[self.tile] = False
         for i in np.flatnonzero(is_asked):
-            some, of_them = self.tiles[i].rows(np.flatnonzero(meets(self.tiles[i].boxes())))
+            boxes = self.tiles[i].boxes()
+            some, of_them = self.tiles[i].rows(np.flatnonzero(meet(boxes, self.region)))
             x, y = some.T
             is_in = (x >= x0) & (x <= x1) & (y >= y0) & (y <= y1)
             points.append(some[is_in])
@@ -213,31 +332,61 @@ class Tile:
         return np.concatenate(points), np.concatenate(numbers)
 
     def part(self) -> Part:
-        """The tile's own points, its halo, and the corners of the hull of all points: with these no
-        cell at an own point is beyond what is known."""
-        halo, numbers = self.halo()
-        points, numbers = np.concatenate([self.points, halo]), np.append(self.numbers, numbers)
-        is_new = ~np.isin(self.plan.numbers, numbers)
-        points = np.concatenate([points, self.plan.corners[is_new]])
-        numbers = np.append(numbers, self.plan.numbers[is_new])
-        return Part(points, numbers, np.arange(len(points)) < len(self.points))
+        """The tile's own points, its halo, the segments that may meet both, and the corners of the
+        hull of all points: with these no cell at an own point is beyond what is known."""
+        points, numbers = self.halo()
+        points, numbers = np.concatenate([self.points, points]), np.append(self.numbers, numbers)
+        segments = self.segments_in(self.region)
+        # All points in the region are known, and no other.
+        more, of_them = ends_of(segments)
+        more = np.concatenate([self.plan.corners, more])
+        of_them, first = np.unique(np.append(self.plan.numbers, of_them), return_index=True)
+        more = more[first]
+        is_new = ~meet(np.hstack([more, more]), self.region)
+        points = np.concatenate([points, more[is_new]])
+        numbers = np.append(numbers, of_them[is_new])
+        return Part(self, points, numbers, np.arange(len(points)) < len(self.points), segments)
 
-    def part_at(self, part: Part, is_open: np.ndarray, given: Given) -> Part:
-        """A smaller part: some points of a part, their neighbours in it, what was given, and the
-        corners of the hull of all points."""
-        rows = np.unique(part.corners[:, part.faces_at(is_open)])
-        points, numbers, is_own = given.points()
-        points = np.concatenate([part.points[rows], points, self.plan.corners])
-        numbers = np.concatenate([part.numbers[rows], numbers, self.plan.numbers])
-        is_own = np.concatenate([part.is_own[rows], is_own, np.zeros(len(self.plan.numbers), bool)])
-        # A corner of the hull may be among the first, which say whether it is the tile's own.
+    def part_at(self, part: Part, is_open: np.ndarray, given: Given, more: np.ndarray) -> Part:
+        """A smaller part: some points of a part, their neighbours in it, what was given, the
+        segments that may meet these faces, and more segments, and the corners of the hull of all
+        points."""
+        faces = part.faces_at(is_open)
+        rows = np.unique(part.corners[:, faces])
+        segments = part.segments
+        if len(segments):
+            at = part.points[rows]
+            box = np.concatenate([at.min(0), at.max(0)])
+            segments = segments[meet(bounds_of(segments), box)]
+        segments = np.concatenate([segments, more])
+        segments = segments[np.unique(segments[:, ROW], return_index=True)[1]]
+        ends, of_ends = ends_of(segments)
+        points, numbers = given.points()
+        points = np.concatenate([part.points[rows], points, ends, self.plan.corners])
+        numbers = np.concatenate([part.numbers[rows], numbers, of_ends, self.plan.numbers])
         numbers, first = np.unique(numbers, return_index=True)
-        return Part(points[first], numbers, is_own[first])
+        points = points[first]
+        return Part(self, points, numbers, self.are_own(points), segments)
+
+    def lacking(self, part: Part, faces: np.ndarray) -> Tuple[np.ndarray, np.ndarray]:
+        """Which faces of a part a segment may enter that the part does not know, and these
+        segments."""
+        is_lacking, found = np.zeros(len(faces), bool), [NONE]
+        if not self.plan.segments:
+            return is_lacking, NONE
+        known = part.segments[:, ROW]
+        for place, box in enumerate(part.boxes_of(faces)):
+            segments = self.segments_in(box)
+            segments = segments[~np.isin(segments[:, ROW], known)]
+            is_lacking[place] = len(segments) > 0
+            found.append(segments)
+        every = np.concatenate(found)
+        return is_lacking, every[np.unique(every[:, ROW], return_index=True)[1]]
 
     def ask(self, part: Part, faces: np.ndarray, tiles: np.ndarray) -> Given:
         """Points of some tiles, unknown to a part, inside of the disks of its faces or, for those
-        with none, all on their circles. A known point is never inside. Each disk asks first the
-        tile that is nearest to its centre."""
+        with none, all on their circles, but for those beyond a constraint at the face's side. Each
+        disk asks first the tile that is nearest to its centre."""
         asked, given = part.disks_of(faces), Given(len(faces))
         ranks = asked.ranks(np.arange(len(asked)), self.bounds[tiles])
         order, reached = np.argsort(ranks, axis=1, kind="stable"), (ranks < 0).sum(1)
@@ -247,7 +396,6 @@ class Tile:
             for tile in np.unique(at):
                 asking = rows[at == tile]
                 self.asked += len(asking)
-                given.is_own = tile == self.tile
                 for begin in range(0, len(asking), AT_ONCE):
                     some = asking[begin : begin + AT_ONCE]
                     ask_tile(self.tiles[tile], part, asked, some, given)
@@ -264,8 +412,12 @@ def ask_tile(tile: Neighbour, part: Part, asked: Disks, rows: np.ndarray, given:
             return
         points, numbers = tile.blocks(order[asking, turn])
         signs, depths = asked.depths(rows[asking], points)
+        # Without constraints a known point is never inside.
+        maybe = np.nonzero(signs >= 0 if len(part.segments) else signs == 0)
+        is_known = part.is_known(points[maybe])
+        signs[maybe[0][is_known], maybe[1][is_known]] = -1
         take_inside(points, numbers, signs, depths, rows[asking], given)
-        take_border(part, points, numbers, signs, rows[asking], given)
+        take_border(points, numbers, signs, rows[asking], given)
 
 
 def take_inside(
@@ -287,17 +439,10 @@ def take_inside(
 
 
 def take_border(
-    part: Part,
-    points: np.ndarray,
-    numbers: np.ndarray,
-    signs: np.ndarray,
-    rows: np.ndarray,
-    given: Given,
+    points: np.ndarray, numbers: np.ndarray, signs: np.ndarray, rows: np.ndarray, given: Given
 ) -> None:
-    """Takes the unknown points of each row that are on its circle."""
+    """Takes the points of each row that are on its circle."""
     row, place = np.nonzero(signs == 0)
-    is_new = ~part.is_known(points[row, place])
-    row, place = row[is_new], place[is_new]
     given.take(points[row, place], numbers[row, place])
     given.is_given[rows[row]] = True
 
@@ -305,14 +450,15 @@ def take_border(
 class Work:
     """What a tile does, step by step."""
 
-    def __init__(self, files: TileFiles, tile: int, box: Box, plan: Plan):
-        self.tile = Tile(files, tile, box, plan)
+    def __init__(self, files: TileFiles, tile: int, plan: Plan):
+        self.tile = Tile(files, tile, plan)
         self.rounds = self.known = self.fetched = 0
 
     def rows(self) -> np.ndarray:
         """The cells whose least point is the tile's own. A face of a part is sure where the part
-        has each point of all in its closed disk. Where a face at an own point is not, the cells at
-        that point come of a smaller part, in which all faces at it are made sure."""
+        has each point of all that may be seen in its closed disk, and each segment that may enter
+        it. Where a face at an own point is not, the cells at that point come of a smaller part, in
+        which all faces at it are made sure."""
         part, self.rounds = self.tile.part(), 1
         try:
             self.known = len(part.points)
@@ -321,7 +467,8 @@ class Work:
             others = self.tile.is_there.copy()
             others[self.tile.tile] = False
             given = self.tile.ask(part, reaching, np.flatnonzero(others))
-            unsure = reaching[given.is_given]
+            is_lacking, segments = self.tile.lacking(part, reaching)
+            unsure = reaching[given.is_given | is_lacking]
             is_sure = np.zeros(part.corners.shape[1], bool)
             is_sure[mine] = True
             is_sure[unsure] = False
@@ -331,10 +478,10 @@ class Work:
             is_open = np.zeros(len(part.points), bool)
             is_open[part.corners[:, unsure]] = True
             is_open &= part.is_own
-            smaller = self.tile.part_at(part, is_open, given)
+            smaller = self.tile.part_at(part, is_open, given, segments)
             return self.with_cells_of(smaller, part.numbers[is_open], rows)
         finally:
-            part.mesh.close()
+            part.close()
 
     def with_cells_of(self, smaller: Part, asked: np.ndarray, rows: np.ndarray) -> np.ndarray:
         """The rows, and the cells at some points, by number, of a smaller part. A cell that both
@@ -342,7 +489,7 @@ class Work:
         try:
             more = self.sure_cells(smaller, asked)
         finally:
-            smaller.mesh.close()
+            smaller.close()
         if not len(more):
             return rows
         is_again = are_numbers(rows[:, 0], more[:, 0])
@@ -351,20 +498,36 @@ class Work:
 
     def sure_cells(self, smaller: Part, asked: np.ndarray) -> np.ndarray:
         """The cells at some own points, after each face there is made sure."""
-        tiles = np.flatnonzero(self.tile.is_there)
+        tiles, looked = np.flatnonzero(self.tile.is_there), np.empty((3, 0), np.int32)
+        again = np.empty(0, np.int64)
         while True:
             self.rounds += 1
-            faces = smaller.faces_at(np.isin(smaller.numbers, asked))
-            points, numbers, is_own = self.tile.ask(smaller, faces, tiles).points()
-            if not len(numbers):
+            every = smaller.faces_at(np.isin(smaller.numbers, asked))
+            # A face that nothing was given for, and that is as it was, is sure already.
+            is_asked = ~are_same(smaller.corners, looked)
+            is_asked[again] = True
+            faces, looked = every[is_asked[every]], smaller.corners
+            given = self.tile.ask(smaller, faces, tiles)
+            is_lacking, segments = self.tile.lacking(smaller, faces)
+            again = faces[given.is_given | is_lacking]
+            points, numbers = given.points()
+            if not len(again):
                 is_sure = np.zeros(smaller.corners.shape[1], bool)
-                is_sure[faces] = True
+                is_sure[every] = True
                 return smaller.numbers[smaller.cells(is_sure)]
             self.fetched += len(numbers)
-            smaller.add(points, numbers, is_own)
+            smaller.add(points, numbers, self.tile.are_own(points), segments)
 
 
-def cells_of_tile(files: TileFiles, tile: int, box: Box, plan: Plan) -> TileReport:
+def are_same(corners: np.ndarray, before: np.ndarray) -> np.ndarray:
+    """Which faces have the corners that stood in their places before."""
+    is_same = np.zeros(corners.shape[1], bool)
+    count = min(len(is_same), before.shape[1])
+    is_same[:count] = (corners[:, :count] == before[:, :count]).all(0)
+    return is_same
+
+
+def cells_of_tile(files: TileFiles, tile: int, plan: Plan) -> TileReport:
     """Writes the cells of a tile."""
     begin = time.process_time()
     # Where all points are on one line there is no cell at all.
@@ -372,11 +535,14 @@ def cells_of_tile(files: TileFiles, tile: int, box: Box, plan: Plan) -> TileRepo
         save(files.name("cells", tile), np.empty((0, 3), np.int64))
         count = len(files.points(tile)[1])
         return TileReport(count, 0, 0, 0, 0, 0, time.process_time() - begin, 0)
-    work = Work(files, tile, box, plan)
-    rows = work.rows()
+    work = Work(files, tile, plan)
+    own, crossed = len(work.tile.points), ()
+    try:
+        rows = work.rows()
+    except Crossing as found:
+        rows, crossed = np.empty((0, 3), np.int64), found.args
     save(files.name("cells", tile), rows)
-    own = len(work.tile.points)
     read = sum(it.bytes for it in work.tile.tiles) + plan.corners.nbytes + plan.numbers.nbytes
     seconds = time.process_time() - begin
     words = own, work.known - own, work.fetched, work.tile.asked, read, work.rounds, seconds
-    return TileReport(*words, len(rows))
+    return TileReport(*words, len(rows), crossed)

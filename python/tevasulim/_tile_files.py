@@ -12,7 +12,8 @@ from ._hull import hull_rows
 from ._library import MOST
 from ._numbers import point_list
 from ._order import near_keys
-from .errors import TevasulimError
+from ._segments import bounds_of, split
+from .errors import NoSuchPointError, TevasulimError
 
 # How many points a block has.
 BLOCK = 128
@@ -95,6 +96,32 @@ def boxes_of(points: np.ndarray) -> np.ndarray:
     return np.hstack([low, high])
 
 
+def segment_list(part: str, count: int) -> np.ndarray:
+    """A part of the segments: pairs of numbers of points, of which there are so many."""
+    array = np.asarray(load(part))
+    if array.shape == (0,):
+        array = array.reshape(0, 2).astype(np.int64)
+    if array.ndim != 2 or array.shape[1] != 2:
+        raise ValueError(f"{part}: segments are to be of the shape (m, 2), not {array.shape}")
+    if array.dtype.kind not in "iu":
+        raise TypeError(f"{part}: segments are to be numbers of points, not {array.dtype}")
+    wrong = np.flatnonzero(((array < 0) | (array >= count)).any(1))
+    if len(wrong):
+        row = int(wrong[0])
+        raise NoSuchPointError(f"{part}: segment {row} names no point of {count}", row)
+    return array.astype(np.int64)
+
+
+def positions_of(numbers: np.ndarray, parts: List[str], firsts: List[int]) -> np.ndarray:
+    """Where points are, by their numbers, in parts that begin with these numbers."""
+    found = np.empty((len(numbers), 2), np.int32)
+    part = np.searchsorted(firsts, numbers, "right") - 1
+    for it in np.unique(part).tolist():
+        rows = np.flatnonzero(part == it)
+        found[rows] = point_list(np.asarray(load(parts[it])[numbers[rows] - firsts[it]]), None)
+    return found
+
+
 class Gathered(NamedTuple):
     """A tile's points: how many there are, their bounds as x and y from, x and y to, and the
     corners of their hull with their numbers."""
@@ -147,11 +174,53 @@ class TileFiles:
         order = order[is_first]
         points, numbers = points[order], numbers[order]
         boxes = boxes_of(points) if len(points) else np.empty((0, 4), np.int32)
-        for kind, array in ("points", points), ("numbers", numbers), ("boxes", boxes):
+        files = ("points", points), ("numbers", numbers), ("boxes", boxes), ("keys", keys[is_first])
+        for kind, array in files:
             save(self.name(kind, tile), array)
         low, high = boxes[:, :2].min(0, initial=MOST), boxes[:, 2:].max(0, initial=-MOST)
         corners = hull_rows(points)
         return Gathered(len(points), np.concatenate([low, high]), points[corners], numbers[corners])
+
+    def numbers_at(self, tile: int, points: np.ndarray) -> np.ndarray:
+        """The numbers of a tile's points at some positions, or -1 where none is."""
+        keys, numbers = load(self.name("keys", tile)), load(self.name("numbers", tile))
+        if not len(keys):
+            return np.full(len(points), -1, np.int64)
+        wanted = near_keys(points)
+        at = np.minimum(np.searchsorted(keys, wanted), len(keys) - 1)
+        return np.where(keys[at] == wanted, numbers[at], -1)
+
+    def place(
+        self, part: str, number: int, first: int, points: List[str], firsts: List[int], plan: Any
+    ) -> List[int]:
+        """Finds the ends of the segments of a part, whose rows begin with `first`, in the parts of
+        the points, and sorts the segments by the tiles that they may meet. Gives where each tile
+        begins."""
+        numbers = segment_list(part, firsts[-1])
+        ends = positions_of(numbers.ravel(), points, firsts)
+        tile = np.empty(len(ends), np.int32)
+        tiles = assign(plan, ends, np.arange(len(ends)), tile)
+        known = np.empty(len(ends), np.int64)
+        for it in np.unique(tile):
+            rows = np.flatnonzero(tile == it)
+            known[rows] = self.numbers_at(int(it), ends[rows])
+        rows = np.arange(first, first + len(numbers))[:, None]
+        segments = np.hstack([ends.reshape(-1, 4), known.reshape(-1, 2), rows]).astype(np.int64)
+        # A point and itself are joined by nothing.
+        segments = segments[segments[:, 4] != segments[:, 5]]
+        bounds = bounds_of(segments)
+        each = split(plan, segments, bounds, np.arange(len(segments)))
+        save(self.name("segments", number), segments[np.concatenate(each)])
+        assert len(each) == tiles
+        return np.cumsum([0, *map(len, each)]).tolist()
+
+    def segments(self, tile: int, begins: List[List[int]]) -> np.ndarray:
+        """The segments that a tile may meet, by their rows."""
+        found = [
+            load(self.name("segments", number))[begin[tile] : begin[tile + 1]]
+            for number, begin in enumerate(begins)
+        ]
+        return np.concatenate(found).astype(np.int64)
 
     def points(self, tile: int) -> Tuple[np.ndarray, np.ndarray]:
         """The points of a tile and their numbers, read whole."""

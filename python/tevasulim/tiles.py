@@ -29,7 +29,7 @@ import numpy as np
 from ._hull import hull_rows
 from ._tile import Plan, TileReport, cells_of_tile
 from ._tile_files import TileFiles, boxes_in, plan_of, survey
-from .errors import TevasulimError
+from .errors import CrossingError, TevasulimError
 
 __all__ = ["triangulate_tiles", "TiledCells", "TileReport"]
 
@@ -73,25 +73,25 @@ def result_of(future: Any, submit_again: Callable[[], Any]) -> Any:
     return future.result()
 
 
-def names_of(points: Any, files: TileFiles) -> List[str]:
+def names_of(parts: Any, files: TileFiles, kind: str) -> List[str]:
     """What was handed in, as names of files."""
-    if isinstance(points, (str, os.PathLike, np.ndarray)):
-        points = [points]
+    if isinstance(parts, (str, os.PathLike, np.ndarray)):
+        parts = [parts]
     names = []
-    for i, part in enumerate(points):
+    for i, part in enumerate(parts):
         if isinstance(part, (str, os.PathLike)):
             names.append(os.path.abspath(part))
         else:
-            names.append(files.name("given", i))
+            names.append(files.name(kind, i))
             np.save(names[-1], part)
     return names
 
 
 def cut_plane(
-    names: List[str], tile_size: int, client: Any, files: TileFiles
-) -> Tuple[List[Any], Plan]:
-    """Cuts the plane into tiles, and gathers the points of each: the boxes, and what each tile
-    knows of all."""
+    names: List[str], of_segments: List[str], tile_size: int, client: Any, files: TileFiles
+) -> Plan:
+    """Cuts the plane into tiles, and gathers the points of each and the segments that may meet it:
+    what each tile knows of all."""
     each = max(SAMPLE // max(len(names), 1), 1)
     found = run(client, survey, [(name, each) for name in names])
     counts = [count for count, _ in found]
@@ -117,13 +117,40 @@ def cut_plane(
     numbers = np.concatenate([it.numbers for it in gathered])
     rows = hull_rows(corners)
     bounds = np.stack([it.bounds for it in gathered])
-    return boxes, Plan(bounds, corners[rows], numbers[rows])
+    segments = place_segments(of_segments, names, firsts, cuts, client, files)
+    of_boxes = np.array([[x[0], y[0], x[1], y[1]] for x, y in boxes])
+    return Plan(of_boxes, bounds, corners[rows], numbers[rows], segments)
+
+
+def place_segments(
+    parts: List[str], names: List[str], firsts: List[int], cuts: Any, client: Any, files: TileFiles
+) -> List[List[int]]:
+    """Sorts the segments of each part by the tiles that they may meet: where each tile begins."""
+    counts = [len(np.load(part, mmap_mode="r")) for part in parts]
+    rows = np.cumsum([0, *counts]).tolist()
+    tasks = [(part, i, rows[i], names, firsts, cuts) for i, part in enumerate(parts)]
+    return run(client, files.place, tasks)
+
+
+def stop_where_crossed(reports: List[TileReport]) -> None:
+    """Raises the error of the first segment that crosses an earlier one, as one triangulation of all
+    does."""
+    crossed = [it.crossing for it in reports if it.crossing]
+    if crossed:
+        row, other = min(crossed)
+        raise CrossingError(f"segment {row} crosses segment {other}", row)
 
 
 def triangulate_tiles(
-    points: Any, tile_size: int, client: Any = None, folder: Optional[str] = None
+    points: Any,
+    tile_size: int,
+    client: Any = None,
+    folder: Optional[str] = None,
+    *,
+    segments: Any = (),
 ) -> TiledCells:
-    """The Delaunay triangulation of points in parts, as the cells of each tile.
+    """The constrained Delaunay triangulation of points and segments in parts, as the cells of each
+    tile.
 
     Parameters
     ----------
@@ -138,18 +165,24 @@ def triangulate_tiles(
     folder : str, optional
         A folder that each worker reaches. Files of the tiles are made in it, and those with cells
         are left there. Without one, a folder of this machine is used, and arrays are given.
+    segments : list of array_like or str
+        Parts, each an array of shape (m, 2) or the name of such a .npy: pairs of numbers of points,
+        which are joined by constraints. They may overlap and meet at points, and may not cross.
 
     Returns
     -------
     TiledCells
         All rows together, in any order, depend on the points alone. Of equal points the first
-        stands for all. A polygon of four or more points on one circle is cut from its least point,
-        by x and then y.
+        stands for all. A polygon of four or more points on one circle that no constraint cuts is
+        cut from its least point, by x and then y.
 
     Raises
     ------
+    CrossingError
+        Where a segment crosses an earlier one; `index` is its row in all parts after each other,
+        and the message names both rows.
     TevasulimError, TypeError, ValueError
-        Where a part is refused; `index` is the point's row in that part.
+        Where a part is refused; `index` is the row of the point or segment in that part.
 
     Examples
     --------
@@ -162,10 +195,12 @@ def triangulate_tiles(
     room = tempfile.mkdtemp(prefix="tiles-", dir=folder)
     try:
         files = TileFiles(room)
-        boxes, plan = cut_plane(names_of(points, files), tile_size, client, files)
-        tasks = [(files, tile, box, plan) for tile, box in enumerate(boxes)]
-        reports = run(client, cells_of_tile, tasks)
-        names = [files.name("cells", tile) for tile in range(len(boxes))]
+        given = names_of(points, files, "given"), names_of(segments, files, "given-segments")
+        plan = cut_plane(*given, tile_size, client, files)
+        tiles = range(len(plan.boxes))
+        reports = run(client, cells_of_tile, [(files, tile, plan) for tile in tiles])
+        stop_where_crossed(reports)
+        names = [files.name("cells", tile) for tile in tiles]
         if folder is None:
             return TiledCells([np.load(name) for name in names], reports)
         kept = [os.path.join(folder, os.path.basename(name)) for name in names]
