@@ -1,9 +1,11 @@
-"""benchmark_tiles.py KIND N TILE_SIZE [WORKERS [MEMORY]]: how fast tiles are over a Dask cluster of
-processes on this machine (Debian: python3-numpy python3-distributed).
+"""benchmark_tiles.py KIND N TILE_SIZE [WORKERS..]: what tiles over a Dask cluster of processes on this
+machine cost beside one triangulation (Debian: python3-numpy python3-distributed).
 
-KIND is random, clustered, grid or lines. Points are made in files of 10^6. WORKERS is 4 and MEMORY,
-what a worker may take in MiB before Dask ends it, 1000 where they are not given. It prints points a
-second, what the tiles did on average and at most, and the most resident memory that a worker had.
+KIND is random, clustered, grid or lines. Points are made in files of 10^6. WORKERS are numbers of
+workers, 1 2 4 where none is given. For each it prints the clock, points a second, what the tiles did
+on average and at most, and the most resident memory that a worker had. At last it prints processor
+seconds of tiles beside those of one triangulation, everything counted from the first read to the
+last cell written, and the least number of workers whose clock beats one process.
 """
 import os
 import resource
@@ -14,6 +16,7 @@ import time
 import numpy as np
 from distributed import Client, LocalCluster
 
+from tevasulim import Triangulation
 from tevasulim.tiles import TileReport, triangulate_tiles
 
 MOST, PART = 2**29, 10**6
@@ -26,9 +29,7 @@ def points_of(kind, count, all_of_them, number):
         return draw.integers(-MOST, MOST, (count, 2))
     if kind == "clustered":
         same = np.random.default_rng(0)
-        centers, widths = same.integers(-(2**28), 2**28, (60, 2)), 2.0 ** same.uniform(
-            10, 26, 60
-        )
+        centers, widths = same.integers(-(2**28), 2**28, (60, 2)), 2.0 ** same.uniform(10, 26, 60)
         which = draw.integers(0, 60, count)
         points = centers[which] + draw.normal(size=(count, 2)) * widths[which][:, None]
         return np.clip(np.rint(points), -MOST, MOST).astype(np.int64)
@@ -56,29 +57,53 @@ def parts_in(folder, kind, count):
     return names
 
 
+def one_process(names, folder):
+    """The clock and processor seconds of one triangulation, from the files to a file of faces."""
+    clock, processor = time.monotonic(), time.process_time()
+    points = np.concatenate([np.load(name) for name in names])
+    with Triangulation(points) as triangulation:
+        np.save(f"{folder}/faces.npy", triangulation.simplices)
+    return time.monotonic() - clock, time.process_time() - processor
+
+
+def with_workers(names, size, workers, folder):
+    """The same of tiles with so many workers, what the tiles did, and the most memory of a
+    worker."""
+    local = {"host": "127.0.0.1", "dashboard_address": "127.0.0.1:0", "local_directory": folder}
+    local.update({"n_workers": workers, "threads_per_worker": 1, "silence_logs": 50})
+    with LocalCluster(**local) as cluster, Client(cluster) as client:
+        before = sum(client.run(time.process_time).values()) + time.process_time()
+        begin = time.monotonic()
+        tiles = triangulate_tiles(names, size, client, folder)
+        clock = time.monotonic() - begin
+        after = sum(client.run(time.process_time).values()) + time.process_time()
+        most = max(client.run(memory).values())
+    for name in tiles.cells:
+        os.remove(name)
+    return clock, after - before, tiles.reports, most
+
+
 def main(words):
     if len(words) < 3:
         sys.exit(__doc__)
     kind, count, size = words[0], int(float(words[1])), int(float(words[2]))
-    workers, limit = (*map(int, words[3:]), *(4, 1000)[len(words) - 3 :])
     with tempfile.TemporaryDirectory() as folder:
         names = parts_in(folder, kind, count)
-        local = {"host": "127.0.0.1", "dashboard_address": "127.0.0.1:0", "local_directory": folder}
-        local.update(
-            {"n_workers": workers, "threads_per_worker": 1, "memory_limit": limit * 2**20}
-        )
-        with LocalCluster(silence_logs=50, **local) as cluster, Client(cluster) as client:
-            empty = max(client.run(memory).values())
-            begin = time.monotonic()
-            tiles = triangulate_tiles(names, size, client, folder)
-            took = time.monotonic() - begin
-            most = max(client.run(memory).values())
-    columns = dict(zip(TileReport._fields, zip(*tiles.reports)))
-    print(f"{kind}, {count} points, {len(tiles.cells)} tiles, {workers} workers of {limit} MiB:")
-    print(f"  {count / took:.0f} points a second, {took:.1f} s, {sum(columns['cells'])} cells")
-    for name, column in columns.items():
-        print(f"  {name}: {np.mean(column):.6g} a tile, at most {max(column):.6g}")
-    print(f"  a worker had at most {most:.0f} MiB, and {empty:.0f} at first", flush=True)
+        alone, of_one = one_process(names, folder)
+        print(f"{kind}, {count} points: one triangulation takes {alone:.2f} s", flush=True)
+        beating, ratios = [], []
+        for workers in list(map(int, words[3:])) or [1, 2, 4]:
+            clock, of_tiles, reports, most = with_workers(names, size, workers, folder)
+            ratios.append(of_tiles / of_one)
+            beating += [workers] if clock < alone else []
+            print(f"{len(reports)} tiles, {workers} workers: {clock:.2f} s,", end=" ")
+            print(f"{count / clock:.0f} points a second, at most {most:.0f} MiB a worker")
+            columns = dict(zip(TileReport._fields[:-1], zip(*(it[:-1] for it in reports))))
+            for name, column in columns.items():
+                print(f"  {name}: {np.mean(column):.6g} a tile, at most {max(column):.6g}")
+            sys.stdout.flush()
+    print(f"processor seconds of tiles by those of one: {min(ratios):.2f} to {max(ratios):.2f}")
+    print(f"the least number of workers that beats one process: {min(beating, default='none')}")
 
 
 if __name__ == "__main__":
