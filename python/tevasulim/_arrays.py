@@ -151,9 +151,14 @@ class Arrays(Kept):
 
     @property
     def vertex_to_simplex(self) -> Ints:
-        """int32 array of shape (n,): a face with that corner for each point, or -1: also for points
-        that repeat an earlier one."""
-        return self._vertex_faces()
+        """int32 array of shape (n,): a face with that corner for each point, or -1 where there is
+        none: as all are on one line, or it was removed."""
+
+        def make() -> Ints:
+            firsts = self.representatives
+            return np.where(firsts < 0, np.int32(-1), self._vertex_faces()[firsts])
+
+        return self._once("vertex_to_simplex", make)
 
     # Edges.
 
