@@ -66,7 +66,8 @@ class Kept:
         self._made: Dict[str, Any] = {}
         # The edit that has begun and not ended.
         self._edit: Union[Insertion, Change, None] = None
-        self._is_constrained = is_constrained
+        # Whether it was made for constraints or got one, and whether the library's is for them.
+        self._is_constrained = self._has_kind = is_constrained
         self._forget()
 
     def _register(self) -> None:
@@ -178,7 +179,8 @@ class Kept:
             if not self._counts().vertices:
                 self._forget()
         elif not self._is_constrained:
-            self._is_constrained = self._has_constraints()
+            self._has_kind = self._is_for_constraints()
+            self._is_constrained = self._counts().constraints > 0
 
     def _take_back(self, edit: Insertion) -> None:
         """Removes the vertices that an insertion made, the last one first: then no other moves.
@@ -205,7 +207,7 @@ class Kept:
         self._numbers[:count] = points
         self._count = count
 
-    def _has_constraints(self) -> bool:
+    def _is_for_constraints(self) -> bool:
         """Whether the library has a constrained triangulation: it asks such ones for no nearest
         vertex, also of no point."""
         try:
@@ -343,10 +345,11 @@ class Kept:
         """An edit of constraints, after which the triangulation may have some."""
         self._edit = Change(name)
         self._made = {}
-        if not self._is_constrained:
+        if not self._has_kind:
             self._call("allow_constraints")
-            self._is_constrained = True
+            self._has_kind = True
         self._call(name, *words)
+        self._is_constrained = True
         self._edit = None
 
     def _chain(self, vertices: NDArray[Any], closed: bool, begin: int) -> None:

@@ -249,7 +249,7 @@ class Queries(Arrays):
 
     def _plain(self) -> "Queries":
         """A plain triangulation of the vertices, whose numbers are those of the library."""
-        if not self._is_constrained:
+        if not self._has_kind:
             return self
 
         def make() -> Queries:

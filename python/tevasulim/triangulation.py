@@ -140,7 +140,7 @@ class Triangulation(Pictures, Regions, VoronoiCells):
             self._ready()
             other._settings(self._parts, self._exact, self._bounds)
             self._call("copy", byref(other._mesh))
-            other._is_constrained = self._is_constrained
+            other._is_constrained, other._has_kind = self._is_constrained, self._has_kind
             other._size, other._count = self._size, self._count
             other._points, other._firsts = self._points.copy(), self._firsts.copy()
             other._vertices, other._numbers = self._vertices.copy(), self._numbers.copy()
