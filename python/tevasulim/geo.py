@@ -212,7 +212,8 @@ def triangulate_raster(source: Any, band: int = 1, **settings: Any) -> Surface:
 
 def warn_of_degrees(crs: Any) -> None:
     """Warns where a unit is a degree: then nothing is as long as it seems."""
-    if crs is not None and crs.is_geographic:
+    # GeoPackage's name for none is that of a system in degrees.
+    if crs is not None and crs.is_geographic and "Undefined" not in str(crs):
         warnings.warn(
             "coordinates are degrees, so circles and distances are not those on the ground: project "
             "first, as by frame.to_crs(frame.estimate_utm_crs())",
