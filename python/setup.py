@@ -7,7 +7,7 @@ import os
 import re
 import shutil
 
-from setuptools import setup
+from setuptools import Distribution, setup
 from setuptools.command.build_py import build_py
 from setuptools.command.sdist import sdist
 from setuptools.errors import SetupError
@@ -67,15 +67,19 @@ class Sources(sdist):
         shutil.copy(library(), os.path.join(base_dir, "tevasulim", NAME))
 
 
+class Binary(Distribution):
+    """The library is of one platform."""
+
+    def has_ext_modules(self):
+        return True
+
+
 class Wheel(bdist_wheel):
     """A wheel for each Python 3 of this platform."""
-
-    def finalize_options(self):
-        super().finalize_options()
-        self.root_is_pure = False
 
     def get_tag(self):
         return "py3", "none", super().get_tag()[2]
 
 
-setup(cmdclass={"build_py": Package, "sdist": Sources, "bdist_wheel": Wheel})
+COMMANDS = {"build_py": Package, "sdist": Sources, "bdist_wheel": Wheel}
+setup(cmdclass=COMMANDS, distclass=Binary)
