@@ -105,15 +105,19 @@ class Arrays(Kept):
         """Whether each point is where it was handed in: none was rounded."""
         return self.rounding == 0
 
+    def _places(self) -> NDArray[Any]:
+        """Where each vertex is, as `points` has it."""
+        return self.points[self._numbers[: self._count]]
+
     @property
     def min_bound(self) -> NDArray[Any]:
         """array of shape (2,): the least x and the least y of the vertices."""
-        return self._once("min_bound", lambda: self.points[self._numbers[: self._count]].min(0))
+        return self._once("min_bound", lambda: np.min(self._places(), axis=0))
 
     @property
     def max_bound(self) -> NDArray[Any]:
         """array of shape (2,): the largest x and the largest y of the vertices."""
-        return self._once("max_bound", lambda: self.points[self._numbers[: self._count]].max(0))
+        return self._once("max_bound", lambda: np.max(self._places(), axis=0))
 
     # Faces.
 
@@ -217,7 +221,8 @@ class Arrays(Kept):
                 return self.convex_hull[:, 0]
             numbers = self._numbers[: self._count]
             ordered = numbers[np.lexsort(self._points[numbers].T[::-1])]
-            return ordered[[0, -1] if self._count > 1 else [0]]
+            given: Ints = ordered[[0, -1] if self._count > 1 else [0]]
+            return given
 
         return self._once("hull", make)
 

@@ -2,9 +2,10 @@
 by Python's whole numbers elsewhere. What only narrows a search errs on the safe side."""
 from __future__ import annotations
 
-from typing import Tuple
+from typing import Any, List, Tuple
 
 import numpy as np
+from numpy.typing import NDArray
 
 # Of floats of this size or below, whole numbers are exact.
 EXACT = 2.0**53
@@ -13,29 +14,31 @@ EXACT = 2.0**53
 ERROR = 2e-15
 
 
-def determinant(columns: list) -> np.ndarray:
+def determinant(columns: List[Any]) -> NDArray[Any]:
     """The circle test of differences to the fourth point: floats, or whole numbers of Python."""
     ax, ay, bx, by, cx, cy = columns
-    return (
+    given: NDArray[Any] = (
         (ax * ax + ay * ay) * (bx * cy - by * cx)
         + (bx * bx + by * by) * (cx * ay - cy * ax)
         + (cx * cx + cy * cy) * (ax * by - ay * bx)
     )
+    return given
 
 
-def size_of(columns: list) -> np.ndarray:
+def size_of(columns: List[Any]) -> NDArray[Any]:
     """The same with each product's absolute value."""
     ax, ay, bx, by, cx, cy = map(np.abs, columns)
-    return (
+    given: NDArray[Any] = (
         (ax * ax + ay * ay) * (bx * cy + by * cx)
         + (bx * bx + by * by) * (cx * ay + cy * ax)
         + (cx * cx + cy * cy) * (ax * by + ay * bx)
     )
+    return given
 
 
 def circle_test(
-    a: np.ndarray, b: np.ndarray, c: np.ndarray, d: np.ndarray
-) -> Tuple[np.ndarray, np.ndarray]:
+    a: NDArray[Any], b: NDArray[Any], c: NDArray[Any], d: NDArray[Any]
+) -> Tuple[NDArray[Any], NDArray[Any]]:
     """Of triples a, b, c that turn left and points d, rows of int64: 1 where d is inside of the
     circle, 0 where it is on it, -1 where it is outside; and about how deep, to order by."""
     a, b, c, d = np.broadcast_arrays(a, b, c, d)
@@ -50,7 +53,7 @@ def circle_test(
     return sign, depth
 
 
-def disks(a: np.ndarray, b: np.ndarray, c: np.ndarray) -> Tuple[np.ndarray, np.ndarray]:
+def disks(a: NDArray[Any], b: NDArray[Any], c: NDArray[Any]) -> Tuple[NDArray[Any], NDArray[Any]]:
     """Disks that hold those of triples that turn left, rows of int64: centres and radii as
     floats."""
     u, v = b - a, c - a
@@ -68,22 +71,22 @@ def disks(a: np.ndarray, b: np.ndarray, c: np.ndarray) -> Tuple[np.ndarray, np.n
     return np.stack([a[:, 0] + x, a[:, 1] + y], 1), wide
 
 
-def joined(points: np.ndarray, simplices: np.ndarray, neighbors: np.ndarray) -> np.ndarray:
+def joined(points: NDArray[Any], simplices: NDArray[Any], neighbors: NDArray[Any]) -> NDArray[Any]:
     """For each face and corner whether the face opposite it has its corners on the same circle."""
     is_joined = np.zeros(simplices.shape, bool)
     for k in range(3):
         faces = np.flatnonzero(neighbors[:, k] > np.arange(len(simplices)))
         others = neighbors[faces, k]
         back = np.argmax(neighbors[others] == faces[:, None], axis=1)
-        corners = [points[simplices[faces, i]] for i in range(3)]
-        sign, _ = circle_test(*corners, points[simplices[others, back]])
+        a, b, c = (points[simplices[faces, i]] for i in range(3))
+        sign, _ = circle_test(a, b, c, points[simplices[others, back]])
         on_circle = sign == 0
         is_joined[faces[on_circle], k] = True
         is_joined[others[on_circle], back[on_circle]] = True
     return is_joined
 
 
-def least_of_joined(values: np.ndarray, neighbors: np.ndarray, is_joined: np.ndarray) -> np.ndarray:
+def least_of_joined(values: NDArray[Any], neighbors: NDArray[Any], is_joined: NDArray[Any]) -> NDArray[Any]:
     """For each face the least value of all faces that it is joined with, over others too."""
     faces, corners = np.nonzero(is_joined)
     others = neighbors[faces, corners]
@@ -97,7 +100,7 @@ def least_of_joined(values: np.ndarray, neighbors: np.ndarray, is_joined: np.nda
     return least
 
 
-def cells(points: np.ndarray, simplices: np.ndarray, neighbors: np.ndarray) -> np.ndarray:
+def cells(points: NDArray[Any], simplices: NDArray[Any], neighbors: NDArray[Any]) -> NDArray[Any]:
     """The faces of a Delaunay triangulation, but each polygon of points on one circle is cut from
     its least point, by x and then y: rows of three, counterclockwise from that on."""
     points = points.astype(np.int64)

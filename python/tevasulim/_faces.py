@@ -28,7 +28,8 @@ def vertex_neighbors(edges: Ints, count: int) -> Tuple[Ints, Ints]:
 def keys_of(start: Ints, end: Ints) -> NDArray[np.int64]:
     """A number for each pair of points, in either order."""
     low, high = np.minimum(start, end).astype(np.int64), np.maximum(start, end)
-    return (low << 32) + high
+    given: NDArray[np.int64] = (low << 32) + high
+    return given
 
 
 def faces_of_edges(simplices: Ints, edges: Ints) -> Ints:

@@ -234,9 +234,9 @@ def grid_of_wholes(array: NDArray[Any], bounds: Optional[NDArray[np.float64]]) -
         ends += [int(it) for it in bounds.ravel()]
     low = [min(ends[k::2]) for k in (0, 1)]
     high = [max(ends[k::2]) for k in (0, 1)]
-    is_near = min(low) >= -MOST and max(high) <= MOST
+    is_near, most = min(low) >= -MOST and max(high) <= MOST, max(-min(ends), max(ends))
     is_wide = max(high[k] - low[k] for k in (0, 1)) > 2 * MOST
-    if is_near or is_wide or max(map(abs, ends)) > 2**53:
+    if is_near or is_wide or most > 2**53:
         return WHOLE
     middle = [(low[k] + high[k]) // 2 for k in (0, 1)]
     return Grid(1, (float(middle[0]), float(middle[1])), True)

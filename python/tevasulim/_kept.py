@@ -40,7 +40,7 @@ class Insertion(NamedTuple):
     their grid, and how far the points had been moved."""
 
     size: int
-    count: int
+    vertices: int
     grid: Optional[Grid]
     rounding: float
 
@@ -185,11 +185,11 @@ class Kept:
     def _take_back(self, edit: Insertion) -> None:
         """Removes the vertices that an insertion made, the last one first: then no other moves.
         Those that it met have lost their numbers in the library, and get them again."""
-        for vertex in range(self._counts().vertices - 1, edit.count - 1, -1):
+        for vertex in range(self._counts().vertices - 1, edit.vertices - 1, -1):
             self._call("remove", vertex)
-        self._size, self._count = edit.size, edit.count
+        self._size, self._count = edit.size, edit.vertices
         self._grid, self._rounding = edit.grid, edit.rounding
-        self._set_numbers(np.arange(edit.count), self._numbers[: edit.count])
+        self._set_numbers(np.arange(edit.vertices), self._numbers[: edit.vertices])
 
     def _set_numbers(self, vertices: NDArray[Any], numbers: NDArray[Any]) -> None:
         """Tells the library which points some vertices are."""

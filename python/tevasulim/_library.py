@@ -17,6 +17,7 @@ from ctypes import (
 from typing import Any, Callable, Optional, Tuple
 
 import numpy as np
+from numpy.typing import NDArray
 
 from .errors import OF_STATUS, NoLibraryError, TevasulimError, TooShortError
 
@@ -167,13 +168,13 @@ def call(name: str, *words: Any) -> None:
         raise error_of(status)
 
 
-def rows(array: np.ndarray) -> Tuple[int, int]:
+def rows(array: NDArray[Any]) -> Tuple[int, int]:
     """An array as a list of the library: its address, which is never 0, and how many rows it
     has."""
     return array.ctypes.data, len(array)
 
 
-def found(columns: int, ask: Callable[..., None], room: int = 64) -> np.ndarray:
+def found(columns: int, ask: Callable[..., None], room: int = 64) -> NDArray[Any]:
     """What a call finds, each of some 32-bit columns: it is asked again where the room was
     short."""
     length = c_size_t()

@@ -17,7 +17,7 @@ FLOAT_MOST = 2**53
 def unmasked(array: Any, name: str) -> NDArray[Any]:
     """An array of what was handed in. A masked element is refused, since no mask is kept."""
     if isinstance(array, np.ma.MaskedArray):
-        hidden = np.flatnonzero(np.ma.getmaskarray(array).ravel())
+        hidden = np.flatnonzero(np.broadcast_to(array.mask, array.shape).ravel())
         if len(hidden):
             where = index_text(array, int(hidden[0]))
             raise ValueError(f"{name} [{where}] is masked: drop the rows with a mask first")
@@ -61,7 +61,8 @@ def whole(array: NDArray[Any], scale: int) -> NDArray[np.float64]:
             raise TooLargeError(message, row_of(array, wrong[0]))
         message = f"the coordinate [{where}], {value}, is no whole number of 1 / {scale}"
         raise NotWholeError(message, row_of(array, wrong[0]))
-    return wholes
+    given: NDArray[np.float64] = wholes
+    return given
 
 
 def in_range(array: NDArray[Any]) -> NDArray[np.int32]:

@@ -1,9 +1,10 @@
 """Orders of points in which each search begins near its end, and rounds of insertions."""
 from __future__ import annotations
 
-from typing import List
+from typing import Any, List
 
 import numpy as np
+from numpy.typing import NDArray
 
 from ._library import MOST
 
@@ -21,7 +22,7 @@ MASKS = (
 )
 
 
-def spread(numbers: np.ndarray) -> np.ndarray:
+def spread(numbers: NDArray[Any]) -> NDArray[Any]:
     """Numbers below 2**32 with a 0 between each two of their bits."""
     bits = numbers.astype(np.uint64)
     for shift, mask in MASKS:
@@ -29,7 +30,7 @@ def spread(numbers: np.ndarray) -> np.ndarray:
     return bits
 
 
-def near_order(points: np.ndarray) -> np.ndarray:
+def near_order(points: NDArray[Any]) -> NDArray[Any]:
     """Rows of points of shape (n, 2) in an order in which most stand beside near ones: quarters of
     the plane one after another, and in each of them the same.
 
@@ -43,7 +44,7 @@ def near_order(points: np.ndarray) -> np.ndarray:
     return np.argsort(keys, kind="stable")
 
 
-def rounds(points: np.ndarray) -> List[np.ndarray]:
+def rounds(points: NDArray[Any]) -> List[NDArray[Any]]:
     """Rows of points of shape (n, 2) in rounds of more and more, each picked blindly, but always
     the same, from all over the plane. The library inserts each along a curve: so no order and no
     distribution of points makes many flips."""

@@ -267,7 +267,7 @@ class Queries(Arrays):
             rows = np.flatnonzero((asked.rest != 0).any(1))
             lists = plain.vertex_neighbor_vertices
             words = found[rows], asked.steps[rows], asked.rest[rows]
-            found[rows] = nearer(plain._points, *lists, *words)
+            found[rows] = nearer(plain._points, lists, *words)
         return self._renamed(plain, found)
 
     def _renamed(self, plain: "Queries", found: Ints) -> Ints:
@@ -303,16 +303,13 @@ class Queries(Arrays):
         rest = np.zeros((len(first), 2)) if asked.rest is None else asked.rest
         given = np.full((len(first), k), -1, np.int32)
         if plain._count:
-            begins, others = (it.tolist() for it in plain.vertex_neighbor_vertices)
-            start = nearer(
-                plain._points, *plain.vertex_neighbor_vertices, plain._named(first), asked.steps,
-                rest,
-            )
+            lists = plain.vertex_neighbor_vertices
+            begins, others = (it.tolist() for it in lists)
+            start = nearer(plain._points, lists, plain._named(first), asked.steps, rest)
             places = plain._points[: plain._size].tolist()
-            for row, (at, step, part) in enumerate(
-                zip(start.tolist(), asked.steps.tolist(), rest.tolist())
-            ):
-                near = nearest_few(begins, others, places, at, (*step, *part), k)
+            points = zip(start.tolist(), asked.steps.tolist(), rest.tolist())
+            for row, (at, (x, y), (u, v)) in enumerate(points):
+                near = nearest_few(begins, others, places, at, (x, y, u, v), k)
                 given[row, : len(near)] = near
         return self._renamed(plain, given)
 
@@ -328,18 +325,18 @@ class Queries(Arrays):
         >>> [(met.kind.name, met.is_constraint) for met in tri.line((4, 0), (0, 4))]
         [('AT_VERTEX', False), ('ACROSS_EDGE', True), ('AT_VERTEX', False)]
         """
-        ends = [single(numbers_of(it)) for it in (start, end)]
+        corners = [single(numbers_of(it)) for it in (start, end)]
         with self._lock:
             self._ready()
-            words = self._ends(np.stack([it.astype(np.float64) for it in ends]))
+            words = self._ends(np.stack([it.astype(np.float64) for it in corners]))
             if words is None:
                 return []
             found = self._line(*words)
             named = self._named(found[:, 1:3]).tolist()
         flags = (found[:, 3] != 0).tolist()
         return [
-            Meeting(Met(kind), *of, flag)
-            for kind, of, flag in zip(found[:, 0].tolist(), named, flags)
+            Meeting(Met(kind), begin, end, flag)
+            for kind, (begin, end), flag in zip(found[:, 0].tolist(), named, flags)
         ]
 
     def _line(self, start: Any, end: Any) -> NDArray[np.uint32]:
@@ -439,9 +436,8 @@ class Queries(Arrays):
         if np.isnan(corners).any():
             raise ValueError("the corners of a rectangle are to be numbers, not nan")
         asked = grid.asked(corners)
-        rest = 0 if asked.rest is None else asked.rest
-        low, high = asked.steps + rest
-        return low, high
+        exact = asked.steps + (np.zeros((2, 2)) if asked.rest is None else asked.rest)
+        return exact[0], exact[1]
 
     def _ends_of_edges(self, rows: Ints) -> Tuple[Floats, Floats]:
         ends = self._points[self.edges[rows]].astype(np.float64)
@@ -489,7 +485,8 @@ def clip(ends: Floats) -> Optional[Floats]:
         begin, stop = max(begin, at[0]), min(stop, at[1])
     if begin > stop:
         return None
-    return ends[0] + np.array([[begin], [stop]]) * (ends[1] - ends[0])
+    given: Optional[Floats] = ends[0] + np.array([[begin], [stop]]) * (ends[1] - ends[0])
+    return given
 
 
 def nearest_few(
@@ -509,7 +506,8 @@ def nearest_few(
         rest = 2 * (dx * u + dy * v)
         return (dx * dx + dy * dy - rest if rest else dx * dx + dy * dy), number
 
-    heap, seen, found = [far(at)], {at}, []
+    heap, seen = [far(at)], {at}
+    found: List[int] = []
     while heap and len(found) < k:
         _, number = heapq.heappop(heap)
         found.append(number)

@@ -2,9 +2,10 @@
 from __future__ import annotations
 
 import time
-from typing import Any, List, NamedTuple, Tuple
+from typing import Any, NamedTuple, Set, Tuple
 
 import numpy as np
+from numpy.typing import NDArray
 
 from ._circles import cells, circle_test, disks
 from ._tile_files import Box, Neighbour, TileFiles, save
@@ -33,44 +34,49 @@ class TileReport(NamedTuple):
     cells: int
 
 
-def keys_of(points: np.ndarray) -> np.ndarray:
+def keys_of(points: NDArray[Any]) -> NDArray[Any]:
     """A number for each position."""
-    return (points[:, 0].astype(np.int64) << 32) + points[:, 1]
+    given: NDArray[Any] = (points[:, 0].astype(np.int64) << 32) + points[:, 1]
+    return given
 
 
 class Disks:
     """The closed disks of faces."""
 
-    def __init__(self, corners: np.ndarray):
+    def __init__(self, corners: NDArray[Any]):
         self.corners = corners
-        self.centers, self.radii = disks(*(corners[:, k] for k in range(3)))
+        a, b, c = (corners[:, k] for k in range(3))
+        self.centers, self.radii = disks(a, b, c)
         # So that no box which a disk reaches is passed over.
         self.reaches_2 = self.radii * self.radii * (1 + 1e-12)
 
     def __len__(self) -> int:
         return len(self.corners)
 
-    def within(self, region: np.ndarray) -> np.ndarray:
+    def within(self, region: NDArray[Any]) -> NDArray[Any]:
         """Which of them are surely in a region."""
         low, high = self.centers - self.radii[:, None], self.centers + self.radii[:, None]
-        return (low >= region[:2]).all(1) & (high <= region[2:]).all(1)
+        given: NDArray[Any] = (low >= region[:2]).all(1) & (high <= region[2:]).all(1)
+        return given
 
-    def ranks(self, rows: np.ndarray, bounds: np.ndarray) -> np.ndarray:
+    def ranks(self, rows: NDArray[Any], bounds: NDArray[Any]) -> NDArray[Any]:
         """For some of them and each box: below 0 where the box may be reached, and lower the nearer
         it is to the centre."""
         x, y = self.centers[rows].T[:, :, None]
         dx = np.maximum(np.maximum(bounds[:, 0] - x, x - bounds[:, 2]), 0)
         dy = np.maximum(np.maximum(bounds[:, 1] - y, y - bounds[:, 3]), 0)
-        return dx * dx + dy * dy - self.reaches_2[rows, None]
+        given: NDArray[Any] = dx * dx + dy * dy - self.reaches_2[rows, None]
+        return given
 
-    def depths(self, rows: np.ndarray, points: np.ndarray) -> Tuple[np.ndarray, np.ndarray]:
+    def depths(self, rows: NDArray[Any], points: NDArray[Any]) -> Tuple[NDArray[Any], NDArray[Any]]:
         """For some of them and some points each: 1 for points inside, 0 for those on the circle, -1
         for others; and how deep."""
         x, y = (points[..., k] - self.centers[rows, k, None] for k in (0, 1))
         near = np.nonzero(x * x + y * y <= self.reaches_2[rows, None])
         corners, of_near = self.corners[rows[near[0]]], points[near].astype(np.int64)
         signs, depths = np.full(points.shape[:2], -1, np.int8), np.zeros(points.shape[:2])
-        signs[near], depths[near] = circle_test(*(corners[:, k] for k in range(3)), of_near)
+        a, b, c = (corners[:, k] for k in range(3))
+        signs[near], depths[near] = circle_test(a, b, c, of_near)
         return signs, depths
 
 
@@ -83,7 +89,7 @@ class Given:
         # Nothing more is asked about a disk with a point inside.
         self.is_done = np.zeros(count, bool)
 
-    def take(self, points: np.ndarray, numbers: np.ndarray) -> None:
+    def take(self, points: NDArray[Any], numbers: NDArray[Any]) -> None:
         self.points.append(points)
         self.numbers.append(numbers)
 
@@ -92,9 +98,9 @@ class Plan(NamedTuple):
     """What each tile knows of all: the bounds of the points of each, as rows of x and y from, x and
     y to, and the corners of the hull of all points, with their numbers."""
 
-    bounds: np.ndarray
-    corners: np.ndarray
-    numbers: np.ndarray
+    bounds: NDArray[Any]
+    corners: NDArray[Any]
+    numbers: NDArray[Any]
 
 
 class Growing:
@@ -109,7 +115,7 @@ class Growing:
         self.others = [Neighbour(files, it) for it in np.flatnonzero(is_other).tolist()]
         self.bounds = plan.bounds[is_other].astype(np.int64)
         self.asked = self.rounds = 0
-        self.sure: set = set()
+        self.sure: Set[Any] = set()
         self.triangulation = Triangulation(self.points)
         self.region = self.widened(box)
         self.add(*self.within_region())
@@ -118,21 +124,22 @@ class Growing:
         self.add(plan.corners[is_new], plan.numbers[is_new])
         self.halo = len(self.points) - self.own
 
-    def widened(self, box: Box) -> np.ndarray:
+    def widened(self, box: Box) -> NDArray[Any]:
         """The tile's part of the plane and a halo, as x and y from, x and y to."""
         spread = np.maximum(np.ptp(self.points, axis=0), 1).astype(np.float64)
         width = HALO * np.sqrt(spread[0] * spread[1] / self.own)
         (x0, x1), (y0, y1) = box
         return np.array([x0 - width, y0 - width, x1 + width, y1 + width])
 
-    def within_region(self) -> Tuple[np.ndarray, np.ndarray]:
+    def within_region(self) -> Tuple[NDArray[Any], NDArray[Any]]:
         """The points of other tiles in the region."""
         x0, y0, x1, y1 = self.region
         points, numbers = [np.empty((0, 2), np.int64)], [np.empty(0, np.int64)]
 
-        def meets(bounds: np.ndarray) -> np.ndarray:
+        def meets(bounds: NDArray[Any]) -> NDArray[Any]:
             beside = (bounds[:, 2] < x0) | (bounds[:, 0] > x1)
-            return ~(beside | (bounds[:, 3] < y0) | (bounds[:, 1] > y1))
+            given: NDArray[Any] = ~(beside | (bounds[:, 3] < y0) | (bounds[:, 1] > y1))
+            return given
 
         for i in np.flatnonzero(meets(self.bounds)):
             some, of_them = self.others[i].rows(np.flatnonzero(meets(self.others[i].boxes())))
@@ -142,16 +149,18 @@ class Growing:
             numbers.append(of_them[is_in])
         return np.concatenate(points), np.concatenate(numbers)
 
-    def add(self, points: np.ndarray, numbers: np.ndarray) -> None:
+    def add(self, points: NDArray[Any], numbers: NDArray[Any]) -> None:
         """Takes further points, none of which is known."""
         self.triangulation.insert_all(points)
         self.points = np.concatenate([self.points, points.astype(np.int64)])
         self.numbers = np.concatenate([self.numbers, numbers])
         self.keys = np.sort(keys_of(self.points))
 
-    def is_known(self, points: np.ndarray) -> np.ndarray:
+    def is_known(self, points: NDArray[Any]) -> NDArray[Any]:
         keys = keys_of(points)
-        return self.keys[np.minimum(np.searchsorted(self.keys, keys), len(self.keys) - 1)] == keys
+        places = np.minimum(np.searchsorted(self.keys, keys), len(self.keys) - 1)
+        given: NDArray[Any] = self.keys[places] == keys
+        return given
 
     def ask(self, asked: Disks) -> Given:
         """Unknown points inside of disks or, for those with none, all on their circles. A known
@@ -170,7 +179,7 @@ class Growing:
                     self.ask_tile(self.others[tile], asked, part, given)
         return given
 
-    def ask_tile(self, other: Neighbour, asked: Disks, rows: np.ndarray, given: Given) -> None:
+    def ask_tile(self, other: Neighbour, asked: Disks, rows: NDArray[Any], given: Given) -> None:
         """The same of one tile, block by block."""
         ranks = asked.ranks(rows, other.boxes())
         order, reached = np.argsort(ranks, axis=1, kind="stable"), (ranks < 0).sum(1)
@@ -185,11 +194,11 @@ class Growing:
 
     def take_inside(
         self,
-        points: np.ndarray,
-        numbers: np.ndarray,
-        signs: np.ndarray,
-        depths: np.ndarray,
-        rows: np.ndarray,
+        points: NDArray[Any],
+        numbers: NDArray[Any],
+        signs: NDArray[Any],
+        depths: NDArray[Any],
+        rows: NDArray[Any],
         given: Given,
     ) -> None:
         """Takes the deepest points of each row that are inside of its disk."""
@@ -204,10 +213,10 @@ class Growing:
 
     def take_border(
         self,
-        points: np.ndarray,
-        numbers: np.ndarray,
-        signs: np.ndarray,
-        rows: np.ndarray,
+        points: NDArray[Any],
+        numbers: NDArray[Any],
+        signs: NDArray[Any],
+        rows: NDArray[Any],
         given: Given,
     ) -> None:
         """Takes the unknown points of each row that are on its circle."""
@@ -231,20 +240,21 @@ class Growing:
         self.add(np.concatenate(given.points)[first], numbers)
         return bool(len(numbers))
 
-    def is_sure(self, faces: np.ndarray) -> np.ndarray:
+    def is_sure(self, faces: NDArray[Any]) -> NDArray[Any]:
         """Which disks of faces are known to hold no unknown point."""
         if not self.sure:
             return np.zeros(len(faces), bool)
         return np.array([it in self.sure for it in map(tuple, np.sort(faces, 1).tolist())], bool)
 
-    def note_sure(self, faces: np.ndarray) -> None:
+    def note_sure(self, faces: NDArray[Any]) -> None:
         self.sure.update(map(tuple, np.sort(faces, 1).tolist()))
 
-    def own_cells(self) -> np.ndarray:
+    def own_cells(self) -> NDArray[Any]:
         """The cells whose least point is the tile's own, by the numbers of all points."""
         rows = cells(self.points, self.triangulation.simplices, self.triangulation.neighbors)
         rows = self.numbers[rows[rows[:, 0] < self.own]]
-        return rows[np.lexsort(rows.T[::-1])]
+        given: NDArray[Any] = rows[np.lexsort(rows.T[::-1])]
+        return given
 
 
 def cells_of_tile(files: TileFiles, tile: int, box: Box, plan: Plan) -> TileReport:

@@ -114,7 +114,8 @@ class Values(Queries):
                 raise ValueError(f"values are to be of the shape (n,), not {heights.shape}")
             z = heights[self.simplices]
             rise = z[:, :2] - z[:, 2:]
-            return np.einsum("fi,fij->fj", rise, self.transform[:, :2])
+            given: Floats = np.einsum("fi,fij->fj", rise, self.transform[:, :2])
+            return given
 
     def grid(
         self, values: Any, step: float, bounds: Any = None, method: str = "linear"

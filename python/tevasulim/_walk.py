@@ -67,10 +67,11 @@ def distances_2(points: Ints, steps: Ints, rest: Floats) -> Tuple[Wide, Floats]:
 
 
 def nearer(
-    points: Ints, begins: Ints, neighbors: Ints, at: Ints, steps: Ints, rest: Floats
+    points: Ints, lists: Tuple[Ints, Ints], at: Ints, steps: Ints, rest: Floats
 ) -> Ints:
     """From a vertex near each of some points to the nearest one, by edges of a Delaunay
     triangulation: a vertex that is not the nearest has a neighbour that is nearer."""
+    begins, neighbors = lists
     at = at.copy()
     open_ones = np.flatnonzero(at >= 0)
     while len(open_ones):
@@ -116,4 +117,5 @@ def meets_box(a: Floats, b: Floats, low: Floats, high: Floats) -> NDArray[np.boo
         [way[:, 0] * (y - a[:, 1]) - way[:, 1] * (x - a[:, 0]) for x, y in corners], 1
     )
     is_one_side: NDArray[np.bool_] = (sides > 0).all(1) | (sides < 0).all(1)
-    return ~is_beside & ~is_one_side
+    given: NDArray[np.bool_] = ~is_beside & ~is_one_side
+    return given

@@ -31,7 +31,7 @@ class Delaunay:
         self._make(points)
 
     def _make(self, points: Any) -> None:
-        self._tri = tri = Triangulation(np.ma.asarray(points, np.float64))
+        self._tri = tri = Triangulation(np.asanyarray(points, np.float64))
         if not len(tri):
             refusal = RuntimeError if tri.num_vertices > 2 else ValueError
             raise refusal("no face: there are fewer than three points, or all are on one line")

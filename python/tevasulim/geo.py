@@ -132,7 +132,8 @@ class Surface(NamedTuple):
 
 def ending(path: Any) -> str:
     """A file's ending, in small letters."""
-    return os.path.splitext(os.fspath(path))[1].lower()
+    given: str = os.path.splitext(os.fspath(path))[1].lower()
+    return given
 
 
 def triangulate(
@@ -202,7 +203,7 @@ def triangulate_raster(source: Any, band: int = 1, **settings: Any) -> Surface:
     rasters = needed("rasterio")
     with rasters.open(source) as raster:
         heights, crs = raster.read(band, masked=True), raster.crs
-        rows, columns = np.nonzero(~np.ma.getmaskarray(heights))
+        rows, columns = np.nonzero(~np.broadcast_to(heights.mask, heights.shape))
         x, y = raster.transform * (columns + 0.5, rows + 0.5)
         warn_of_degrees(crs)
     found = np.asarray(heights[rows, columns], np.float64)

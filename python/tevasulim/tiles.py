@@ -19,12 +19,15 @@ is done when it holds for each face at a point of its own. Of four or more point
 polygon that they make is cut from its least point in all tiles. """
 from __future__ import annotations
 
+import operator
 import os
 import shutil
 import tempfile
+from functools import partial
 from typing import Any, Callable, List, NamedTuple, Optional, Sequence, Tuple
 
 import numpy as np
+from numpy.typing import NDArray
 
 from ._hull import hull_rows
 from ._tile import Plan, TileReport, cells_of_tile
@@ -56,10 +59,8 @@ def run(client: Any, function: Callable[..., Any], tasks: Sequence[Tuple[Any, ..
     # Dask would give a failed task's error once more.
     more = {"pure": False} if hasattr(client, "scheduler") else {}
     futures = [client.submit(function, *words, **more) for words in tasks]
-    return [
-        result_of(future, lambda words=words: client.submit(function, *words, **more))
-        for future, words in zip(futures, tasks)
-    ]
+    again = [partial(client.submit, function, *words, **more) for words in tasks]
+    return list(map(result_of, futures, again))
 
 
 def result_of(future: Any, submit_again: Callable[[], Any]) -> Any:
@@ -120,6 +121,14 @@ def cut_plane(
     return boxes, Plan(bounds, corners[rows], numbers[rows])
 
 
+def stop_if_used(folder: str) -> None:
+    """Refuses a folder that has the cells of another run: files of both would stand side by
+    side."""
+    left = sorted(it for it in os.listdir(folder) if it.startswith("cells-"))
+    if left:
+        raise FileExistsError(f"{folder} has cells of another run, as {left[0]}: empty it first")
+
+
 def triangulate_tiles(
     points: Any, tile_size: int, client: Any = None, folder: Optional[str] = None
 ) -> TiledCells:
@@ -136,8 +145,8 @@ def triangulate_tiles(
     client : distributed.Client or concurrent.futures.Executor, optional
         What runs the tasks; without one, this process. A task that failed is run again.
     folder : str, optional
-        A folder that each worker reaches. Files of the tiles are made in it, and those with cells
-        are left there. Without one, a folder of this machine is used, and arrays are given.
+        A folder that each worker reaches, which has no cells of another run. Files of the tiles are
+        made in it, and those with cells are left there. Without one, a folder of this machine is used, and arrays are given.
 
     Returns
     -------
@@ -150,6 +159,8 @@ def triangulate_tiles(
     ------
     TevasulimError, TypeError, ValueError
         Where a part is refused; `index` is the point's row in that part.
+    FileExistsError
+        Where the folder has the cells of another run.
 
     Examples
     --------
@@ -157,8 +168,11 @@ def triangulate_tiles(
     >>> [cells.tolist() for cells in tiles.cells]
     [[[0, 1, 3], [3, 1, 2]], []]
     """
+    tile_size = operator.index(tile_size)
     if tile_size < 1:
         raise ValueError(f"a tile is to have at least one point, not {tile_size}")
+    if folder is not None:
+        stop_if_used(folder)
     room = tempfile.mkdtemp(prefix="tiles-", dir=folder)
     try:
         files = TileFiles(room)
@@ -169,6 +183,9 @@ def triangulate_tiles(
         if folder is None:
             return TiledCells([np.load(name) for name in names], reports)
         kept = [os.path.join(folder, os.path.basename(name)) for name in names]
+        # Of two runs at once in one folder the second is refused here.
+        for place in kept:
+            open(place, "x").close()
         for name, place in zip(names, kept):
             os.replace(name, place)
         return TiledCells(kept, reports)
