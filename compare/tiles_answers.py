@@ -1,7 +1,9 @@
 """Cells of tiles beside those of one triangulation of all points. It is run by compare/tiles, in
 Debian's Python. """
 import glob
+import json
 import os
+import shutil
 import signal
 import tempfile
 import threading
@@ -14,12 +16,13 @@ from distributed import Client, LocalCluster
 
 from geometry import in_circle
 from tevasulim import CrossingError, NoSuchPointError, NotWholeError, TooLargeError, Triangulation
-from tevasulim.tiles import triangulate_tiles
+from tevasulim.tiles import neighbors, triangulate_tiles
 
 MOST = 2**29
 COUNT, ON_LINE, WORKERS, TILES = 100_000, 3_990, 4, (1, 4, 25, 100)
 FEWER = 20_000
 NO_SEGMENTS = np.empty((0, 2), np.int64)
+SQUARE = [(0, 0), (4, 0), (5, 5), (0, 4)]
 
 
 def random_points(draw):
@@ -148,6 +151,15 @@ def cells_of_all(points, segments=None):
     return rows_in_order(np.array(cells, np.int64).reshape(-1, 3))
 
 
+def check_neighbors(rows, beyond):
+    """The cell beyond each side of each cell is the one that has the side the other way round."""
+    sides = {}
+    for place, (a, b, c) in enumerate(rows.tolist()):
+        sides.update({(a, b): place, (b, c): place, (c, a): place})
+    for (a, b, c), found in zip(rows.tolist(), beyond.tolist()):
+        assert found == [sides.get(it, -1) for it in ((c, b), (a, c), (b, a))]
+
+
 def check(points, tiles, client, folder, wanted, segments=NO_SEGMENTS):
     """Runs tiles over the points in three parts, one of them a file, and compares their cells."""
     parts = np.array_split(points, 3)
@@ -158,10 +170,16 @@ def check(points, tiles, client, folder, wanted, segments=NO_SEGMENTS):
     assert len(found.cells) == len(found.reports) == tiles
     rows = np.concatenate([np.load(name) for name in found.cells])
     assert np.array_equal(rows_in_order(rows), wanted)
+    if len(rows) < 5000:
+        check_neighbors(rows, np.concatenate(neighbors(found.cells)))
     assert sum(it.points for it in found.reports) == len(np.unique(points, axis=0))
-    for name in found.cells:
-        os.remove(name)
-    assert os.listdir(folder) == ["part.npy"]
+    with open(found.index_file) as file:
+        named = [it["cells"] for it in json.load(file)["tiles"]]
+    assert named == [os.path.basename(it) for it in found.cells]
+    room = os.path.dirname(found.index_file)
+    assert sorted(os.listdir(room)) == sorted([*named, "index.json"])
+    # Others may have run in the same folder.
+    shutil.rmtree(room)
 
 
 def check_few():
@@ -192,7 +210,9 @@ def check_few_segments():
         wanted = cells_of_all(points, segments)
         words = np.array_split(points, draw.integers(1, 4)), int(draw.integers(1, 8))
         found = triangulate_tiles(*words, segments=np.array_split(segments, draw.integers(1, 4)))
-        rows = rows_in_order(np.concatenate(found.cells))
+        rows = np.concatenate(found.cells)
+        check_neighbors(rows, np.concatenate(neighbors(found.cells)))
+        rows = rows_in_order(rows)
         assert np.array_equal(rows, wanted), (points.tolist(), segments.tolist())
         count += len(wanted)
     assert count > 500
@@ -251,6 +271,9 @@ def check_refusals():
                 continue
             raise AssertionError(size)
         assert sorted(os.listdir(folder)) == kept
+        # Two runs in one folder leave the files of both.
+        found = [triangulate_tiles([it], 2, None, folder) for it in (SQUARE, SQUARE[:3])]
+        assert [sum(len(np.load(name)) for name in it.cells) for it in found] == [2, 1]
     for segments, error in (
         ([(0, 2)], NoSuchPointError),
         ([(-1, 0)], NoSuchPointError),

@@ -1,4 +1,4 @@
-"""Delaunay triangulations of whole-number points, over a library whose calls are proved.
+"""Delaunay triangulations of points of the plane, over a library whose calls are proved.
 
 >>> import tevasulim
 >>> hill = tevasulim.Triangulation([(0, 0), (4, 0), (5, 5), (0, 4)])
@@ -9,7 +9,26 @@
 """
 from .errors import *  # noqa: F401,F403
 from .errors import __all__ as _errors
-from .triangulation import Meeting, Met, Place, Places, Triangulation
+from .triangulation import (
+    Contour,
+    Meeting,
+    Met,
+    Place,
+    Places,
+    Raster,
+    Triangulation,
+    Voronoi,
+)
 
-__all__ = ["Triangulation", "Place", "Places", "Met", "Meeting", *_errors]
+__all__ = [
+    "Triangulation",
+    "Place",
+    "Places",
+    "Met",
+    "Meeting",
+    "Raster",
+    "Contour",
+    "Voronoi",
+    *_errors,
+]
 __version__ = "0.1.0"

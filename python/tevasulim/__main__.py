@@ -1,88 +1,246 @@
-"""Triangulates the points of a file: `python3 -m tevasulim --help`."""
+"""The command `tevasulim`: `python3 -m tevasulim --help`."""
 from __future__ import annotations
 
 import argparse
-import csv
+import os
 import sys
-from typing import Any, List, Optional
+import warnings
+from typing import Any, Callable, Iterator, List, Optional, Tuple
 
 import numpy as np
 
+from . import __version__
+from . import _library as library
+from ._tables import TABLES, read_segments, read_table, write_table
 from .errors import TevasulimError
+from .geo import MESHES, Surface, ending, triangulate
 from .triangulation import Triangulation
 
-ABOUT = """Writes the Delaunay triangulation of the points of a file: one face a row, by the rows of
-its three corners in that file from 0 on, counterclockwise."""
+ABOUT = """Delaunay triangulations of the points, lines and polygons of a file.
+
+IN is a table (.csv, .tsv; .txt, .xyz: columns apart by spaces; .npy), a .npz of
+Triangulation.save, a raster that rasterio reads, or what geopandas reads: GeoPackage,
+Shapefile, GeoJSON, DXF, .. Lines and the borders of polygons stay edges. A table has x, y and,
+if there is a third column, heights."""
+STATUS = """Exit statuses: 0, all went well; 1, a file was refused or a package is missing, and
+standard error says why; 2, the words of the command are wrong; 130, it was interrupted."""
 
 
-def read(name: str, is_whole: bool) -> np.ndarray:
-    """The two columns of a file: a .npy, or else a CSV that may have a line of names."""
-    if name.endswith(".npy"):
-        return np.load(name, allow_pickle=False)
-    with open(name, newline="") as file:
-        rows = [row for row in csv.reader(file) if row and not row[0].lstrip().startswith("#")]
-    if rows and not rows[0][0].strip().lstrip("+-.").isdigit() and not is_number(rows[0][0]):
-        rows = rows[1:]
-    for number, row in enumerate(rows):
-        if len(row) < 2:
-            raise ValueError(f"{name}: row {number} has not two columns")
-    numbers = [[number_of(word, is_whole, name) for word in row[:2]] for row in rows]
-    return np.array(numbers, np.int64 if is_whole else np.float64).reshape(-1, 2)
-
-
-def is_number(word: str) -> bool:
-    try:
-        float(word)
-    except ValueError:
-        return False
-    return True
-
-
-def number_of(word: str, is_whole: bool, name: str) -> Any:
-    try:
-        return int(word) if is_whole else float(word)
-    except ValueError:
-        more = "; --scale says how many parts a unit has" if is_whole and is_number(word) else ""
-        kind = "whole number" if is_whole else "number"
-        raise ValueError(f"{name}: {word.strip()!r} is no {kind}{more}") from None
-
-
-def write(rows: np.ndarray, name: Optional[str]) -> None:
-    """Writes rows of whole numbers as .npy or CSV."""
-    if name and name.endswith(".npy"):
-        np.save(name, rows)
-    else:
-        np.savetxt(name or sys.stdout, rows, fmt="%d", delimiter=",")
+def add_input(it: argparse.ArgumentParser) -> None:
+    it.add_argument("input", metavar="IN", help="the file that is triangulated")
+    it.add_argument("--header", action="store_true", help="the first row of a table has names")
+    it.add_argument(
+        "--columns",
+        help="the columns of a table for x, y and heights: names, as x,y,z, or places, as 0,1,2",
+    )
+    it.add_argument("--segments", help="a table of constraints: pairs of rows of points, from 0 on")
+    it.add_argument("--height", help="the column of a layer that has heights, in place of Z")
+    it.add_argument("--layer", help="the layer of a file with several")
+    it.add_argument("--scale", type=int, help="how many parts a unit has: others are refused")
+    it.add_argument("--exact", action="store_true", help="refuse what would be rounded")
 
 
 def parser() -> argparse.ArgumentParser:
-    it = argparse.ArgumentParser(prog="python3 -m tevasulim", description=ABOUT)
-    it.add_argument("points", help="a CSV or .npy with two columns, x and y")
-    it.add_argument("--segments", help="a CSV or .npy of constraints: pairs of rows of points")
-    it.add_argument(
-        "--scale", type=int, help="how many parts a unit has; without it, whole numbers"
+    """What the command takes."""
+    form = argparse.RawDescriptionHelpFormatter
+    it = argparse.ArgumentParser("tevasulim", description=ABOUT, epilog=STATUS, formatter_class=form)
+    proved = "proved" if library.is_proved() else "not proved: a trial build"
+    words = f"tevasulim {__version__}, library {library.LIBRARY.tevasulim_version()} ({proved})"
+    it.add_argument("--version", action="version", version=words)
+    commands = it.add_subparsers(dest="command", required=True, metavar="COMMAND")
+
+    def command(name: str, run: Callable[[Any], None], about: str, out: str) -> Any:
+        part = commands.add_parser(name, help=about, description=about, epilog=STATUS)
+        part.set_defaults(run=run)
+        if name != "tiles":
+            add_input(part)
+        part.add_argument("-o", "--out", help=out)
+        part.add_argument("-q", "--quiet", action="store_true", help="show no progress")
+        return part
+
+    out = ".csv or .npy: the rows of each face's corners; .npz: Triangulation.load reads it; a mesh"
+    out += " (.obj, .stl, .vtk, .msh, .ply, ..); or a layer (.gpkg, .shp, .geojson, ..). Without"
+    out += " it, a CSV to standard output"
+    part = command("mesh", mesh, "Writes the faces.", out)
+    part.add_argument(
+        "--neighbors", action="store_true", help="three columns more: the face opposite each corner"
     )
-    it.add_argument("--out", help="a .npy, or else a CSV; without it, a CSV to standard output")
-    it.add_argument(
-        "--neighbors",
-        action="store_true",
-        help="three columns more: the face opposite each corner, or -1",
-    )
+    part.add_argument("--inside", action="store_true", help="only faces in a polygon, of a layer")
+    part = command("contours", contours, "Writes contour lines.", "a layer (.gpkg, .geojson, ..)")
+    part.add_argument("--interval", type=float, help="from level to level")
+    part.add_argument("--levels", help="levels with commas between, or about how many")
+    part = command("grid", grid, "Writes a raster of heights.", "a .tif or a .npy")
+    part.add_argument("--step", type=float, required=True, help="how wide a cell is")
+    command("plot", plot, "Draws the triangulation.", "a picture: .png, .svg, .pdf")
+    command("voronoi", voronoi, "Writes the Voronoi cells.", "a layer (.gpkg, .geojson, ..)")
+    part = command("tiles", tiles, "Triangulates more points than one process holds.", "a folder")
+    part.add_argument("inputs", metavar="IN", nargs="+", help="a .npy of whole numbers, shape (n, 2)")
+    part.add_argument("--tile-size", type=int, default=1_000_000, help="points a tile, about")
+    part.add_argument("--workers", type=int, default=1, help="how many processes")
     return it
 
 
+# What is read.
+
+
+def surface(given: Any) -> Surface:
+    """The triangulation of the file that is named."""
+    name, settings = given.input, {"scale": given.scale, "exact": given.exact}
+    if ending(name) == ".npz":
+        tri = Triangulation.load(name)
+        return Surface(tri, np.full(tri.npoints, np.nan))
+    if ending(name) not in TABLES:
+        return triangulate(name, height=given.height, layer=given.layer, **settings)
+    table = read_table(name, given.columns, given.header)
+    if len(table) and table.shape[1] < 2:
+        raise ValueError(f"{name}: two columns are needed, x and y")
+    segments = read_segments(given.segments, False) if given.segments else None
+    tri = Triangulation(table[:, :2], segments, **settings)
+    heights = table[:, 2] if table.shape[1] > 2 else np.full(len(table), np.nan)
+    return Surface(tri, heights)
+
+
+# What is written.
+
+
+def mesh(given: Any) -> None:
+    found = surface(given)
+    kind, tri = ending(given.out) if given.out else ".csv", found.triangulation
+    if kind == ".npz":
+        tri.save(given.out)
+    elif kind in (".csv", ".npy"):
+        write_table(np.hstack([tri.simplices] + [tri.neighbors] * given.neighbors), given.out)
+    elif kind in MESHES:
+        found.write(given.out)
+    else:
+        found.faces(given.inside).to_file(given.out)
+
+
+def contours(given: Any) -> None:
+    found = surface(given)
+    levels: Any = 10
+    if given.levels:
+        numbers = [float(it) for it in given.levels.split(",")]
+        levels = numbers if len(numbers) > 1 or "," in given.levels else int(numbers[0])
+    if given.interval:
+        known = found.heights[~np.isnan(found.heights)]
+        first, last = np.ceil(known.min() / given.interval), np.floor(known.max() / given.interval)
+        levels = np.arange(first, last + 1) * given.interval
+    found.contours(levels).to_file(needs_out(given))
+
+
+def grid(given: Any) -> None:
+    found, out = surface(given), needs_out(given)
+    raster = found.grid(given.step)
+    # A raster's first row is the one above all others.
+    values = raster.values[::-1]
+    if ending(out) == ".npy":
+        np.save(out, values)
+        return
+    from ._needs import needed
+
+    rasters, affine = needed("rasterio"), needed("rasterio.transform")
+    half, step = given.step / 2, given.step
+    place = affine.from_origin(raster.x[0] - half, raster.y[-1] + half, step, step)
+    shape = {"height": len(raster.y), "width": len(raster.x), "count": 1, "dtype": "float64"}
+    with rasters.open(
+        out, "w", driver="GTiff", nodata=np.nan, transform=place, crs=found.crs, **shape
+    ) as file:
+        file.write(values, 1)
+
+
+def plot(given: Any) -> None:
+    from ._needs import needed
+
+    found, out = surface(given), needs_out(given)
+    needed("matplotlib")
+    from matplotlib.figure import Figure
+
+    figure = Figure(figsize=(8, 8))
+    heights = None if np.isnan(found.heights).any() else found.heights
+    found.triangulation.plot(figure.add_subplot(), heights)
+    figure.savefig(out, dpi=150, bbox_inches="tight")
+
+
+def voronoi(given: Any) -> None:
+    found = surface(given)
+    found.cells().to_file(needs_out(given))
+
+
+def tiles(given: Any) -> None:
+    from concurrent.futures import ProcessPoolExecutor
+
+    from .tiles import triangulate_tiles
+
+    out = needs_out(given)
+    os.makedirs(out, exist_ok=True)
+    if given.workers < 1:
+        raise ValueError(f"--workers is to be 1 or more, not {given.workers}")
+    if given.workers == 1:
+        found = triangulate_tiles(given.inputs, given.tile_size, None, out)
+    else:
+        with ProcessPoolExecutor(given.workers) as pool:
+            found = triangulate_tiles(given.inputs, given.tile_size, pool, out)
+    for name in found.cells:
+        print(name)
+
+
+def needs_out(given: Any) -> str:
+    if not given.out:
+        raise ValueError("-o says what is written")
+    return str(given.out)
+
+
+class Progress:
+    """A line of tqdm's, where it is installed and someone looks."""
+
+    def __init__(self, name: str, is_quiet: bool):
+        self.line: Any = None
+        if not is_quiet and sys.stderr.isatty():
+            try:
+                from tqdm import tqdm
+            except ImportError:
+                return
+            self.line = tqdm(desc=f"tevasulim {name}", total=1, leave=False, delay=1)
+
+    def __enter__(self) -> "Progress":
+        return self
+
+    def __exit__(self, *_: Any) -> None:
+        if self.line is not None:
+            self.line.update()
+            self.line.close()
+
+
 def main(words: Optional[List[str]] = None) -> int:
+    """Runs the command, and gives its exit status."""
     given = parser().parse_args(words)
     try:
-        points = read(given.points, given.scale is None)
-        segments = read(given.segments, True) if given.segments else None
-        with Triangulation(points, segments, scale=given.scale) as triangulation:
-            columns = [triangulation.simplices] + [triangulation.neighbors] * given.neighbors
-            write(np.hstack(columns), given.out)
-    except (TevasulimError, OSError, ValueError, TypeError) as error:
-        print(f"{parser().prog}: {error}", file=sys.stderr)
+        with Progress(given.command, given.quiet), warnings.catch_warnings():
+            warnings.formatwarning = lambda it, *_, **__: f"tevasulim {given.command}: {it}\n"
+            given.run(given)
+    except KeyboardInterrupt:
+        return 130
+    except BrokenPipeError:
+        sys.stderr.close()
+        return 1
+    except Exception as error:
+        if not is_told(error):
+            raise
+        print(f"tevasulim {given.command}: {error}", file=sys.stderr)
         return 1
     return 0
+
+
+def is_told(error: Exception) -> bool:
+    """Whether an exception is of what was handed in, and not of the program."""
+    kinds = (TevasulimError, OSError, ValueError, TypeError, ImportError, KeyError)
+    return isinstance(error, kinds) or type(error).__module__.split(".")[0] in (
+        "fiona",
+        "rasterio",
+        "pyogrio",
+        "meshio",
+    )
 
 
 if __name__ == "__main__":

@@ -2,9 +2,10 @@
 by Python's whole numbers elsewhere. What only narrows a search errs on the safe side."""
 from __future__ import annotations
 
-from typing import NamedTuple, Tuple
+from typing import Any, List, NamedTuple, Tuple
 
 import numpy as np
+from numpy.typing import NDArray
 
 # Of floats of this size or below, whole numbers are exact.
 EXACT = 2.0**53
@@ -13,29 +14,31 @@ EXACT = 2.0**53
 ERROR = 2e-15
 
 
-def determinant(columns: list) -> np.ndarray:
+def determinant(columns: List[Any]) -> NDArray[Any]:
     """The circle test of differences to the fourth point: floats, or whole numbers of Python."""
     ax, ay, bx, by, cx, cy = columns
-    return (
+    given: NDArray[Any] = (
         (ax * ax + ay * ay) * (bx * cy - by * cx)
         + (bx * bx + by * by) * (cx * ay - cy * ax)
         + (cx * cx + cy * cy) * (ax * by - ay * bx)
     )
+    return given
 
 
-def size_of(columns: list) -> np.ndarray:
+def size_of(columns: List[Any]) -> NDArray[Any]:
     """The same with each product's absolute value."""
     ax, ay, bx, by, cx, cy = map(np.abs, columns)
-    return (
+    given: NDArray[Any] = (
         (ax * ax + ay * ay) * (bx * cy + by * cx)
         + (bx * bx + by * by) * (cx * ay + cy * ax)
         + (cx * cx + cy * cy) * (ax * by + ay * bx)
     )
+    return given
 
 
 def circle_test(
-    a: np.ndarray, b: np.ndarray, c: np.ndarray, d: np.ndarray
-) -> Tuple[np.ndarray, np.ndarray]:
+    a: NDArray[Any], b: NDArray[Any], c: NDArray[Any], d: NDArray[Any]
+) -> Tuple[NDArray[Any], NDArray[Any]]:
     """Of triples a, b, c that turn left and points d, rows of int64: 1 where d is inside of the
     circle, 0 where it is on it, -1 where it is outside; and about how deep, to order by."""
     a, b, c, d = np.broadcast_arrays(a, b, c, d)
@@ -54,7 +57,7 @@ def circle_test(
 TOGETHER = 1 << 13
 
 
-def disks(points: np.ndarray, corners: np.ndarray) -> np.ndarray:
+def disks(points: NDArray[Any], corners: NDArray[Any]) -> NDArray[Any]:
     """The circles of faces that turn left, as floats: rows of the centre's x and y, the radius, and
     the radius of a disk with this centre that surely holds that of the face. The difference of both
     radii is more than a coordinate of the centre can be off.
@@ -69,8 +72,13 @@ def disks(points: np.ndarray, corners: np.ndarray) -> np.ndarray:
 
 
 def circles(
-    ax: np.ndarray, ay: np.ndarray, bx: np.ndarray, by: np.ndarray, cx: np.ndarray, cy: np.ndarray
-) -> np.ndarray:
+    ax: NDArray[Any],
+    ay: NDArray[Any],
+    bx: NDArray[Any],
+    by: NDArray[Any],
+    cx: NDArray[Any],
+    cy: NDArray[Any],
+) -> NDArray[Any]:
     """The same for corners as columns of int64, with the results as columns."""
     ux, uy, vx, vy = bx - ax, by - ay, cx - ax, cy - ay
     twice = (ux * vy - uy * vx).astype(np.float64) * 2
@@ -92,7 +100,7 @@ def circles(
 PRIMES = 2**31 - 1, 2**31 - 19
 
 
-def are_on_circle(columns: list) -> np.ndarray:
+def are_on_circle(columns: List[Any]) -> NDArray[Any]:
     """Whether the circle test of differences to the fourth point, columns of int64, is exactly 0:
     then the fourth point is on the circle of the other three. No float decides."""
     # A product that passes 64 bits keeps what it leaves by 2**64.
@@ -101,17 +109,18 @@ def are_on_circle(columns: list) -> np.ndarray:
         rows = np.flatnonzero(is_on)
         if len(rows):
             is_on[rows] = remainder([it[rows] % prime for it in columns], prime) == 0
-    return is_on
+    given: NDArray[Any] = is_on
+    return given
 
 
-def remainder(columns: list, prime: int) -> np.ndarray:
+def remainder(columns: List[Any], prime: int) -> NDArray[Any]:
     """What the determinant of the circle test leaves by a prime below 2**31."""
     ax, ay, bx, by, cx, cy = columns
     a, b, c = ((x * x + y * y) % prime for x, y in ((ax, ay), (bx, by), (cx, cy)))
-    u, v, w = (
-        (x * y - z * q) % prime for x, y, z, q in ((bx, cy, by, cx), (cx, ay, cy, ax), (ax, by, ay, bx))
-    )
-    return ((a * u) % prime + (b * v) % prime + (c * w) % prime) % prime
+    turns = (bx, cy, by, cx), (cx, ay, cy, ax), (ax, by, ay, bx)
+    u, v, w = ((x * y - z * q) % prime for x, y, z, q in turns)
+    given: NDArray[Any] = ((a * u) % prime + (b * v) % prime + (c * w) % prime) % prime
+    return given
 
 
 class Faces(NamedTuple):
@@ -119,16 +128,16 @@ class Faces(NamedTuple):
     corner and whether the side there is a constraint, each of shape (3, f); and what `disks`
     gives."""
 
-    points: np.ndarray
-    corners: np.ndarray
-    neighbors: np.ndarray
-    is_constraint: np.ndarray
-    found: np.ndarray
+    points: NDArray[Any]
+    corners: NDArray[Any]
+    neighbors: NDArray[Any]
+    is_constraint: NDArray[Any]
+    found: NDArray[Any]
 
 
 def maybe_joined(
-    found: np.ndarray, neighbors: np.ndarray, is_constraint: np.ndarray
-) -> Tuple[np.ndarray, np.ndarray]:
+    found: NDArray[Any], neighbors: NDArray[Any], is_constraint: NDArray[Any]
+) -> Tuple[NDArray[Any], NDArray[Any]]:
     """Faces, and a corner of each, where the side opposite is no constraint and whose circle may be
     that of the face beyond it: the centres are as near as rounding can bring them. Of two faces the
     first is named.
@@ -154,7 +163,7 @@ def maybe_joined(
     return faces[is_near], corners[is_near]
 
 
-def joined(faces_of: Faces) -> Tuple[np.ndarray, np.ndarray]:
+def joined(faces_of: Faces) -> Tuple[NDArray[Any], NDArray[Any]]:
     """Faces, and a corner of each, where the side opposite is no constraint and whose circle is
     that of the face beyond it; both faces are named."""
     points, corners, neighbors, is_constraint, found = faces_of
@@ -173,8 +182,12 @@ def joined(faces_of: Faces) -> Tuple[np.ndarray, np.ndarray]:
 
 
 def spread_over(
-    values: np.ndarray, join: np.ufunc, neighbors: np.ndarray, faces: np.ndarray, at: np.ndarray
-) -> np.ndarray:
+    values: NDArray[Any],
+    join: np.ufunc,
+    neighbors: NDArray[Any],
+    faces: NDArray[Any],
+    at: NDArray[Any],
+) -> NDArray[Any]:
     """For each face the least, or the greatest, value of all faces that it is joined with, over
     others too."""
     others = neighbors[at, faces]
@@ -188,7 +201,7 @@ def spread_over(
     return found
 
 
-def from_least(corners: np.ndarray, keys: np.ndarray) -> np.ndarray:
+def from_least(corners: NDArray[Any], keys: NDArray[Any]) -> NDArray[Any]:
     """The corners of faces, each from the one with the least key on: rows of three."""
     a, b, c = corners
     of_a, of_b, of_c = keys[a], keys[b], keys[c]
@@ -202,13 +215,13 @@ def from_least(corners: np.ndarray, keys: np.ndarray) -> np.ndarray:
 
 
 def polygons(
-    keys: np.ndarray,
-    corners: np.ndarray,
-    neighbors: np.ndarray,
-    faces: np.ndarray,
-    at: np.ndarray,
-    is_sure: np.ndarray,
-) -> np.ndarray:
+    keys: NDArray[Any],
+    corners: NDArray[Any],
+    neighbors: NDArray[Any],
+    faces: NDArray[Any],
+    at: NDArray[Any],
+    is_sure: NDArray[Any],
+) -> NDArray[Any]:
     """The polygons that joined faces make, where one of these is sure, each cut from its point with
     the least key."""
     order = np.argsort(keys, kind="stable")
@@ -228,7 +241,7 @@ def polygons(
     return np.concatenate(rows)
 
 
-def cells(faces_of: Faces, is_sure: np.ndarray) -> np.ndarray:
+def cells(faces_of: Faces, is_sure: NDArray[Any]) -> NDArray[Any]:
     """The faces of a constrained Delaunay triangulation that are sure, but each polygon of points
     on one circle that no constraint cuts is cut from its least point, by x and then y: rows of
     three, counterclockwise from that on. A polygon is sure where one of its faces is."""

@@ -1,23 +1,38 @@
 """What follows from the corners and neighbours of all faces."""
 from __future__ import annotations
 
+from typing import Tuple
+
 import numpy as np
+from numpy.typing import NDArray
+
+Ints = NDArray[np.int32]
 
 
-def faces_of_vertices(simplices: np.ndarray, count: int) -> np.ndarray:
+def vertex_faces(simplices: Ints, count: int) -> Ints:
     """For each of so many points a face with that corner, or -1."""
     faces = np.full(count, -1, np.int32)
     faces[simplices.ravel()] = np.repeat(np.arange(len(simplices), dtype=np.int32), 3)
     return faces
 
 
-def keys_of(start: np.ndarray, end: np.ndarray) -> np.ndarray:
+def vertex_neighbors(edges: Ints, count: int) -> Tuple[Ints, Ints]:
+    """For each of so many points where its neighbours begin in the second list, and where the last
+    one's end."""
+    starts, ends = edges.T.ravel(), edges[:, ::-1].T.ravel()
+    begins = np.zeros(count + 1, np.int32)
+    np.cumsum(np.bincount(starts, minlength=count), out=begins[1:])
+    return begins, ends[np.argsort(starts, kind="stable")]
+
+
+def keys_of(start: Ints, end: Ints) -> NDArray[np.int64]:
     """A number for each pair of points, in either order."""
     low, high = np.minimum(start, end).astype(np.int64), np.maximum(start, end)
-    return (low << 32) + high
+    given: NDArray[np.int64] = (low << 32) + high
+    return given
 
 
-def faces_of_edges(simplices: np.ndarray, edges: np.ndarray) -> np.ndarray:
+def faces_of_edges(simplices: Ints, edges: Ints) -> Ints:
     """For each edge a face beside it, or -1."""
     wanted, places = np.unique(keys_of(edges[:, 0], edges[:, 1]), return_inverse=True)
     faces = np.full(len(wanted), -1, np.int32)
@@ -29,7 +44,7 @@ def faces_of_edges(simplices: np.ndarray, edges: np.ndarray) -> np.ndarray:
     return faces[places]
 
 
-def outline(simplices: np.ndarray, neighbors: np.ndarray) -> np.ndarray:
+def outline(simplices: Ints, neighbors: Ints) -> Ints:
     """The sides with nothing beyond, as pairs of points, each with the faces on its left, and each
     beginning where the one before it ends."""
     faces, corners = np.nonzero(neighbors < 0)

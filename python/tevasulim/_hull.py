@@ -1,18 +1,21 @@
 """Corners of the convex hull of points, exactly."""
 from __future__ import annotations
 
+from typing import Any, List, Tuple
+
 import numpy as np
+from numpy.typing import NDArray
 
 # Fewer points are taken as they are.
 FEW = 1000
 
 
-def turn(a: tuple, b: tuple, c: tuple) -> int:
+def turn(a: Tuple[int, ...], b: Tuple[int, ...], c: Tuple[int, ...]) -> int:
     """Positive where c is left of the line from a to b, 0 where it is on it."""
     return (b[0] - a[0]) * (c[1] - a[1]) - (b[1] - a[1]) * (c[0] - a[0])
 
 
-def extremes(points: np.ndarray) -> list:
+def extremes(points: NDArray[Any]) -> List[int]:
     """Rows of points that are furthest in eight directions, counterclockwise."""
     x, y = points[:, 0], points[:, 1]
     along, across = x + y, x - y
@@ -21,7 +24,7 @@ def extremes(points: np.ndarray) -> list:
     return [west, south_west, south, south_east, east, north_east, north, north_west]
 
 
-def maybe_corners(points: np.ndarray) -> np.ndarray:
+def maybe_corners(points: NDArray[Any]) -> NDArray[Any]:
     """Rows of points, as int64 up to 2**29, but for those inside of a polygon of extreme ones. All
     products stay below 2**63."""
     rows = [int(it) for it in extremes(points)]
@@ -34,9 +37,9 @@ def maybe_corners(points: np.ndarray) -> np.ndarray:
     return np.flatnonzero(~is_inside)
 
 
-def chain(places: list) -> list:
+def chain(places: List[Any]) -> List[Any]:
     """The corners on the right of a way through places in order, but the last one."""
-    corners: list = []
+    corners: List[Any] = []
     for place in places:
         while len(corners) > 1 and turn(corners[-2], corners[-1], place) <= 0:
             corners.pop()
@@ -44,7 +47,7 @@ def chain(places: list) -> list:
     return corners[:-1]
 
 
-def hull_rows(points: np.ndarray) -> np.ndarray:
+def hull_rows(points: NDArray[Any]) -> NDArray[Any]:
     """Rows of different points that are corners of their hull; of points on one line its ends.
 
     >>> hull_rows(np.array([(0, 0), (2, 0), (4, 0), (4, 4), (0, 4), (1, 1)])).tolist()

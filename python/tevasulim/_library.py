@@ -17,6 +17,7 @@ from ctypes import (
 from typing import Any, Callable, Optional, Tuple
 
 import numpy as np
+from numpy.typing import NDArray
 
 from .errors import OF_STATUS, NoLibraryError, TevasulimError, TooShortError
 
@@ -40,16 +41,28 @@ class Counts(ctypes.Structure):
     _fields_ = [(name, c_uint64) for name in ("vertices", "edges", "faces", "constraints")]
 
 
+POINT = c_int32 * 2
+NUMBER = c_uint64
+
+
+class Shape(ctypes.Structure):
+    """A circle by its center and squared radius, or a rectangle by two corners."""
+
+    _fields_ = [("kind", c_uint32), ("first", POINT), ("second", POINT), ("radius_2", c_int64)]
+
+
+CIRCLE, RECTANGLE = 0, 1
 MESH = POINTER(Mesh)
 SIZE = POINTER(c_size_t)
 LIST = (c_void_p, c_size_t)
 FOUND = (*LIST, SIZE)
-POINT = c_int32 * 2
 CALLS = {
     "version": (),
+    "is_proved": (),
     "status_text": (c_uint32, POINTER(c_uint8), c_size_t, SIZE),
     "open": (MESH, c_uint32),
     "close": (MESH,),
+    "copy": (MESH, MESH),
     "allow_constraints": (MESH,),
     "clear": (MESH,),
     "insert": (MESH, c_int32, c_int32, POINTER(c_uint32)),
@@ -64,15 +77,24 @@ CALLS = {
     "numbers": (MESH, *FOUND),
     "edges": (MESH, *FOUND),
     "faces": (MESH, *FOUND),
+    "face_layers": (MESH, *FOUND),
     "locate": (MESH, *LIST, *LIST),
     "nearest": (MESH, *LIST, *LIST),
     "line": (MESH, POINTER(POINT), POINTER(POINT), *FOUND),
-    "vertices_in_circle": (MESH, POINTER(POINT), c_int64, *FOUND),
-    "edges_in_circle": (MESH, POINTER(POINT), c_int64, *FOUND),
-    "vertices_in_rectangle": (MESH, POINTER(POINT), POINTER(POINT), *FOUND),
-    "edges_in_rectangle": (MESH, POINTER(POINT), POINTER(POINT), *FOUND),
+    "conflicts": (MESH, POINTER(POINT), POINTER(POINT), *FOUND),
+    "in_sight": (MESH, POINTER(POINT), POINTER(POINT), *LIST, POINTER(c_uint32)),
+    "vertices_in": (MESH, POINTER(Shape), *FOUND),
+    "edges_in": (MESH, POINTER(Shape), *FOUND),
     "triangulate": (*LIST, *LIST, *LIST, SIZE, SIZE),
 }
+
+
+# What gives a library to a user who has none.
+HOW = """In a clone of the repository three commands give one:
+    cd c && make                # proves and builds the library; the Rattle kit (`rt`) is needed
+    cd ../python && pip install .
+    python3 -m tevasulim --version
+or TEVASULIM_LIBRARY names one that is elsewhere"""
 
 
 def places() -> Tuple[str, ...]:
@@ -88,7 +110,7 @@ def load() -> ctypes.CDLL:
     found = [place for place in places() if os.path.exists(place)]
     if not found:
         looked = " or ".join(os.path.normpath(place) for place in places())
-        raise NoLibraryError(f"no {NAME}: looked for {looked}; TEVASULIM_LIBRARY may name it")
+        raise NoLibraryError(f"no {NAME}: looked for {looked}. {HOW}")
     try:
         library = ctypes.CDLL(found[0])
         for name, types in CALLS.items():
@@ -134,6 +156,11 @@ def error_of(status: int, index: Optional[int] = None) -> TevasulimError:
     return of_class(f"{words_of(status)[0]}{where}", index)
 
 
+def is_proved() -> bool:
+    """Whether the library was proved as it was built; nothing is proved of a trial build."""
+    return bool(LIBRARY.tevasulim_is_proved())
+
+
 def call(name: str, *words: Any) -> None:
     """Makes a call; a status but 0 becomes an exception."""
     status = getattr(LIBRARY, f"tevasulim_{name}")(*words)
@@ -141,13 +168,13 @@ def call(name: str, *words: Any) -> None:
         raise error_of(status)
 
 
-def rows(array: np.ndarray) -> Tuple[int, int]:
+def rows(array: NDArray[Any]) -> Tuple[int, int]:
     """An array as a list of the library: its address, which is never 0, and how many rows it
     has."""
     return array.ctypes.data, len(array)
 
 
-def found(columns: int, ask: Callable[..., None], room: int = 64) -> np.ndarray:
+def found(columns: int, ask: Callable[..., None], room: int = 64) -> NDArray[Any]:
     """What a call finds, each of some 32-bit columns: it is asked again where the room was
     short."""
     length = c_size_t()

@@ -2,9 +2,10 @@
 from __future__ import annotations
 
 from ctypes import byref, c_size_t
-from typing import Tuple
+from typing import Any, Tuple
 
 import numpy as np
+from numpy.typing import NDArray
 
 from . import _library as library
 from ._order import rounds
@@ -15,7 +16,7 @@ class Mesh:
     """A triangulation of different points, and of segments between them where it has any, which
     only grows. A point is named by its row: of all lists that were inserted, one after another."""
 
-    def __init__(self, points: np.ndarray):
+    def __init__(self, points: NDArray[Any]):
         self._handle = library.Mesh()
         library.call("open", byref(self._handle), library.PLAIN)
         self._is_plain = True
@@ -31,7 +32,7 @@ class Mesh:
     def close(self) -> None:
         library.LIBRARY.tevasulim_close(byref(self._handle))
 
-    def insert_all(self, points: np.ndarray) -> None:
+    def insert_all(self, points: NDArray[Any]) -> None:
         """Inserts further points, an int32 array of shape (n, 2), none of which is there."""
         first = len(self._rows)
         self._rows = np.concatenate([self._rows, np.empty(len(points), np.int32)])
@@ -44,7 +45,7 @@ class Mesh:
             self._rows[vertices] = part + first
             self._vertices[part + first] = vertices
 
-    def constrain(self, segments: np.ndarray) -> None:
+    def constrain(self, segments: NDArray[Any]) -> None:
         """Makes constraints along further segments, pairs of rows of points. Where one crosses an
         earlier one, a `CrossingError` has its place in the list."""
         if len(segments) and self._is_plain:
@@ -57,7 +58,7 @@ class Mesh:
                 error.index = place
                 raise
 
-    def faces(self) -> Tuple[np.ndarray, np.ndarray, np.ndarray]:
+    def faces(self) -> Tuple[NDArray[Any], NDArray[Any], NDArray[Any]]:
         """The corners of each face, counterclockwise, as three columns of rows of points; the face
         opposite each corner, as three columns with -1 for none; and whether the side opposite each
         corner is a constraint. Each array has the shape (3, f)."""

@@ -1,16 +1,28 @@
-"""What users hand in, as arrays of whole numbers. Nothing is rounded and nothing wraps."""
+"""What users hand in, as arrays of numbers. Nothing wraps, and no mask is passed over."""
 from __future__ import annotations
 
 import operator
 from typing import Any, Optional
 
 import numpy as np
+from numpy.typing import NDArray
 
 from ._library import MOST
-from .errors import NotWholeError, TooLargeError
+from .errors import NotFiniteError, NotWholeError, TooLargeError
 
 # Each whole number up to this is a float.
 FLOAT_MOST = 2**53
+
+
+def unmasked(array: Any, name: str) -> NDArray[Any]:
+    """An array of what was handed in. A masked element is refused, since no mask is kept."""
+    if isinstance(array, np.ma.MaskedArray):
+        hidden = np.flatnonzero(np.broadcast_to(array.mask, array.shape).ravel())
+        if len(hidden):
+            where = index_text(array, int(hidden[0]))
+            raise ValueError(f"{name} [{where}] is masked: drop the rows with a mask first")
+        return np.asarray(array.data)
+    return np.asarray(array)
 
 
 def checked_scale(scale: Any) -> Optional[int]:
@@ -19,18 +31,23 @@ def checked_scale(scale: Any) -> Optional[int]:
         return None
     if isinstance(scale, (bool, np.bool_)):
         raise TypeError("scale is to be a whole number, not a bool")
-    scale = operator.index(scale)
-    if not 1 <= scale <= MOST:
-        raise ValueError(f"scale is to be from 1 to 2**29, not {scale}")
-    return scale
+    number = operator.index(scale)
+    if not 1 <= number <= MOST:
+        raise ValueError(f"scale is to be from 1 to 2**29, not {number}")
+    return number
 
 
-def index_text(array: np.ndarray, place: int) -> str:
+def index_text(array: NDArray[Any], place: int) -> str:
     """The index of the element that stands at a place of a flattened array, as Python writes it."""
     return ", ".join(map(str, np.unravel_index(place, array.shape)))
 
 
-def whole(array: np.ndarray, scale: int) -> np.ndarray:
+def row_of(array: NDArray[Any], place: int) -> int:
+    """The row of the point at a place of a flattened array of points."""
+    return int(place) // max(array.shape[-1], 1)
+
+
+def whole(array: NDArray[Any], scale: int) -> NDArray[np.float64]:
     """The whole numbers `k` for which the floats of an array are those nearest to `k / scale`."""
     floats = array.astype(np.float64)
     with np.errstate(all="ignore"):
@@ -41,66 +58,89 @@ def whole(array: np.ndarray, scale: int) -> np.ndarray:
         value, where = array.ravel()[wrong[0]], index_text(array, wrong[0])
         if np.isfinite(value) and abs(float(value)) * scale > MOST:
             message = f"the coordinate [{where}], {value}, is beyond 2**29 / {scale}"
-            raise TooLargeError(message, int(wrong[0]) // max(array.shape[-1], 1))
+            raise TooLargeError(message, row_of(array, wrong[0]))
         message = f"the coordinate [{where}], {value}, is no whole number of 1 / {scale}"
-        raise NotWholeError(message, int(wrong[0]) // max(array.shape[-1], 1))
-    return wholes
+        raise NotWholeError(message, row_of(array, wrong[0]))
+    given: NDArray[np.float64] = wholes
+    return given
 
 
-def in_range(array: np.ndarray) -> np.ndarray:
+def in_range(array: NDArray[Any]) -> NDArray[np.int32]:
     """The same whole numbers as `int32`; each is to be from -2**29 to 2**29."""
     wrong = np.flatnonzero(((array < -MOST) | (array > MOST)).ravel())
     if len(wrong):
         value, where = array.ravel()[wrong[0]], index_text(array, wrong[0])
         message = f"the coordinate [{where}], {value}, is not from -2**29 to 2**29"
-        raise TooLargeError(message, int(wrong[0]) // max(array.shape[-1], 1))
+        raise TooLargeError(message, row_of(array, wrong[0]))
     return np.ascontiguousarray(array, np.int32)
 
 
-def coordinates(points: Any, scale: Optional[int]) -> np.ndarray:
-    """Points of any shape (.., 2) as whole numbers. A list without elements is one of no points."""
-    array = np.asarray(points)
+def numbers_of(points: Any) -> NDArray[Any]:
+    """Points of any shape (.., 2) as whole numbers or `float64`. A list without elements is one of
+    no points."""
+    array = unmasked(points, "the coordinate")
     if array.shape == (0,):
         return np.empty((0, 2), np.int32)
     if array.ndim < 1 or array.shape[-1] != 2:
         raise ValueError(f"points are to be of the shape (.., 2), not {array.shape}")
     if array.dtype == object and all(type(it) is int for it in array.flat):
-        return in_range(array) if scale is None else in_range(array * scale)
+        return array
+    if array.dtype.kind == "f":
+        return array if array.dtype == np.longdouble else array.astype(np.float64, copy=False)
+    if array.dtype.kind not in "iu":
+        raise TypeError(f"coordinates are to be numbers, not {array.dtype}")
+    return array
+
+
+def finite(array: NDArray[Any]) -> NDArray[np.float64]:
+    """Points as `float64`, each coordinate finite."""
+    with np.errstate(over="ignore"):
+        floats = array.astype(np.float64, copy=False)
+    if not np.isfinite(floats).all():
+        wrong = int(np.flatnonzero(~np.isfinite(floats).ravel())[0])
+        message = f"the coordinate [{index_text(array, wrong)}], {array.ravel()[wrong]}, is not"
+        raise NotFiniteError(f"{message} finite", row_of(array, wrong))
+    return floats
+
+
+def coordinates(points: Any, scale: Optional[int]) -> NDArray[np.int32]:
+    """Points of any shape (.., 2) as whole numbers, which are never rounded."""
+    array = numbers_of(points)
     if array.dtype.kind == "f":
         if scale is None:
-            raise NotWholeError(
-                f"coordinates are whole numbers, and these are {array.dtype}: scale= says how many "
-                "parts a unit has, as 1 or 100"
-            )
+            raise NotWholeError(f"coordinates are to be whole numbers here, not {array.dtype}")
         return in_range(whole(array, scale))
-    if array.dtype.kind not in "iu":
-        raise TypeError(f"coordinates are to be whole numbers, not {array.dtype}")
+    if array.dtype == object:
+        return in_range(array if scale is None else array * scale)
     if scale is not None and scale > 1:
         # So that no product wraps.
         return in_range(in_range(array).astype(np.int64) * scale)
     return in_range(array)
 
 
-def point_list(points: Any, scale: Optional[int]) -> np.ndarray:
-    """Points of the shape (n, 2) as whole numbers."""
-    array = coordinates(points, scale)
+def listed(array: NDArray[Any]) -> NDArray[Any]:
+    """The same points, which are to be of the shape (n, 2)."""
     if array.ndim != 2:
         raise ValueError(f"points are to be of the shape (n, 2), not {array.shape}")
     return array
 
 
-def one_point(point: Any, scale: Optional[int]) -> np.ndarray:
-    """One point, of the shape (2,), as whole numbers."""
-    array = coordinates(point, scale)
+def single(array: NDArray[Any]) -> NDArray[Any]:
+    """The same point, which is to be of the shape (2,)."""
     if array.shape != (2,):
         raise ValueError(f"a point is to be of the shape (2,), not {array.shape}")
     return array
 
 
-def index_array(numbers: Any, name: str) -> np.ndarray:
+def point_list(points: Any, scale: Optional[int]) -> NDArray[np.int32]:
+    """Points of the shape (n, 2) as whole numbers, which are never rounded."""
+    return listed(coordinates(points, scale))
+
+
+def index_array(numbers: Any, name: str) -> NDArray[np.int64]:
     """Numbers of points as they came, of any shape, but as `int64`: none wraps, and -1 stands for
     each that is beyond."""
-    array = np.asarray(numbers)
+    array = unmasked(numbers, name)
     if array.size == 0:
         return np.empty(array.shape, np.int64)
     if array.dtype.kind == "u":
@@ -112,21 +152,12 @@ def index_array(numbers: Any, name: str) -> np.ndarray:
     return array.astype(np.int64)
 
 
-def squared(radius_2: Any, scale: Optional[int]) -> int:
-    """A squared radius in square units as a whole number of the library's. One that holds every
-    point there may be serves for each that is larger."""
-    if isinstance(radius_2, (float, np.floating)):
-        if scale is None:
-            raise NotWholeError("a squared radius is a whole number: scale= is for floats")
-        if not np.isfinite(radius_2):
-            raise NotWholeError(f"a squared radius is a whole number, not {radius_2}")
-        if radius_2 > 2**62:
-            return 2**62
-        square = scale * scale
-        count = round(float(radius_2) * square)
-        if count / square != radius_2:
-            raise NotWholeError(f"the squared radius {radius_2} is no whole number of 1 / {square}")
-        return max(-1, min(count, 2**62))
-    if isinstance(radius_2, (bool, np.bool_)):
-        raise TypeError("a squared radius is to be a number, not a bool")
-    return max(-1, min(operator.index(radius_2) * (scale or 1) ** 2, 2**62))
+def number(value: Any, name: str) -> float:
+    """One number that is handed in, as it is; a bool or a text is refused."""
+    if isinstance(value, (float, np.floating)):
+        if np.isnan(value):
+            raise ValueError(f"{name} is to be a number, not {value}")
+        return float(value)
+    if isinstance(value, (bool, np.bool_)):
+        raise TypeError(f"{name} is to be a number, not a bool")
+    return operator.index(value)

@@ -1,9 +1,10 @@
 """Orders of points in which each search begins near its end, and rounds of insertions."""
 from __future__ import annotations
 
-from typing import List
+from typing import Any, List
 
 import numpy as np
+from numpy.typing import NDArray
 
 from ._library import MOST
 
@@ -21,7 +22,7 @@ MASKS = (
 )
 
 
-def spread(numbers: np.ndarray) -> np.ndarray:
+def spread(numbers: NDArray[Any]) -> NDArray[Any]:
     """Numbers below 2**32 with a 0 between each two of their bits."""
     bits = numbers.astype(np.uint64)
     for shift, mask in MASKS:
@@ -29,13 +30,14 @@ def spread(numbers: np.ndarray) -> np.ndarray:
     return bits
 
 
-def near_keys(points: np.ndarray) -> np.ndarray:
+def near_keys(points: NDArray[Any]) -> NDArray[Any]:
     """A number for each position, rows of shape (n, 2): near positions mostly have near ones."""
     moved = points.astype(np.int64) + MOST
-    return spread(moved[:, 0]) | spread(moved[:, 1]) << np.uint64(1)
+    given: NDArray[Any] = spread(moved[:, 0]) | spread(moved[:, 1]) << np.uint64(1)
+    return given
 
 
-def near_order(points: np.ndarray) -> np.ndarray:
+def near_order(points: NDArray[Any]) -> NDArray[Any]:
     """Rows of points of shape (n, 2) in an order in which most stand beside near ones: quarters of
     the plane one after another, and in each of them the same.
 
@@ -47,7 +49,7 @@ def near_order(points: np.ndarray) -> np.ndarray:
     return np.argsort(near_keys(points), kind="stable")
 
 
-def rounds(points: np.ndarray) -> List[np.ndarray]:
+def rounds(points: NDArray[Any]) -> List[NDArray[Any]]:
     """Rows of points of shape (n, 2) in rounds of more and more, each picked blindly, but always
     the same, from all over the plane. The library inserts each along a curve: so no order and no
     distribution of points makes many flips."""

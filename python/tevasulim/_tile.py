@@ -3,9 +3,10 @@ it, until each cell at a point of its own is sure."""
 from __future__ import annotations
 
 import time
-from typing import List, NamedTuple, Optional, Tuple
+from typing import Any, Dict, List, NamedTuple, Optional, Tuple
 
 import numpy as np
+from numpy.typing import NDArray
 
 from ._circles import Faces, cells, circle_test, disks
 from ._mesh import Mesh
@@ -42,27 +43,29 @@ class Plan(NamedTuple):
     rows of x and y from, x and y to; the corners of the hull of all points, with their numbers; and
     for each part of the segments where those of a tile begin."""
 
-    boxes: np.ndarray
-    bounds: np.ndarray
-    corners: np.ndarray
-    numbers: np.ndarray
+    boxes: NDArray[Any]
+    bounds: NDArray[Any]
+    corners: NDArray[Any]
+    numbers: NDArray[Any]
     segments: List[List[int]]
 
 
-def keys_of(points: np.ndarray) -> np.ndarray:
+def keys_of(points: NDArray[Any]) -> NDArray[Any]:
     """A number for each position."""
-    return (points[:, 0].astype(np.int64) << 32) + points[:, 1]
+    given: NDArray[Any] = (points[:, 0].astype(np.int64) << 32) + points[:, 1]
+    return given
 
 
-def are_listed(keys: np.ndarray, points: np.ndarray) -> np.ndarray:
+def are_listed(keys: NDArray[Any], points: NDArray[Any]) -> NDArray[Any]:
     """Which points are those of sorted keys."""
     if not len(keys):
         return np.zeros(len(points), bool)
     wanted = keys_of(points)
-    return keys[np.minimum(np.searchsorted(keys, wanted), len(keys) - 1)] == wanted
+    given: NDArray[Any] = keys[np.minimum(np.searchsorted(keys, wanted), len(keys) - 1)] == wanted
+    return given
 
 
-def are_numbers(numbers: np.ndarray, some: np.ndarray) -> np.ndarray:
+def are_numbers(numbers: NDArray[Any], some: NDArray[Any]) -> NDArray[Any]:
     """Which numbers are among some others, which are few."""
     least = int(some.min())
     is_some = np.zeros(int(some.max()) - least + 1, bool)
@@ -73,11 +76,12 @@ def are_numbers(numbers: np.ndarray, some: np.ndarray) -> np.ndarray:
     return is_in
 
 
-def are_within(found: np.ndarray, region: np.ndarray) -> np.ndarray:
+def are_within(found: NDArray[Any], region: NDArray[Any]) -> NDArray[Any]:
     """Which disks, as `disks` gives them, are surely in a region."""
     x, y, _, wide = found.T
     is_in = (x - wide >= region[0]) & (x + wide <= region[2])
-    return is_in & (y - wide >= region[1]) & (y + wide <= region[3])
+    given: NDArray[Any] = is_in & (y - wide >= region[1]) & (y + wide <= region[3])
+    return given
 
 
 class Disks:
@@ -85,10 +89,10 @@ class Disks:
 
     def __init__(
         self,
-        points: np.ndarray,
-        corners: np.ndarray,
-        found: np.ndarray,
-        is_constraint: np.ndarray,
+        points: NDArray[Any],
+        corners: NDArray[Any],
+        found: NDArray[Any],
+        is_constraint: NDArray[Any],
     ):
         self.corners = points[corners]
         self.is_constraint = is_constraint
@@ -99,22 +103,24 @@ class Disks:
     def __len__(self) -> int:
         return len(self.radii)
 
-    def ranks(self, rows: np.ndarray, bounds: np.ndarray) -> np.ndarray:
+    def ranks(self, rows: NDArray[Any], bounds: NDArray[Any]) -> NDArray[Any]:
         """For some of them and each box: below 0 where the box may be reached, and lower the nearer
         it is to the centre."""
         x, y = self.centers[rows].T[:, :, None]
         dx = np.maximum(np.maximum(bounds[:, 0] - x, x - bounds[:, 2]), 0)
         dy = np.maximum(np.maximum(bounds[:, 1] - y, y - bounds[:, 3]), 0)
-        return dx * dx + dy * dy - self.reaches_2[rows, None]
+        given: NDArray[Any] = dx * dx + dy * dy - self.reaches_2[rows, None]
+        return given
 
-    def depths(self, rows: np.ndarray, points: np.ndarray) -> Tuple[np.ndarray, np.ndarray]:
+    def depths(self, rows: NDArray[Any], points: NDArray[Any]) -> Tuple[NDArray[Any], NDArray[Any]]:
         """For some of them and some points each: 1 for points inside, 0 for those on the circle, -1
         for others; and how deep."""
         x, y = (points[..., k] - self.centers[rows, k, None] for k in (0, 1))
         near = np.nonzero(x * x + y * y <= self.reaches_2[rows, None])
         corners, of_near = self.corners[:, rows[near[0]]], points[near].astype(np.int64)
         signs, depths = np.full(points.shape[:2], -1, np.int8), np.zeros(points.shape[:2])
-        signs[near], depths[near] = circle_test(*corners, of_near)
+        a, b, c = corners
+        signs[near], depths[near] = circle_test(a, b, c, of_near)
         for k in range(3):
             # What is in a disk beyond a side that is a constraint is hidden by it.
             is_side = self.is_constraint[k, rows[near[0]]]
@@ -136,15 +142,15 @@ class Part:
     def __init__(
         self,
         tile: Tile,
-        points: np.ndarray,
-        numbers: np.ndarray,
-        is_own: np.ndarray,
-        segments: np.ndarray,
+        points: NDArray[Any],
+        numbers: NDArray[Any],
+        is_own: NDArray[Any],
+        segments: NDArray[Any],
     ):
         self.tile = tile
         self.points, self.numbers, self.is_own = points, numbers, is_own
         self.segments = NONE
-        self._keys: Optional[np.ndarray] = None
+        self._keys: Optional[NDArray[Any]] = None
         self.mesh = Mesh(points.astype(np.int32))
         try:
             self.constrain(segments)
@@ -161,33 +167,33 @@ class Part:
         self.corners, self.neighbors, self.is_constraint = self.mesh.faces()
         self.found = disks(self.points, self.corners)
 
-    def faces_at(self, is_asked: np.ndarray) -> np.ndarray:
+    def faces_at(self, is_asked: NDArray[Any]) -> NDArray[Any]:
         """The faces with a corner of some points."""
         a, b, c = self.corners
         return np.flatnonzero(is_asked[a] | is_asked[b] | is_asked[c])
 
-    def disks_of(self, faces: np.ndarray) -> Disks:
+    def disks_of(self, faces: NDArray[Any]) -> Disks:
         words = self.corners[:, faces], self.found[faces], self.is_constraint[:, faces]
         return Disks(self.points, *words)
 
-    def boxes_of(self, faces: np.ndarray) -> np.ndarray:
+    def boxes_of(self, faces: NDArray[Any]) -> NDArray[Any]:
         """The bounds of some faces, as rows of x and y from, x and y to."""
         at = self.points[self.corners[:, faces]]
         return np.hstack([at.min(0), at.max(0)])
 
-    def is_known(self, points: np.ndarray) -> np.ndarray:
+    def is_known(self, points: NDArray[Any]) -> NDArray[Any]:
         if not len(points):
             return np.empty(0, bool)
         if self._keys is None:
             self._keys = np.sort(keys_of(self.points))
         return are_listed(self._keys, points)
 
-    def rows_of(self, numbers: np.ndarray) -> np.ndarray:
+    def rows_of(self, numbers: NDArray[Any]) -> NDArray[Any]:
         """The rows of points that are known, by their numbers."""
         order = np.argsort(self.numbers, kind="stable")
         return order[np.searchsorted(self.numbers, numbers, sorter=order)]
 
-    def insert_all(self, points: np.ndarray, numbers: np.ndarray, is_own: np.ndarray) -> None:
+    def insert_all(self, points: NDArray[Any], numbers: NDArray[Any], is_own: NDArray[Any]) -> None:
         """Inserts further points, none of which is known."""
         self.mesh.insert_all(points.astype(np.int32))
         self.points = np.concatenate([self.points, points])
@@ -195,7 +201,7 @@ class Part:
         self.is_own = np.concatenate([self.is_own, is_own])
         self._keys = None
 
-    def constrain(self, segments: np.ndarray) -> None:
+    def constrain(self, segments: NDArray[Any]) -> None:
         """Makes constraints along further segments, whose ends are known. Where one crosses an
         earlier one at a point of all that is not known yet, that point is inserted first."""
         while len(segments):
@@ -208,7 +214,7 @@ class Part:
                 segments = segments[error.index :]
                 self.insert_meeting_points(segments[0])
 
-    def insert_meeting_points(self, segment: np.ndarray) -> None:
+    def insert_meeting_points(self, segment: NDArray[Any]) -> None:
         """Inserts the points at which a segment crosses those before it, and refuses it where it
         crosses one elsewhere."""
         points = common_points(self.segments, segment)
@@ -221,7 +227,11 @@ class Part:
         self.insert_all(points[is_there], numbers[is_there], is_own[is_there])
 
     def add(
-        self, points: np.ndarray, numbers: np.ndarray, is_own: np.ndarray, segments: np.ndarray
+        self,
+        points: NDArray[Any],
+        numbers: NDArray[Any],
+        is_own: NDArray[Any],
+        segments: NDArray[Any],
     ) -> None:
         """Takes further points, none of which is known, and segments with their ends."""
         ends, of_them = ends_of(segments)
@@ -233,14 +243,15 @@ class Part:
         self.constrain(segments)
         self.look()
 
-    def cells(self, is_sure: np.ndarray) -> np.ndarray:
-        """The cells of faces that are sure whose least point is the tile's own, by rows of points."""
+    def cells(self, is_sure: NDArray[Any]) -> NDArray[Any]:
+        """The cells of faces that are sure whose least point is the tile's own: rows of points."""
         words = self.points, self.corners, self.neighbors, self.is_constraint, self.found
         rows = cells(Faces(*words), is_sure)
-        return rows[self.is_own[rows[:, 0]]]
+        given: NDArray[Any] = rows[self.is_own[rows[:, 0]]]
+        return given
 
 
-def ends_of(segments: np.ndarray) -> Tuple[np.ndarray, np.ndarray]:
+def ends_of(segments: NDArray[Any]) -> Tuple[NDArray[Any], NDArray[Any]]:
     """The ends of segments, and their numbers."""
     return segments[:, ENDS].reshape(-1, 2), segments[:, NUMBERS].ravel()
 
@@ -255,11 +266,11 @@ class Given:
         self.is_done = np.zeros(count, bool)
         self._points, self._numbers = [np.empty((0, 2), np.int64)], [np.empty(0, np.int64)]
 
-    def take(self, points: np.ndarray, numbers: np.ndarray) -> None:
+    def take(self, points: NDArray[Any], numbers: NDArray[Any]) -> None:
         self._points.append(points)
         self._numbers.append(numbers)
 
-    def points(self) -> Tuple[np.ndarray, np.ndarray]:
+    def points(self) -> Tuple[NDArray[Any], NDArray[Any]]:
         """The points, each once, and their numbers."""
         numbers, first = np.unique(np.concatenate(self._numbers), return_index=True)
         return np.concatenate(self._points)[first], numbers
@@ -277,21 +288,23 @@ class Tile:
         self.is_there = plan.bounds[:, 0] <= plan.bounds[:, 2]
         self.region = self.widened(plan.boxes[tile])
         self.asked = 0
-        self._segments: dict = {}
+        self._segments: Dict[int, Any] = {}
 
-    def widened(self, box: np.ndarray) -> np.ndarray:
+    def widened(self, box: NDArray[Any]) -> NDArray[Any]:
         """The tile's part of the plane and a halo, as x and y from, x and y to."""
         spread = np.maximum(np.ptp(self.points, axis=0), 1).astype(np.float64)
         width = HALO * np.sqrt(spread[0] * spread[1] / len(self.points))
-        return box + np.array([-width, -width, width, width])
+        given: NDArray[Any] = box + np.array([-width, -width, width, width])
+        return given
 
-    def are_own(self, points: np.ndarray) -> np.ndarray:
+    def are_own(self, points: NDArray[Any]) -> NDArray[Any]:
         """Which points lie in the tile's part of the plane; lower sides belong to it."""
         x0, y0, x1, y1 = self.plan.boxes[self.tile]
         x, y = points.T
-        return (x >= x0) & (x < x1) & (y >= y0) & (y < y1)
+        given: NDArray[Any] = (x >= x0) & (x < x1) & (y >= y0) & (y < y1)
+        return given
 
-    def numbers_at(self, points: np.ndarray) -> Tuple[np.ndarray, np.ndarray]:
+    def numbers_at(self, points: NDArray[Any]) -> Tuple[NDArray[Any], NDArray[Any]]:
         """The numbers of the points at some positions, or -1 where none is, and whether these are
         the tile's own."""
         numbers = np.full(len(points), -1, np.int64)
@@ -302,7 +315,7 @@ class Tile:
             numbers[row] = self.files.numbers_at(int(tile), points[row : row + 1])[0]
         return numbers, self.are_own(points)
 
-    def segments_in(self, box: np.ndarray) -> np.ndarray:
+    def segments_in(self, box: NDArray[Any]) -> NDArray[Any]:
         """The segments whose bounds meet a box, by their rows."""
         if not self.plan.segments:
             return NONE
@@ -316,7 +329,7 @@ class Tile:
         every = np.concatenate(found)
         return every[np.unique(every[:, ROW], return_index=True)[1]]
 
-    def halo(self) -> Tuple[np.ndarray, np.ndarray]:
+    def halo(self) -> Tuple[NDArray[Any], NDArray[Any]]:
         """The points of other tiles in the region."""
         x0, y0, x1, y1 = self.region
         points, numbers = [np.empty((0, 2), np.int64)], [np.empty(0, np.int64)]
@@ -347,7 +360,7 @@ class Tile:
         numbers = np.append(numbers, of_them[is_new])
         return Part(self, points, numbers, np.arange(len(points)) < len(self.points), segments)
 
-    def part_at(self, part: Part, is_open: np.ndarray, given: Given, more: np.ndarray) -> Part:
+    def part_at(self, part: Part, is_open: NDArray[Any], given: Given, more: NDArray[Any]) -> Part:
         """A smaller part: some points of a part, their neighbours in it, what was given, the
         segments that may meet these faces, and more segments, and the corners of the hull of all
         points."""
@@ -368,7 +381,7 @@ class Tile:
         points = points[first]
         return Part(self, points, numbers, self.are_own(points), segments)
 
-    def lacking(self, part: Part, faces: np.ndarray) -> Tuple[np.ndarray, np.ndarray]:
+    def lacking(self, part: Part, faces: NDArray[Any]) -> Tuple[NDArray[Any], NDArray[Any]]:
         """Which faces of a part a segment may enter that the part does not know, and these
         segments."""
         is_lacking, found = np.zeros(len(faces), bool), [NONE]
@@ -383,7 +396,7 @@ class Tile:
         every = np.concatenate(found)
         return is_lacking, every[np.unique(every[:, ROW], return_index=True)[1]]
 
-    def ask(self, part: Part, faces: np.ndarray, tiles: np.ndarray) -> Given:
+    def ask(self, part: Part, faces: NDArray[Any], tiles: NDArray[Any]) -> Given:
         """Points of some tiles, unknown to a part, inside of the disks of its faces or, for those
         with none, all on their circles, but for those beyond a constraint at the face's side. Each
         disk asks first the tile that is nearest to its centre."""
@@ -402,7 +415,7 @@ class Tile:
         return given
 
 
-def ask_tile(tile: Neighbour, part: Part, asked: Disks, rows: np.ndarray, given: Given) -> None:
+def ask_tile(tile: Neighbour, part: Part, asked: Disks, rows: NDArray[Any], given: Given) -> None:
     """The same of one tile, block by block."""
     ranks = asked.ranks(rows, tile.boxes())
     order, reached = np.argsort(ranks, axis=1, kind="stable"), (ranks < 0).sum(1)
@@ -421,11 +434,11 @@ def ask_tile(tile: Neighbour, part: Part, asked: Disks, rows: np.ndarray, given:
 
 
 def take_inside(
-    points: np.ndarray,
-    numbers: np.ndarray,
-    signs: np.ndarray,
-    depths: np.ndarray,
-    rows: np.ndarray,
+    points: NDArray[Any],
+    numbers: NDArray[Any],
+    signs: NDArray[Any],
+    depths: NDArray[Any],
+    rows: NDArray[Any],
     given: Given,
 ) -> None:
     """Takes the deepest points of each row that are inside of its disk."""
@@ -439,7 +452,11 @@ def take_inside(
 
 
 def take_border(
-    points: np.ndarray, numbers: np.ndarray, signs: np.ndarray, rows: np.ndarray, given: Given
+    points: NDArray[Any],
+    numbers: NDArray[Any],
+    signs: NDArray[Any],
+    rows: NDArray[Any],
+    given: Given,
 ) -> None:
     """Takes the points of each row that are on its circle."""
     row, place = np.nonzero(signs == 0)
@@ -454,7 +471,7 @@ class Work:
         self.tile = Tile(files, tile, plan)
         self.rounds = self.known = self.fetched = 0
 
-    def rows(self) -> np.ndarray:
+    def rows(self) -> NDArray[Any]:
         """The cells whose least point is the tile's own. A face of a part is sure where the part
         has each point of all that may be seen in its closed disk, and each segment that may enter
         it. Where a face at an own point is not, the cells at that point come of a smaller part, in
@@ -474,7 +491,8 @@ class Work:
             is_sure[unsure] = False
             rows = part.numbers[part.cells(is_sure)]
             if not len(unsure):
-                return rows
+                of_all: NDArray[Any] = rows
+                return of_all
             is_open = np.zeros(len(part.points), bool)
             is_open[part.corners[:, unsure]] = True
             is_open &= part.is_own
@@ -483,7 +501,7 @@ class Work:
         finally:
             part.close()
 
-    def with_cells_of(self, smaller: Part, asked: np.ndarray, rows: np.ndarray) -> np.ndarray:
+    def with_cells_of(self, smaller: Part, asked: NDArray[Any], rows: NDArray[Any]) -> NDArray[Any]:
         """The rows, and the cells at some points, by number, of a smaller part. A cell that both
         have stands there once: it is cut alike."""
         try:
@@ -496,7 +514,7 @@ class Work:
         both = np.unique(np.concatenate([rows[is_again], more]), axis=0)
         return np.concatenate([rows[~is_again], both])
 
-    def sure_cells(self, smaller: Part, asked: np.ndarray) -> np.ndarray:
+    def sure_cells(self, smaller: Part, asked: NDArray[Any]) -> NDArray[Any]:
         """The cells at some own points, after each face there is made sure."""
         tiles, looked = np.flatnonzero(self.tile.is_there), np.empty((3, 0), np.int32)
         again = np.empty(0, np.int64)
@@ -514,12 +532,13 @@ class Work:
             if not len(again):
                 is_sure = np.zeros(smaller.corners.shape[1], bool)
                 is_sure[every] = True
-                return smaller.numbers[smaller.cells(is_sure)]
+                of_all: NDArray[Any] = smaller.numbers[smaller.cells(is_sure)]
+                return of_all
             self.fetched += len(numbers)
             smaller.add(points, numbers, self.tile.are_own(points), segments)
 
 
-def are_same(corners: np.ndarray, before: np.ndarray) -> np.ndarray:
+def are_same(corners: NDArray[Any], before: NDArray[Any]) -> NDArray[Any]:
     """Which faces have the corners that stood in their places before."""
     is_same = np.zeros(corners.shape[1], bool)
     count = min(len(is_same), before.shape[1])
@@ -536,7 +555,8 @@ def cells_of_tile(files: TileFiles, tile: int, plan: Plan) -> TileReport:
         count = len(files.points(tile)[1])
         return TileReport(count, 0, 0, 0, 0, 0, time.process_time() - begin, 0)
     work = Work(files, tile, plan)
-    own, crossed = len(work.tile.points), ()
+    own = len(work.tile.points)
+    crossed: Tuple[int, ...] = ()
     try:
         rows = work.rows()
     except Crossing as found:

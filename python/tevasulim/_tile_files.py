@@ -4,9 +4,10 @@ and a task that runs again writes the same."""
 from __future__ import annotations
 
 import os
-from typing import Any, List, NamedTuple, Tuple
+from typing import Any, Dict, List, NamedTuple, Tuple
 
 import numpy as np
+from numpy.typing import NDArray
 
 from ._hull import hull_rows
 from ._library import MOST
@@ -21,12 +22,13 @@ Box = Tuple[Tuple[float, float], Tuple[float, float]]
 PLANE: Box = ((-np.inf, np.inf), (-np.inf, np.inf))
 
 
-def load(name: str) -> np.ndarray:
+def load(name: str) -> NDArray[Any]:
     """An array of which only what is looked at is read."""
-    return np.load(name, mmap_mode="r", allow_pickle=False)
+    given: NDArray[Any] = np.load(name, mmap_mode="r", allow_pickle=False)
+    return given
 
 
-def save(name: str, array: np.ndarray) -> None:
+def save(name: str, array: NDArray[Any]) -> None:
     """Writes a .npy in one step."""
     part = f"{name}.{os.getpid()}"
     with open(part, "wb") as file:
@@ -34,7 +36,7 @@ def save(name: str, array: np.ndarray) -> None:
     os.replace(part, name)
 
 
-def plan_of(sample: np.ndarray, tiles: int) -> Any:
+def plan_of(sample: NDArray[Any], tiles: int) -> Any:
     """How the plane is cut, by halves of about as many sampled points for each tile: a tile is
     None, and a cut is an axis, the coordinate from which on points are in the second part, and both
     parts."""
@@ -56,13 +58,13 @@ def boxes_in(plan: Any, box: Box = PLANE) -> List[Box]:
     if plan is None:
         return [box]
     axis, at, low, high = plan
-    below, above = list(box), list(box)
-    below[axis], above[axis] = (box[axis][0], at), (at, box[axis][1])
-    return boxes_in(low, tuple(below)) + boxes_in(high, tuple(above))
+    below, above = (box[axis][0], at), (at, box[axis][1])
+    parts = ((below, box[1]), (above, box[1])) if axis == 0 else ((box[0], below), (box[0], above))
+    return boxes_in(low, parts[0]) + boxes_in(high, parts[1])
 
 
 def assign(
-    plan: Any, points: np.ndarray, rows: np.ndarray, tile: np.ndarray, first: int = 0
+    plan: Any, points: NDArray[Any], rows: NDArray[Any], tile: NDArray[Any], first: int = 0
 ) -> int:
     """Writes the tile of each of some rows of points, where the first tile of the plan has a
     number, and gives the number after its last."""
@@ -75,7 +77,7 @@ def assign(
     return assign(high, points, rows[~is_low], tile, middle)
 
 
-def survey(part: str, count: int) -> Tuple[int, np.ndarray]:
+def survey(part: str, count: int) -> Tuple[int, NDArray[Any]]:
     """How many points a file has, and so many of them, picked blindly but always the same. A file
     with anything but points in range is refused."""
     try:
@@ -89,14 +91,14 @@ def survey(part: str, count: int) -> Tuple[int, np.ndarray]:
     return len(points), points[np.sort(picked)]
 
 
-def boxes_of(points: np.ndarray) -> np.ndarray:
+def boxes_of(points: NDArray[Any]) -> NDArray[Any]:
     """The bounds of each block, as rows of x and y from, x and y to."""
     begins = np.arange(0, len(points), BLOCK)
     low, high = np.minimum.reduceat(points, begins), np.maximum.reduceat(points, begins)
     return np.hstack([low, high])
 
 
-def segment_list(part: str, count: int) -> np.ndarray:
+def segment_list(part: str, count: int) -> NDArray[Any]:
     """A part of the segments: pairs of numbers of points, of which there are so many."""
     array = np.asarray(load(part))
     if array.shape == (0,):
@@ -112,7 +114,7 @@ def segment_list(part: str, count: int) -> np.ndarray:
     return array.astype(np.int64)
 
 
-def positions_of(numbers: np.ndarray, parts: List[str], firsts: List[int]) -> np.ndarray:
+def positions_of(numbers: NDArray[Any], parts: List[str], firsts: List[int]) -> NDArray[Any]:
     """Where points are, by their numbers, in parts that begin with these numbers."""
     found = np.empty((len(numbers), 2), np.int32)
     part = np.searchsorted(firsts, numbers, "right") - 1
@@ -126,10 +128,10 @@ class Gathered(NamedTuple):
     """A tile's points: how many there are, their bounds as x and y from, x and y to, and the
     corners of their hull with their numbers."""
 
-    count: int
-    bounds: np.ndarray
-    corners: np.ndarray
-    numbers: np.ndarray
+    size: int
+    bounds: NDArray[Any]
+    corners: NDArray[Any]
+    numbers: NDArray[Any]
 
 
 class TileFiles:
@@ -151,7 +153,8 @@ class TileFiles:
         order = np.argsort(tile, kind="stable")
         save(self.name("cut-points", number), points[order])
         save(self.name("cut-numbers", number), first + order.astype(np.int64))
-        return np.searchsorted(tile[order], np.arange(tiles + 1)).tolist()
+        given: List[int] = np.searchsorted(tile[order], np.arange(tiles + 1)).tolist()
+        return given
 
     def gather(self, tile: int, parts: List[Tuple[int, int, int]]) -> Gathered:
         """Gathers the points of a tile, each once with its least number, from parts with a begin
@@ -181,7 +184,7 @@ class TileFiles:
         corners = hull_rows(points)
         return Gathered(len(points), np.concatenate([low, high]), points[corners], numbers[corners])
 
-    def numbers_at(self, tile: int, points: np.ndarray) -> np.ndarray:
+    def numbers_at(self, tile: int, points: NDArray[Any]) -> NDArray[Any]:
         """The numbers of a tile's points at some positions, or -1 where none is."""
         keys, numbers = load(self.name("keys", tile)), load(self.name("numbers", tile))
         if not len(keys):
@@ -208,21 +211,22 @@ class TileFiles:
         segments = np.hstack([ends.reshape(-1, 4), known.reshape(-1, 2), rows]).astype(np.int64)
         # A point and itself are joined by nothing.
         segments = segments[segments[:, 4] != segments[:, 5]]
-        bounds = bounds_of(segments)
-        each = split(plan, segments, bounds, np.arange(len(segments)))
+        each = split(plan, bounds_of(segments), np.arange(len(segments)))
         save(self.name("segments", number), segments[np.concatenate(each)])
         assert len(each) == tiles
-        return np.cumsum([0, *map(len, each)]).tolist()
+        given: List[int] = np.cumsum([0, *map(len, each)]).tolist()
+        return given
 
-    def segments(self, tile: int, begins: List[List[int]]) -> np.ndarray:
+    def segments(self, tile: int, begins: List[List[int]]) -> NDArray[Any]:
         """The segments that a tile may meet, by their rows."""
         found = [
             load(self.name("segments", number))[begin[tile] : begin[tile + 1]]
             for number, begin in enumerate(begins)
         ]
-        return np.concatenate(found).astype(np.int64)
+        given: NDArray[Any] = np.concatenate(found).astype(np.int64)
+        return given
 
-    def points(self, tile: int) -> Tuple[np.ndarray, np.ndarray]:
+    def points(self, tile: int) -> Tuple[NDArray[Any], NDArray[Any]]:
         """The points of a tile and their numbers, read whole."""
         return np.load(self.name("points", tile)), np.load(self.name("numbers", tile))
 
@@ -234,18 +238,19 @@ class Neighbour:
         self.files, self.tile = files, tile
         self.bytes = 0
         self._boxes: Any = None
-        self._read: dict = {}
+        self._read: Dict[Any, Any] = {}
 
-    def boxes(self) -> np.ndarray:
+    def boxes(self) -> NDArray[Any]:
         """The bounds of its blocks."""
         if self._boxes is None:
             self._boxes = np.load(self.files.name("boxes", self.tile)).astype(np.int64)
             self.bytes += self._boxes.nbytes // 2
             self._points = load(self.files.name("points", self.tile))
             self._numbers = load(self.files.name("numbers", self.tile))
-        return self._boxes
+        given: NDArray[Any] = self._boxes
+        return given
 
-    def block(self, number: int) -> Tuple[np.ndarray, np.ndarray]:
+    def block(self, number: int) -> Tuple[NDArray[Any], NDArray[Any]]:
         """The points of a block and their numbers. A block is read once."""
         found = self._read.get(number)
         if found is None:
@@ -255,7 +260,7 @@ class Neighbour:
             self._read[number] = found
         return found
 
-    def blocks(self, numbers: np.ndarray) -> Tuple[np.ndarray, np.ndarray]:
+    def blocks(self, numbers: NDArray[Any]) -> Tuple[NDArray[Any], NDArray[Any]]:
         """The points of a block for each number, and their numbers, as rows of one length: the last
         point of a block that is shorter stands there often."""
         each, places = np.unique(numbers, return_inverse=True)
@@ -265,7 +270,7 @@ class Neighbour:
         of_them = np.stack([of_points[rows] for (_, of_points), rows in zip(found, last)])
         return points[places], of_them[places]
 
-    def rows(self, blocks: np.ndarray) -> Tuple[np.ndarray, np.ndarray]:
+    def rows(self, blocks: NDArray[Any]) -> Tuple[NDArray[Any], NDArray[Any]]:
         """The points of some blocks, and their numbers."""
         if not len(blocks):
             return np.empty((0, 2), np.int32), np.empty(0, np.int64)

@@ -22,6 +22,7 @@ __all__ = [
     "OutOfMemoryError",
     "NoSuchStatusError",
     "NotWholeError",
+    "NotFiniteError",
     "NoLibraryError",
 ]
 
@@ -81,7 +82,7 @@ class UnequalLengthsError(TevasulimError, ValueError):
 
 
 class TooLargeError(TevasulimError, ValueError):
-    """A coordinate is below -2**29 or above 2**29."""
+    """A coordinate is out of the grid's range."""
 
     status = 7
 
@@ -141,7 +142,11 @@ class NoSuchStatusError(TevasulimError, ValueError):
 
 
 class NotWholeError(TevasulimError, ValueError):
-    """A coordinate is no whole number, or is not known to be one."""
+    """A coordinate is none of the grid's, and was not to be rounded."""
+
+
+class NotFiniteError(TevasulimError, ValueError):
+    """A coordinate is infinite or not a number."""
 
 
 class NoLibraryError(TevasulimError, ImportError):

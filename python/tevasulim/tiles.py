@@ -3,74 +3,77 @@
     from distributed import Client
     from tevasulim.tiles import triangulate_tiles
 
-    tiles = triangulate_tiles(["north.npy", "south.npy"], 100_000, Client("scheduler:8786"),
-    "/shared/hill") for name in tiles.cells:
-        triangles = numpy.load(name)        # three numbers of points a row
+    client = Client("scheduler:8786")
+    tiles = triangulate_tiles(["north.npy", "south.npy"], 100_000, client, "/shared/hill")
+    for name in tiles.cells:
+        triangles = numpy.load(name)  # three numbers of points a row
 
-The plane is cut into tiles. Each triangulates its own points, a halo and the corners of the hull of
-all points, asks the other tiles only for points in circles of its faces that reach past what it
-knows, and writes the cells that it owns: those whose least point is its own.
+The plane is cut into tiles. Each triangulates its own points with a halo of others, the corners of
+the hull of all points and the segments that may meet these. It asks the other tiles only for points
+in circles of its faces that reach past what it knows, and writes the cells that it owns: those
+whose least point is its own.
 
-It is exact by laws that the library proves (docs/SCALE.md). Let K be some of the points P. If no
-point of P that is not in K lies in the closed disk of a face of K's Delaunay triangulation, then
-all points on its circle are corners of a cell of each Delaunay triangulation of P; and if K has the
-hull of P, and this holds for each face at a point, then no cell at the point is missing. So a tile
-is done when it holds for each face at a point of its own. Of four or more points on one circle, the
-polygon that they make is cut from its least point in all tiles. """
+It is exact by laws that the library proves (docs/SCALE.md): a face of some of the points and
+segments is a face of all where no other point that is seen from inside it lies in its closed disk,
+and no other segment enters it; and where this holds for each face at a point, no face at the point
+is missing. Of four or more points on one circle, the polygon that they make is cut from its least
+point in all tiles."""
 from __future__ import annotations
 
+import json
+import operator
 import os
 import shutil
 import tempfile
-from typing import Any, Callable, List, NamedTuple, Optional, Sequence, Tuple
+from typing import Any, Dict, List, NamedTuple, Optional, Sequence
 
 import numpy as np
+from numpy.typing import NDArray
 
 from ._hull import hull_rows
+from ._runner import Runner
 from ._tile import Plan, TileReport, cells_of_tile
 from ._tile_files import TileFiles, boxes_in, plan_of, survey
 from .errors import CrossingError, TevasulimError
 
-__all__ = ["triangulate_tiles", "TiledCells", "TileReport"]
+__all__ = ["triangulate_tiles", "neighbors", "TiledCells", "TileReport"]
 
 # How many points of all are looked at before the plane is cut.
 SAMPLE = 200_000
-# How often a task that failed is run again.
-AGAIN = 3
 
 
 class TiledCells(NamedTuple):
     """The cells of each tile, as an array or the name of a .npy: int64 of shape (k, 3), the numbers
-    of the corners counterclockwise from the least point on, with rows in rising order; and what
-    each tile did."""
+    of the corners counterclockwise from the least point on; what each tile did; and the name of the
+    run's index, a JSON file that names the files of its cells, or `None` without a folder.
+
+    A number is the row of a point in all parts, so that what is known of points, as their heights,
+    is had by `heights[cells]`."""
 
     cells: List[Any]
     reports: List[TileReport]
+    index_file: Optional[str] = None
 
 
-def run(client: Any, function: Callable[..., Any], tasks: Sequence[Tuple[Any, ...]]) -> List[Any]:
-    """What a function gives for each task's words, by the workers of a client. A task that failed,
-    but by what was handed in, is run again."""
-    if client is None:
-        return [function(*words) for words in tasks]
-    # Dask would give a failed task's error once more.
-    more = {"pure": False} if hasattr(client, "scheduler") else {}
-    futures = [client.submit(function, *words, **more) for words in tasks]
-    return [
-        result_of(future, lambda words=words: client.submit(function, *words, **more))
-        for future, words in zip(futures, tasks)
-    ]
+def neighbors(cells: Sequence[Any]) -> List[NDArray[np.int64]]:
+    """The cell beyond the side opposite each corner, over the borders of tiles too: for each tile
+    an array of shape (k, 3), where a cell is its row in all tiles after each other, or -1 for none.
+    All cells are held at once.
 
-
-def result_of(future: Any, submit_again: Callable[[], Any]) -> Any:
-    for _ in range(AGAIN):
-        try:
-            return future.result()
-        except (TevasulimError, TypeError, ValueError):
-            raise
-        except Exception:  # a worker that ended, or its machine
-            future = submit_again()
-    return future.result()
+    >>> tiles = triangulate_tiles([[(0, 0), (4, 0)], [(5, 5), (0, 4)]], 2)
+    >>> [it.tolist() for it in neighbors(tiles.cells)]
+    [[[1, -1, -1], [-1, 0, -1]], []]
+    """
+    arrays = [np.load(it) if isinstance(it, str) else np.asarray(it) for it in cells]
+    rows = np.concatenate([np.empty((0, 3), np.int64), *arrays])
+    base = int(rows.max(initial=0)) + 1
+    starts, ends = np.roll(rows, -1, axis=1).ravel(), np.roll(rows, -2, axis=1).ravel()
+    there, back = starts * base + ends, ends * base + starts
+    order = np.argsort(there, kind="stable")
+    at = np.minimum(np.searchsorted(there, back, sorter=order), max(len(there) - 1, 0))
+    found = order[at] if len(there) else at
+    beyond = np.where(there[found] == back, found // 3, -1).reshape(-1, 3)
+    return np.split(beyond, np.cumsum([len(it) for it in arrays])[:-1])
 
 
 def names_of(parts: Any, files: TileFiles, kind: str) -> List[str]:
@@ -88,19 +91,19 @@ def names_of(parts: Any, files: TileFiles, kind: str) -> List[str]:
 
 
 def cut_plane(
-    names: List[str], of_segments: List[str], tile_size: int, client: Any, files: TileFiles
+    names: List[str], of_segments: List[str], tile_size: int, runner: Runner, files: TileFiles
 ) -> Plan:
     """Cuts the plane into tiles, and gathers the points of each and the segments that may meet it:
     what each tile knows of all."""
     each = max(SAMPLE // max(len(names), 1), 1)
-    found = run(client, survey, [(name, each) for name in names])
+    found = runner.run(survey, [(name, each) for name in names])
     counts = [count for count, _ in found]
     sample = np.concatenate([np.empty((0, 2), np.int32), *(some for _, some in found)])
     cuts = plan_of(sample, max(-(-sum(counts) // tile_size), 1))
     boxes = boxes_in(cuts)
     firsts = np.cumsum([0, *counts]).tolist()
     tasks = [(name, i, firsts[i], cuts, len(boxes)) for i, name in enumerate(names)]
-    begins = run(client, files.cut, tasks)
+    begins = runner.run(files.cut, tasks)
     parts = [
         [
             (i, part[tile], part[tile + 1])
@@ -109,7 +112,7 @@ def cut_plane(
         ]
         for tile in range(len(boxes))
     ]
-    gathered = run(client, files.gather, list(enumerate(parts)))
+    gathered = runner.run(files.gather, list(enumerate(parts)))
     for i in range(len(names)):
         os.remove(files.name("cut-points", i))
         os.remove(files.name("cut-numbers", i))
@@ -117,19 +120,24 @@ def cut_plane(
     numbers = np.concatenate([it.numbers for it in gathered])
     rows = hull_rows(corners)
     bounds = np.stack([it.bounds for it in gathered])
-    segments = place_segments(of_segments, names, firsts, cuts, client, files)
+    segments = place_segments(of_segments, names, firsts, cuts, runner, files)
     of_boxes = np.array([[x[0], y[0], x[1], y[1]] for x, y in boxes])
     return Plan(of_boxes, bounds, corners[rows], numbers[rows], segments)
 
 
 def place_segments(
-    parts: List[str], names: List[str], firsts: List[int], cuts: Any, client: Any, files: TileFiles
+    parts: List[str],
+    names: List[str],
+    firsts: List[int],
+    cuts: Any,
+    runner: Runner,
+    files: TileFiles,
 ) -> List[List[int]]:
     """Sorts the segments of each part by the tiles that they may meet: where each tile begins."""
     counts = [len(np.load(part, mmap_mode="r")) for part in parts]
     rows = np.cumsum([0, *counts]).tolist()
     tasks = [(part, i, rows[i], names, firsts, cuts) for i, part in enumerate(parts)]
-    return run(client, files.place, tasks)
+    return runner.run(files.place, tasks)
 
 
 def stop_where_crossed(reports: List[TileReport]) -> None:
@@ -148,6 +156,8 @@ def triangulate_tiles(
     folder: Optional[str] = None,
     *,
     segments: Any = (),
+    resources: Optional[Dict[str, float]] = None,
+    progress: bool = False,
 ) -> TiledCells:
     """The constrained Delaunay triangulation of points and segments in parts, as the cells of each
     tile.
@@ -161,13 +171,20 @@ def triangulate_tiles(
     tile_size : int
         About how many points a tile has. A worker needs about 1000 bytes for each.
     client : distributed.Client or concurrent.futures.Executor, optional
-        What runs the tasks; without one, this process. A task that failed is run again.
+        What runs the tasks; without one, this process. A task that failed is run again, and a pool
+        of processes that broke is begun again.
     folder : str, optional
-        A folder that each worker reaches. Files of the tiles are made in it, and those with cells
-        are left there. Without one, a folder of this machine is used, and arrays are given.
+        A folder that each worker reaches. A folder for this run is made in it, in which the files
+        with cells are left, and an index that names them. Without one, a folder of this machine is
+        used, and arrays are given.
     segments : list of array_like or str
         Parts, each an array of shape (m, 2) or the name of such a .npy: pairs of numbers of points,
         which are joined by constraints. They may overlap and meet at points, and may not cross.
+    resources : dict, optional
+        What a task needs of the resources that the workers of a Dask cluster were started with, as
+        `{"memory": 2e8}`, so that not too many run at once.
+    progress : bool, optional
+        Whether Dask shows its own progress bar.
 
     Returns
     -------
@@ -190,22 +207,44 @@ def triangulate_tiles(
     >>> [cells.tolist() for cells in tiles.cells]
     [[[0, 1, 3], [3, 1, 2]], []]
     """
+    tile_size = operator.index(tile_size)
     if tile_size < 1:
         raise ValueError(f"a tile is to have at least one point, not {tile_size}")
     room = tempfile.mkdtemp(prefix="tiles-", dir=folder)
+    runner = Runner(client, resources, progress)
     try:
         files = TileFiles(room)
         given = names_of(points, files, "given"), names_of(segments, files, "given-segments")
-        plan = cut_plane(*given, tile_size, client, files)
+        plan = cut_plane(*given, tile_size, runner, files)
         tiles = range(len(plan.boxes))
-        reports = run(client, cells_of_tile, [(files, tile, plan) for tile in tiles])
+        reports = runner.run(cells_of_tile, [(files, tile, plan) for tile in tiles])
         stop_where_crossed(reports)
         names = [files.name("cells", tile) for tile in tiles]
         if folder is None:
             return TiledCells([np.load(name) for name in names], reports)
-        kept = [os.path.join(folder, os.path.basename(name)) for name in names]
-        for name, place in zip(names, kept):
-            os.replace(name, place)
-        return TiledCells(kept, reports)
-    finally:
+        index = write_index(files, names, reports)
+    except BaseException:
         shutil.rmtree(room, ignore_errors=True)
+        raise
+    finally:
+        runner.close()
+        if folder is None:
+            shutil.rmtree(room, ignore_errors=True)
+    return TiledCells(names, reports, index)
+
+
+def write_index(files: TileFiles, names: List[str], reports: List[TileReport]) -> str:
+    """Removes all files of a run but its cells, and writes the run's index beside these."""
+    kept = {os.path.basename(name) for name in names}
+    for name in set(os.listdir(files.folder)) - kept:
+        os.remove(os.path.join(files.folder, name))
+    tiles = [
+        {"cells": os.path.basename(name), **it._asdict()} for name, it in zip(names, reports)
+    ]
+    for tile in tiles:
+        del tile["crossing"]
+    index = os.path.join(files.folder, "index.json")
+    with open(f"{index}.part", "w", encoding="utf-8") as file:
+        json.dump({"version": 1, "tiles": tiles}, file, indent=1)
+    os.replace(f"{index}.part", index)
+    return index

@@ -1,0 +1,418 @@
+"""A triangulation that the library keeps, of points by number, and edits that are whole.
+
+An edit notes itself before the library is called, and takes the note away as its last step. A call
+that finds a note was preceded by an edit that an exception broke off, at any place: a signal, a
+refusal of memory, an error of the library. It reads from the library what is there. An insertion
+that was broken off is taken back; each other edit is one call of the library, which was made or
+was not. So a triangulation is always as it was before an edit or as it is after it.
+
+The library keeps the number of each vertex's point, plus one: 0 is what an insertion gives."""
+from __future__ import annotations
+
+import operator
+import os
+import threading
+import weakref
+from ctypes import byref, c_size_t, c_uint32
+from typing import Any, Callable, Dict, List, NamedTuple, Optional, Tuple, Type, TypeVar, Union
+
+import numpy as np
+from numpy.typing import NDArray
+
+from . import _library as library
+from ._grid import WHOLE, Grid, chosen
+from ._order import near_order, rounds
+from .errors import (
+    IsConstrainedError,
+    NoSuchVertexError,
+    OutOfIndexesError,
+    TevasulimError,
+)
+
+Ints = NDArray[np.int32]
+T = TypeVar("T")
+# How many points can have numbers, as `int32`.
+MANY = 2**31 - 1
+
+
+class Insertion(NamedTuple):
+    """An insertion that has begun, and what was before: how many points and vertices there were,
+    their grid, and how far the points had been moved."""
+
+    size: int
+    vertices: int
+    grid: Optional[Grid]
+    rounding: float
+
+
+class Change(NamedTuple):
+    """Another edit that has begun."""
+
+    name: str
+
+
+class Kept:
+    """Points by number, as whole numbers, over what the library keeps."""
+
+    def __init__(self, is_constrained: bool) -> None:
+        self._blank(is_constrained)
+        kind = library.CONSTRAINED if is_constrained else library.PLAIN
+        library.call("open", byref(self._mesh), kind)
+
+    def _blank(self, is_constrained: bool) -> None:
+        """Begins with nothing, also not of the library."""
+        self._mesh = library.Mesh()
+        self._lock = threading.RLock()
+        self._made: Dict[str, Any] = {}
+        # The edit that has begun and not ended.
+        self._edit: Union[Insertion, Change, None] = None
+        # Whether it was made for constraints or got one, and whether the library's is for them.
+        self._is_constrained = self._has_kind = is_constrained
+        self._forget()
+
+    def _register(self) -> None:
+        """A process that forks waits for this one. One that another keeps for itself need not be
+        here: the other's lock serves for it."""
+        with CREATING:
+            ALL.add(self)
+
+    def _forget(self) -> None:
+        """Knows no point."""
+        self._made = {}
+        self._size = self._count = 0
+        # Of each point its coordinates and the first one that is equal; of that one the vertex.
+        self._points = np.empty((0, 2), np.int32)
+        self._firsts = np.empty(0, np.int32)
+        self._vertices = np.empty(0, np.int32)
+        # Of each vertex the number of its point.
+        self._numbers = np.empty(0, np.int32)
+        self._grid: Optional[Grid] = None
+        self._rounding = 0.0
+
+    def __del__(self) -> None:
+        # Python may be ending, and the module gone.
+        if getattr(self, "_mesh", None) is not None and library is not None:
+            library.LIBRARY.tevasulim_close(byref(self._mesh))
+
+    def close(self) -> None:
+        """Gives the memory back. Each later call but this raises `ClosedError`.
+
+        >>> import tevasulim
+        >>> tri = tevasulim.Triangulation()
+        >>> tri.close()
+        >>> tri.insert((1, 2))
+        Traceback (most recent call last):
+        ...
+        tevasulim.errors.ClosedError: the triangulation is closed
+        """
+        with self._lock:
+            library.LIBRARY.tevasulim_close(byref(self._mesh))
+            self._forget()
+
+    def clear(self) -> None:
+        """Removes each point and constraint. Numbers begin with 0 again, and the next points choose
+        a grid."""
+        with self._lock:
+            self._ready()
+            self._edit = Change("clear")
+            self._call("clear")
+            self._forget()
+            self._edit = None
+
+    def _ready(self) -> None:
+        """Each method begins with this: a closed triangulation is refused, and what an exception
+        broke off is brought in order."""
+        if not self._mesh.is_open:
+            raise library.error_of(1)
+        if self._edit is not None:
+            self._settle(self._edit)
+            self._edit = None
+
+    def _call(self, name: str, *words: Any) -> None:
+        library.call(name, byref(self._mesh), *words)
+
+    def _of_each(self, name: str, points: Ints, columns: int) -> NDArray[np.uint32]:
+        """What a call of the library gives for each of some points, of so many 32-bit columns."""
+        points = np.ascontiguousarray(points)
+        given = np.empty((max(len(points), 1), columns), np.uint32)
+        self._call(name, *library.rows(points), given.ctypes.data, len(points))
+        return given[: len(points)]
+
+    def _near(self, name: str, points: Ints, columns: int) -> NDArray[np.uint32]:
+        """The same of points which the library is handed in near order."""
+        order = near_order(points)
+        given = np.empty((len(points), columns), np.uint32)
+        given[order] = self._of_each(name, points[order], columns)
+        return given
+
+    def _list(self, name: str, columns: int, room: int) -> NDArray[np.uint32]:
+        return library.found(columns, lambda *words: self._call(name, *words), room)
+
+    def _counts(self) -> library.Counts:
+        counts = library.Counts()
+        self._call("count", byref(counts))
+        return counts
+
+    def _once(self, name: str, make: Callable[[], T]) -> T:
+        """What follows from all points, made once between edits."""
+        with self._lock:
+            self._ready()
+            if name not in self._made:
+                made = make()
+                for it in made if isinstance(made, tuple) else (made,):
+                    if isinstance(it, np.ndarray):
+                        it.flags.writeable = False
+                self._made[name] = made
+            found: T = self._made[name]
+            return found
+
+    # What an exception broke off.
+
+    def _settle(self, edit: Union[Insertion, Change]) -> None:
+        """Brings in order what an edit left. It may be broken off itself, and begun again."""
+        self._made = {}
+        if isinstance(edit, Insertion):
+            self._take_back(edit)
+        elif edit.name == "remove":
+            self._read_numbers()
+        elif edit.name == "clear":
+            if not self._counts().vertices:
+                self._forget()
+        elif not self._is_constrained:
+            self._has_kind = self._is_for_constraints()
+            self._is_constrained = self._counts().constraints > 0
+
+    def _take_back(self, edit: Insertion) -> None:
+        """Removes the vertices that an insertion made, the last one first: then no other moves.
+        Those that it met have lost their numbers in the library, and get them again."""
+        for vertex in range(self._counts().vertices - 1, edit.vertices - 1, -1):
+            self._call("remove", vertex)
+        self._size, self._count = edit.size, edit.vertices
+        self._grid, self._rounding = edit.grid, edit.rounding
+        self._set_numbers(np.arange(edit.vertices), self._numbers[: edit.vertices])
+
+    def _set_numbers(self, vertices: NDArray[Any], numbers: NDArray[Any]) -> None:
+        """Tells the library which points some vertices are."""
+        named = np.ascontiguousarray(vertices, np.uint32), numbers.astype(np.uint64) + np.uint64(1)
+        self._call("set_numbers", *library.rows(named[0]), *library.rows(named[1]))
+
+    def _read_numbers(self) -> None:
+        """Takes from the library which point each vertex is."""
+        count, length = self._counts().vertices, c_size_t()
+        numbers = np.empty(max(count, 1), np.uint64)
+        self._call("numbers", numbers.ctypes.data, count, byref(length))
+        points = numbers[:count].astype(np.int64) - 1
+        self._vertices[: self._size] = -1
+        self._vertices[points] = np.arange(count)
+        self._numbers[:count] = points
+        self._count = count
+
+    def _is_for_constraints(self) -> bool:
+        """Whether the library has a constrained triangulation: it asks such ones for no nearest
+        vertex, also of no point."""
+        try:
+            self._of_each("nearest", np.empty((0, 2), np.int32), 1)
+        except IsConstrainedError:
+            return True
+        return False
+
+    # Edits.
+
+    def _reserve(self, count: int) -> None:
+        """Makes room for so many points more."""
+        room = self._size + count
+        if room > MANY:
+            raise OutOfIndexesError(f"at most {MANY} points are numbered, not {room}")
+        for name in "_points", "_firsts", "_vertices", "_numbers":
+            old = getattr(self, name)
+            if room > len(old):
+                wide = max(room, min(2 * self._size, MANY))
+                new = np.empty((wide, *old.shape[1:]), old.dtype)
+                new[: self._size] = old[: self._size]
+                setattr(self, name, new)
+
+    def _insert(self, steps: Ints, grid: Grid, rounding: float) -> Ints:
+        """Inserts points of a grid, and gives the first number at each."""
+        self._reserve(len(steps))
+        self._edit = Insertion(self._size, self._count, self._grid, self._rounding)
+        vertices = np.empty(len(steps), np.uint32)
+        for part in rounds(steps):
+            vertices[part] = self._of_each("insert_all", steps[part], 1)[:, 0]
+        firsts = self._note(steps, vertices)
+        self._set_numbers(vertices, firsts)
+        self._grid, self._rounding = grid, max(self._rounding, rounding)
+        self._edit = None
+        return firsts
+
+    def _insert_one(self, step: Ints, grid: Grid, rounding: float) -> int:
+        """The same of one point, faster."""
+        self._reserve(1)
+        self._edit = Insertion(self._size, self._count, self._grid, self._rounding)
+        vertex, size = c_uint32(), self._size
+        self._call("insert", int(step[0]), int(step[1]), byref(vertex))
+        at = vertex.value
+        self._made = {}
+        if at == self._count:
+            self._numbers[at] = size
+            self._count = at + 1
+        first = int(self._numbers[at])
+        self._points[size], self._firsts[size], self._vertices[size] = step, first, at
+        self._call("set_numbers", byref(vertex), 1, byref(library.NUMBER(first + 1)), 1)
+        self._size = size + 1
+        self._grid, self._rounding = grid, max(self._rounding, rounding)
+        self._edit = None
+        return first
+
+    def _note(self, points: Ints, vertices: NDArray[np.uint32]) -> Ints:
+        """Notes that points were inserted, which are at these vertices. Gives the first numbers
+        there."""
+        self._made = {}
+        places = vertices.astype(np.int64)
+        numbers = np.arange(self._size, self._size + len(points))
+        is_new = places >= self._count
+        # Of several points at a new vertex the first one is written last.
+        self._numbers[places[is_new][::-1]] = numbers[is_new][::-1]
+        firsts = self._numbers[places]
+        rows = slice(self._size, self._size + len(points))
+        self._points[rows], self._firsts[rows], self._vertices[rows] = points, firsts, places
+        self._size += len(points)
+        self._count = max(self._count, int(places.max(initial=-1)) + 1)
+        return firsts
+
+    def remove(self, number: int) -> None:
+        """Removes a point and those that are equal, with the constraints that end there. Where
+        exactly two end there, and the point is strictly between their other ends, one joins these
+        then.
+
+        >>> import tevasulim
+        >>> tri = tevasulim.Triangulation([(0, 0), (4, 0), (5, 5), (0, 4)])
+        >>> tri.remove(1)
+        >>> sorted(map(sorted, tri))
+        [[0, 2, 3]]
+        """
+        with self._lock:
+            self._ready()
+            vertex = self._vertex(number)
+            self._edit = Change("remove")
+            self._made = {}
+            self._call("remove", vertex)
+            # The last vertex takes the index.
+            moved, last = self._numbers[self._count - 1], self._count - 1
+            self._vertices[self._numbers[vertex]] = -1
+            if vertex != last:
+                self._numbers[vertex] = moved
+                self._vertices[moved] = vertex
+            self._count = last
+            self._edit = None
+
+    def add_constraint(self, start: int, end: int) -> None:
+        """Makes constraints of the edges along the segment between two points. A point strictly
+        within it stays one, between two constraints. Of a point and itself it makes none.
+
+        Raises `CrossingError` where a constraint crosses the segment: `conflicts` says which.
+
+        >>> import tevasulim
+        >>> tri = tevasulim.Triangulation([(0, 0), (4, 0), (5, 5), (0, 4)])
+        >>> tri.add_constraint(0, 2)
+        >>> tri.add_constraint(1, 3)
+        Traceback (most recent call last):
+        ...
+        tevasulim.errors.CrossingError: a constraint crosses the segment
+        """
+        with self._lock:
+            self._ready()
+            words = self._vertex(start), self._vertex(end)
+            self._change("constrain", *words)
+
+    def release(self, start: int, end: int) -> None:
+        """Takes from the edge between two points that it is a constraint.
+
+        >>> import tevasulim
+        >>> tri = tevasulim.Triangulation([(0, 0), (4, 0), (5, 5), (0, 4)], segments=[(0, 2)])
+        >>> tri.release(2, 0)
+        >>> len(tri.constraints)
+        0
+        """
+        with self._lock:
+            self._ready()
+            words = self._vertex(start), self._vertex(end)
+            self._edit = Change("release")
+            self._made = {}
+            self._call("release", *words)
+            self._edit = None
+
+    def _change(self, name: str, *words: Any) -> None:
+        """An edit of constraints, after which the triangulation may have some."""
+        self._edit = Change(name)
+        self._made = {}
+        if not self._has_kind:
+            self._call("allow_constraints")
+            self._has_kind = True
+        self._call(name, *words)
+        self._is_constrained = True
+        self._edit = None
+
+    def _chain(self, vertices: NDArray[Any], closed: bool, begin: int) -> None:
+        """A chain of vertices, whose first segment has the index `begin` in an error."""
+        made, array = c_size_t(), np.ascontiguousarray(vertices, np.uint32)
+        try:
+            self._change("constrain_chain", *library.rows(array), closed, byref(made))
+        except TevasulimError as error:
+            if error.status in (11, 15):
+                assert error.status is not None
+                raise library.error_of(error.status, begin + made.value) from None
+            raise
+
+    # Numbers and vertices.
+
+    def _vertex(self, number: int) -> int:
+        """The vertex of a point."""
+        number = operator.index(number)
+        vertex = self._vertices[self._firsts[number]] if 0 <= number < self._size else -1
+        if vertex < 0:
+            raise NoSuchVertexError(f"no point has the number {number}")
+        return int(vertex)
+
+    def _vertices_of(
+        self, numbers: NDArray[np.int64], error: Type[TevasulimError]
+    ) -> NDArray[np.int64]:
+        """The vertices of points; `error` is raised for the first that is not there."""
+        is_known = (numbers >= 0) & (numbers < self._size)
+        vertices = np.full(numbers.shape, -1, np.int64)
+        vertices[is_known] = self._vertices[self._firsts[numbers[is_known]]]
+        wrong = np.argwhere(vertices < 0)
+        if len(wrong):
+            place = ", ".join(map(str, wrong[0]))
+            raise error(f"no point has the number at [{place}]", int(wrong[0][0]))
+        return vertices
+
+    def _named(self, vertices: NDArray[np.uint32]) -> Ints:
+        """The numbers of vertices, and -1 for none."""
+        if not self._count:
+            return np.full(vertices.shape, -1, np.int32)
+        is_none = vertices == library.NONE
+        numbers = self._numbers[np.where(is_none, 0, vertices)]
+        return np.where(is_none, np.int32(-1), numbers)
+
+
+# A process that forks waits until no triangulation is in an edit: so the child's are whole, and
+# none of their locks is held by a thread that the child has not.
+CREATING = threading.Lock()
+ALL: "weakref.WeakSet[Kept]" = weakref.WeakSet()
+HELD: List[Kept] = []
+
+
+def before_fork() -> None:
+    CREATING.acquire()
+    HELD.extend(ALL)
+    for it in HELD:
+        it._lock.acquire()
+
+
+def after_fork() -> None:
+    while HELD:
+        HELD.pop()._lock.release()
+    CREATING.release()
+
+
+os.register_at_fork(before=before_fork, after_in_parent=after_fork, after_in_child=after_fork)

@@ -1,0 +1,147 @@
+"""What constraints and polygons enclose, and what is seen past them."""
+from __future__ import annotations
+
+from ctypes import byref, c_uint32
+from typing import Any, Iterable, Iterator, List
+
+import numpy as np
+from numpy.typing import NDArray
+
+from . import _library as library
+from ._arrays import Floats
+from ._kept import Ints
+from ._numbers import numbers_of, single, unmasked
+from ._queries import Queries
+
+
+class Regions(Queries):
+    """Faces by what encloses them, and segments by what they cross."""
+
+    @property
+    def layers(self) -> Ints:
+        """int32 array of shape (f,): how many constraints at least are between each face and the
+        outside. So `tri.simplices[tri.layers % 2 == 1]` are the faces inside of closed chains that
+        may have holes.
+
+        >>> import tevasulim
+        >>> square = [(0, 0), (9, 0), (9, 9), (0, 9), (3, 3), (6, 3), (5, 6)]
+        >>> tri = tevasulim.Triangulation(square, [(4, 5), (5, 6), (6, 4)])
+        >>> tri.layers.sum(), len(tri)
+        (1, 8)
+        """
+
+        def make() -> Ints:
+            return self._list("face_layers", 1, 2 * self._count)[:, 0].astype(np.int32)
+
+        return self._once("layers", make)
+
+    def faces_inside(self, polygons: Any) -> NDArray[np.bool_]:
+        """bool array of shape (f,): whether the middle of each face is inside of a polygon. Where
+        the polygons' rings are constraints, no face is partly inside.
+
+        Parameters
+        ----------
+        polygons : array_like of shape (k, 2), a polygon of shapely, or a sequence of either
+            An array is a ring. Several rings count together: a point is inside where an odd number
+            of them enclose it, so that a ring in a ring is a hole.
+
+        Examples
+        --------
+        >>> import tevasulim
+        >>> tri = tevasulim.Triangulation([(0, 0), (4, 0), (4, 4), (0, 4)], [(0, 2)])
+        >>> inside = tri.faces_inside([(0, 0), (4, 0), (4, 4)])
+        >>> sorted(tri.simplices[inside][0].tolist())
+        [0, 1, 2]
+        """
+        rings = list(rings_of(polygons))
+        with self._lock:
+            middles = self.points[self.simplices].mean(1)
+        return odd_crossings(middles, rings)
+
+    def is_in_sight(self, start: Any, end: Any, free: Any = None) -> bool:
+        """Whether the segment from one point to another stays in faces that are free: it may run
+        along their sides and through their corners.
+
+        Parameters
+        ----------
+        start, end : array_like of shape (2,)
+            Points, rounded to the grid.
+        free : array_like of bool, of shape (f,), optional
+            Which faces are free; without it, all are, and only what leaves the hull is unseen.
+
+        Examples
+        --------
+        >>> import tevasulim
+        >>> tri = tevasulim.Triangulation([(0, 0), (4, 0), (4, 4), (0, 4)], [(0, 2)])
+        >>> tri.is_in_sight((1, 2), (3, 2)), tri.is_in_sight((1, 2), (3, 2), [True, False])
+        (True, False)
+        """
+        ends = np.stack([single(numbers_of(it)).astype(np.float64) for it in (start, end)])
+        with self._lock:
+            self._ready()
+            count = self._counts().faces
+            mask = np.ones(count, bool) if free is None else unmasked(free, "the face")
+            if mask.dtype != bool or mask.shape != (count,):
+                raise ValueError(f"free is to be of {count} bools, not {mask.dtype} {mask.shape}")
+            asked = self._grid_now().asked(ends)
+            if asked.is_far is not None:
+                return False
+            seen, flags = c_uint32(), np.ascontiguousarray(mask, np.uint8)
+            words = (byref(library.POINT(*it)) for it in asked.steps.tolist())
+            self._call("in_sight", *words, *library.rows(flags), byref(seen))
+            return bool(seen.value)
+
+    def conflicts(self, start: int, end: int) -> Ints:
+        """int32 array of shape (c, 2): the constraints that the segment between two points crosses,
+        in the order along it: those that `add_constraint` is refused for.
+
+        >>> import tevasulim
+        >>> tri = tevasulim.Triangulation([(0, 0), (4, 0), (4, 4), (0, 4)], [(0, 2)])
+        >>> sorted(tri.conflicts(1, 3)[0].tolist())
+        [0, 2]
+        """
+        with self._lock:
+            self._ready()
+            ends = [self._points[self._numbers[self._vertex(it)]] for it in (start, end)]
+            words = [byref(library.POINT(*it.tolist())) for it in ends]
+            ask = lambda *out: self._call("conflicts", *words, *out)  # noqa: E731
+            return self._named(library.found(2, ask))
+
+
+def rings_of(polygons: Any) -> Iterator[Floats]:
+    """The rings of polygons."""
+    if hasattr(polygons, "geom_type"):
+        if polygons.geom_type == "Polygon":
+            if not polygons.is_empty:
+                yield np.asarray(polygons.exterior.coords, np.float64)[:, :2]
+                for it in polygons.interiors:
+                    yield np.asarray(it.coords, np.float64)[:, :2]
+        elif hasattr(polygons, "geoms"):
+            for it in polygons.geoms:
+                yield from rings_of(it)
+        else:
+            raise TypeError(f"a {polygons.geom_type} encloses nothing")
+        return
+    parts: List[Any] = list(polygons)
+    if parts and not hasattr(parts[0], "geom_type") and np.ndim(parts[0]) == 1:
+        yield np.asarray(numbers_of(parts), np.float64)
+        return
+    for it in parts:
+        yield from rings_of(it)
+
+
+def odd_crossings(points: Floats, rings: Iterable[Floats]) -> NDArray[np.bool_]:
+    """Whether a ray to the right of each point crosses the rings an odd number of times."""
+    order = np.argsort(points[:, 1])
+    x, y = points[order].T
+    is_odd = np.zeros(len(points), bool)
+    for ring in rings:
+        for (x0, y0), (x1, y1) in zip(ring, np.roll(ring, -1, 0)):
+            if y0 == y1:
+                continue
+            begin, end = np.searchsorted(y, sorted((y0, y1)))
+            at = x0 + (y[begin:end] - y0) / (y1 - y0) * (x1 - x0)
+            is_odd[begin:end] ^= x[begin:end] < at
+    given = np.empty_like(is_odd)
+    given[order] = is_odd
+    return given
