@@ -108,6 +108,32 @@ class Shapes(unittest.TestCase):
             tri.insert((2, 1))
             self.assertEqual((len(before), len(tri.points)), (4, 5))
 
+    def test_no_array_can_be_written_to(self):
+        with Triangulation(SQUARE, [(0, 2)]) as tri:
+            names = "points representatives coplanar simplices neighbors constraint_sides edges hull"
+            names += " constraints convex_hull transform vertex_to_simplex min_bound max_bound layers"
+            for name in names.split():
+                array = getattr(tri, name)
+                self.assertFalse(array.flags.writeable, name)
+                with self.assertRaises(ValueError, msg=name):
+                    array[...] = 0
+            for array in tri.vertex_neighbor_vertices:
+                self.assertFalse(array.flags.writeable)
+            with self.assertRaises(ValueError):
+                tri.simplices.sort()
+
+    def test_masked_points_are_refused(self):
+        hidden = np.ma.array(SQUARE, mask=[[0, 0], [0, 0], [0, 1], [0, 0]])
+        for call in Triangulation, Triangulation(SQUARE).nearest, Triangulation().insert_all:
+            with self.assertRaisesRegex(ValueError, "2, 1. is masked"):
+                call(hidden)
+        with Triangulation(np.ma.array(SQUARE)) as tri:
+            self.assertEqual(len(tri), 2)
+            with self.assertRaisesRegex(ValueError, "masked"):
+                tri.interpolate(np.ma.array([1, 2, 3, 4], mask=[1, 0, 0, 0]), (1, 1))
+            with self.assertRaisesRegex(ValueError, "masked"):
+                tri.add_chain(np.ma.array([0, 1], mask=[0, 1]))
+
 
 class Types(unittest.TestCase):
     def test_whole_numbers(self):
@@ -123,7 +149,6 @@ class Types(unittest.TestCase):
 
     def test_huge_values(self):
         for x in (
-            MOST + 1,
             2**31,
             2**32,
             2**32 + 1,
@@ -143,18 +168,42 @@ class Types(unittest.TestCase):
                 Triangulation(np.array([(0, 0), (x, 1)], kind))
             self.assertEqual(caught.exception.index, 1)
         with Triangulation(SQUARE) as tri:
-            for call in tri.insert, tri.nearest, tri.locate, tri.find_simplex:
+            for point in (0, MOST + 1), (0.0, -1e300), (2**70, 0):
                 with self.assertRaises(TooLargeError):
-                    call((0, MOST + 1))
+                    tri.insert(point)
             with self.assertRaises(TooLargeError):
                 tri.insert_all([(9, 9), (0, -MOST - 1)])
-            with self.assertRaises(TooLargeError):
-                tri.line((0, 0), (MOST + 1, 0))
-            with self.assertRaises(TooLargeError):
-                tri.in_circle((0, MOST + 1), 9)
-            with self.assertRaises(TooLargeError):
-                tri.in_rectangle((0, 0), (MOST + 1, 0))
             self.assertEqual((tri.num_vertices, len(tri.points)), (4, 4))
+
+    def test_whole_numbers_far_off(self):
+        """They are never rounded: the origin moves."""
+        for far in 2**40, -(2**52), MOST + 1:
+            with Triangulation(np.array(SQUARE) + far) as tri:
+                self.assertEqual(tri.points.tolist(), (np.array(SQUARE) + far).tolist())
+                self.assertTrue(tri.is_exact and tri.scale == 1)
+                self.assertEqual(tri.nearest((far + 4, far - 1)), 1)
+                self.assertEqual(tri.insert((far + 2, far + 1)), 4)
+
+    def test_what_is_asked_out_of_range_is_outside(self):
+        for square in SQUARE, np.array(SQUARE) + 0.5:
+            with Triangulation(square) as tri:
+                for far in 2.0**40, 1e300, MOST + 1, np.inf:
+                    self.assertEqual(tri.find_simplex([(0, far), (-far, 1)]).tolist(), [-1, -1])
+                    self.assertEqual(tri.locate((far, far)).kind, 3)
+                    self.assertTrue(np.isnan(tri.interpolate([1, 2, 3, 4], (0, far))))
+                    self.assertEqual(tri.in_circle((0, far), 9).tolist(), [])
+                    self.assertEqual(tri.in_rectangle((far, 0), (far, 9)).tolist(), [])
+                for far in 2.0**40, 1e12:
+                    self.assertEqual(tri.nearest([(far, far), (-far, -far)]).tolist(), [2, 0])
+                    self.assertEqual(tri.nearest([(far, 0), (0, far)], k=2)[:, 0].tolist(), [2, 2])
+                    self.assertEqual(len(tri.line((-far, 1), (far, 1))), len(tri.line((-9, 1), (9, 1))))
+                    self.assertEqual(tri.in_rectangle((-far, -far), (far, far)).tolist(), [0, 1, 2, 3])
+                    self.assertEqual(len(tri.edges_in_rectangle((-far, -far), (far, far))), 5)
+                    self.assertEqual(tri.in_circle((far, 0), 2 * far * far).tolist(), [0, 1, 2, 3])
+                self.assertEqual(tri.find_simplex([np.nan, 1]), -1)
+                self.assertEqual(tri.nearest([np.nan, 1]), -1)
+                self.assertEqual(tri.locate([1, np.nan]), (4, -1))
+                self.assertTrue(np.isnan(tri.interpolate([1, 2, 3, 4], (np.nan, 1), "nearest")))
 
     def test_types_that_are_refused(self):
         for points in (
@@ -192,11 +241,6 @@ class Types(unittest.TestCase):
 
 
 class Scales(unittest.TestCase):
-    def test_floats_without_a_scale(self):
-        for points in [(0.5, 1)], [(0.0, 1.0)], np.zeros((3, 2), np.float32), np.zeros((0, 2)):
-            with self.assertRaises(NotWholeError):
-                Triangulation(points)
-
     def test_decimals(self):
         for scale in 10, 100, 1000, 10**6, 7, 8, 365:
             wholes = np.random.default_rng(scale).integers(-MOST, MOST, (1000, 2))
@@ -237,9 +281,10 @@ class Scales(unittest.TestCase):
             self.assertEqual(tri.in_circle((0, 0), 2.5625).tolist(), [0, 3])
             self.assertEqual(tri.in_circle((0, 0), 2.5624).tolist(), [0])
             self.assertEqual(tri.in_circle((0, 0), 1e300).tolist(), [0, 1, 2, 3])
-            for radius_2 in 0.00001, np.nan, np.inf:
-                with self.assertRaises(NotWholeError):
-                    tri.in_circle((0, 0), radius_2)
+            self.assertEqual(tri.in_circle((0, 0), 0.00001).tolist(), [0])
+            self.assertEqual(tri.in_circle((0, 0), np.inf).tolist(), [0, 1, 2, 3])
+            with self.assertRaises(ValueError):
+                tri.in_circle((0, 0), np.nan)
         with self.assertRaises(TooLargeError):
             Triangulation([(0, 0), (2**62, 0)], scale=4)
 
@@ -255,8 +300,8 @@ class Scales(unittest.TestCase):
         with Triangulation(SQUARE) as tri:
             self.assertEqual(tri.in_circle((0, 0), np.int64(16)).tolist(), [0, 1, 3])
             self.assertEqual(tri.in_circle((0, 0), 2**200).tolist(), [0, 1, 2, 3])
-            with self.assertRaises(NotWholeError):
-                tri.in_circle((0, 0), 16.0)
+            self.assertEqual(tri.in_circle((0, 0), 16.0).tolist(), [0, 1, 3])
+            self.assertEqual(tri.in_circle((0, 0), 15.99).tolist(), [0])
             for radius_2 in "16", None, True, [16]:
                 with self.assertRaises(TypeError):
                     tri.in_circle((0, 0), radius_2)

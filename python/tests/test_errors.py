@@ -99,7 +99,17 @@ class Statuses(unittest.TestCase):
             self.assertFalse(tri.is_constrained)
             tri.add_constraint(0, 2)
             self.assertTrue(tri.is_constrained)
-            self.unchanged(tri, errors.IsConstrainedError, tri.nearest, (1, 1))
+            points = np.ones((1, 2), np.int32)
+            self.unchanged(tri, errors.IsConstrainedError, tri._of_each, "nearest", points, 1)
+
+    def test_nearest_beside_constraints(self):
+        with Triangulation(SQUARE, [(0, 2)]) as tri:
+            self.assertEqual(tri.nearest([(3, -1), (9, 9), (-1, -1)]).tolist(), [1, 2, 0])
+            tri.remove(0)
+            tri.insert((-1, 0))
+            self.assertEqual(tri.nearest([(3, -1), (9, 9), (-1, -1)]).tolist(), [1, 2, 4])
+            tri.clear()
+            self.assertEqual(tri.nearest((3, -1)), -1)
 
     def test_lists(self):
         with Triangulation(SQUARE) as tri:
@@ -188,7 +198,15 @@ class Statuses(unittest.TestCase):
 
     def test_not_whole(self):
         with Triangulation(SQUARE) as tri:
-            self.unchanged(tri, errors.NotWholeError, tri.insert, (1.0, 2))
+            self.unchanged(tri, errors.NotWholeError, tri.insert, (1.5, 2))
+            self.assertEqual(tri.insert((1.0, 2)), 4)
+
+    def test_not_finite(self):
+        for points in [(0, 0), (1, np.nan)], [(0.5, 0), (np.inf, 1)]:
+            error = self.refused(errors.NotFiniteError, Triangulation, points)
+            self.assertEqual(error.index, 1)
+        with Triangulation(SQUARE) as tri:
+            self.unchanged(tri, errors.NotFiniteError, tri.insert, (np.nan, 2))
 
     def test_no_library(self):
         for place in "/nowhere/libtevasulim.so", __file__, "/usr/lib/x86_64-linux-gnu/libc.so.6":
@@ -199,16 +217,14 @@ class Statuses(unittest.TestCase):
             )
             self.assertEqual(ran.stdout, "NoLibraryError\n", ran.stderr)
 
-    def test_pickle(self):
-        with Triangulation(SQUARE) as tri, self.assertRaises(TypeError):
-            pickle.dumps(tri)
+    def test_pickle_of_an_error(self):
         error = pickle.loads(pickle.dumps(errors.TooLargeError("far", 7)))
         self.assertEqual((type(error), str(error), error.index), (errors.TooLargeError, "far", 7))
 
 
 def run_out_of_memory():
-    """Inserts points until the library is refused memory. All before them and some of them are
-    there, with their numbers, and it goes on."""
+    """Inserts points until the library is refused memory. Nothing has changed then, and it goes
+    on."""
     import resource
 
     points = np.random.default_rng(1).integers(-(2**29), 2**29, (400_000, 2)).astype(np.int32)
@@ -221,11 +237,9 @@ def run_out_of_memory():
             tri.insert_all(points)
         except errors.OutOfMemoryError:
             resource.setrlimit(resource.RLIMIT_AS, (most, most))
-            assert 1000 < tri.num_vertices == len(tri.points) < len(points)
-            assert (tri.points[:1000] == points[:1000]).all()
-            assert tri.representatives.tolist() == list(range(len(tri.points)))
-            there = set(map(tuple, tri.points.tolist()))
-            assert len(there) == len(tri.points) and there <= set(map(tuple, points.tolist()))
+            assert tri.num_vertices == len(tri.points) == 1000
+            assert (tri.points == points[:1000]).all()
+            assert tri.representatives.tolist() == list(range(1000))
             tri.insert_all(points)
             assert tri.num_vertices == len(points)
             print("refused")

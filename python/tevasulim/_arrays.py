@@ -107,20 +107,28 @@ class Arrays(Kept):
 
     def _places(self) -> NDArray[Any]:
         """Where each vertex is, as `points` has it."""
-        given: NDArray[Any] = self.points[self._numbers[: self._count]]
-        return given
+        found: NDArray[Any] = self.points[self._numbers[: self._count]]
+        return found
 
     @property
     def min_bound(self) -> NDArray[Any]:
         """array of shape (2,): the least x and the least y of the vertices."""
-        given: NDArray[Any] = self._once("min_bound", lambda: np.min(self._places(), axis=0))
-        return given
+
+        def make() -> NDArray[Any]:
+            found: NDArray[Any] = self._places().min(0)
+            return found
+
+        return self._once("min_bound", make)
 
     @property
     def max_bound(self) -> NDArray[Any]:
         """array of shape (2,): the largest x and the largest y of the vertices."""
-        given: NDArray[Any] = self._once("max_bound", lambda: np.max(self._places(), axis=0))
-        return given
+
+        def make() -> NDArray[Any]:
+            found: NDArray[Any] = self._places().max(0)
+            return found
+
+        return self._once("max_bound", make)
 
     # Faces.
 

@@ -20,6 +20,8 @@ SURE = 2.0**52
 DIGITS = 15
 # How many times as wide as the points a grid is, so that later ones beyond them find room.
 ROOM = 2.0
+# What is farther out is taken to be so far: its square is still a float.
+HUGE = 1e150
 # A sample of so many rows rules out most powers of ten.
 SAMPLE = 64
 
@@ -110,7 +112,8 @@ class Grid(NamedTuple):
             if is_far.any():
                 # What is not finite is nowhere; the rest is measured from the border.
                 clipped = np.clip(np.nan_to_num(steps), -MOST, MOST)
-                rest = np.where(is_far, scaled - self.first - clipped, rest)
+                beyond = np.clip(np.nan_to_num(scaled - self.first - clipped), -HUGE, HUGE)
+                rest = np.where(is_far, beyond, rest)
                 return Asked(clipped.astype(np.int32), rest, is_far.any(-1))
         return Asked(steps.astype(np.int32), rest if rest.any() else None, None)
 
@@ -210,21 +213,23 @@ def fits(floats: NDArray[np.float64], room: float, decimals: int) -> bool:
 def digits_of(floats: NDArray[np.float64], half: float) -> Optional[int]:
     """How many digits after the point all of some floats have as decimals, where so many are in
     range."""
-    part, decimals, most = floats[:SAMPLE], 0, float(np.abs(floats).max())
+    # What sums of decimals lose, but no more than a power of two would round.
+    lost = min(float(np.abs(floats).max()) * 2.0**-50, half * 2.0**-31)
+    part, decimals = floats[:SAMPLE], 0
     while fits(floats, half, decimals) and decimals <= DIGITS:
-        if are_decimals(part, decimals, most):
-            if part is floats or are_decimals(floats, decimals, most):
+        if are_decimals(part, decimals, lost):
+            if part is floats or are_decimals(floats, decimals, lost):
                 return decimals
             part = floats
         decimals += 1
     return None
 
 
-def are_decimals(floats: NDArray[np.float64], decimals: int, most: float) -> bool:
-    """Whether floats are decimals of so many digits, but for what sums of such lose."""
+def are_decimals(floats: NDArray[np.float64], decimals: int, lost: float) -> bool:
+    """Whether floats are decimals of so many digits, but for what is lost."""
     factor = 10.0**decimals
     off = np.rint(floats * factor) / factor - floats
-    return bool(max(-off.min(), off.max()) <= most * 2.0**-50)
+    return bool(max(-off.min(), off.max()) <= lost)
 
 
 def grid_of_wholes(array: NDArray[Any], bounds: Optional[NDArray[np.float64]]) -> Grid:

@@ -86,6 +86,11 @@ def numbers_of(points: Any) -> NDArray[Any]:
     if array.dtype == object and all(type(it) is int for it in array.flat):
         return array
     if array.dtype.kind == "f":
+        if not isinstance(points, np.ndarray) and np.abs(array).max(initial=0) >= 2.0**63:
+            # numpy makes floats of some whole numbers that are as large.
+            objects = np.asarray(points, object)
+            if all(type(it) is int for it in objects.flat):
+                return objects
         return array if array.dtype == np.longdouble else array.astype(np.float64, copy=False)
     if array.dtype.kind not in "iu":
         raise TypeError(f"coordinates are to be numbers, not {array.dtype}")

@@ -457,7 +457,8 @@ FEW = 8
 def circle(asked: Asked, square: float) -> library.Shape:
     """A circle of the library: the one around a point off the grid has room for the rest."""
     if asked.rest is not None and square >= 0:
-        square = (square**0.5 + float(np.hypot(*asked.rest[0]))) ** 2 * (1 + 1e-12) + 2
+        reach = min(square**0.5 + float(np.hypot(*asked.rest[0])), 2.0**31)
+        square = reach**2 * (1 + 1e-12) + 2
     radius_2 = int(max(-1, min(square, 2**62) // 1))
     return library.Shape(library.CIRCLE, library.POINT(*asked.steps[0].tolist()), radius_2=radius_2)
 
