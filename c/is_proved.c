@@ -1,6 +1,6 @@
 /* Whether the library that is linked is proved: the link says so. c/Makefile defines
- * TEVASULIM_PROVED, as it links a proved archive; c/trial_library defines TEVASULIM_TRIAL, which
- * is the text by which packages and releases know a trial build, and refuse it. */
+ * TEVASULIM_PROVED where it links the proved archive. Where it links that of a trial it defines
+ * TEVASULIM_TRIAL, the text by which packages and releases know a trial build and refuse it. */
 #include <stdint.h>
 
 uint32_t tevasulim_is_proved(void);
