@@ -1,19 +1,13 @@
-/* Whether the library that is linked is proved: the link says so. c/Makefile defines
- * TEVASULIM_PROVED where it links the proved archive. Where it links that of a trial it defines
- * TEVASULIM_TRIAL, the text by which packages and releases know a trial build and refuse it. */
+/* Whether the library that is linked is proved: c/Makefile defines TEVASULIM_IS_PROVED as 1 where it
+ * links the proved archive, and as 0 where it links that of a trial. */
 #include <stdint.h>
+
+#ifndef TEVASULIM_IS_PROVED
+#error "the build has to say whether the library is proved: -DTEVASULIM_IS_PROVED=1 or =0"
+#endif
 
 uint32_t tevasulim_is_proved(void);
 
-#if defined(TEVASULIM_TRIAL) && !defined(TEVASULIM_PROVED)
-__attribute__((used)) static const char mark[] = TEVASULIM_TRIAL;
-#define IS_PROVED 0
-#elif defined(TEVASULIM_PROVED) && !defined(TEVASULIM_TRIAL)
-#define IS_PROVED 1
-#else
-#error "define TEVASULIM_PROVED or TEVASULIM_TRIAL"
-#endif
-
 uint32_t tevasulim_is_proved(void) {
-    return IS_PROVED;
+    return TEVASULIM_IS_PROVED;
 }
