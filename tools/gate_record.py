@@ -7,6 +7,7 @@ programs that it does not name. The record lies in git's own folder, so no commi
 import hashlib
 import json
 import os
+import shutil
 import subprocess
 
 ROOT = os.path.dirname(os.path.dirname(os.path.realpath(__file__)))
@@ -37,19 +38,26 @@ def sources():
     return sorted(it for it in set(listed) if it and os.path.lexists(f"{ROOT}/{it}"))
 
 
-def sums_of_sources():
-    """The sum of each file of the repository, by its path."""
-    files = [it for it in sources() if os.path.isfile(f"{ROOT}/{it}")]
-    return {it: sum_of(f"{ROOT}/{it}") for it in files}
+def lines_of_sources():
+    """A line for each file of the repository: its sum, x where it may be run and else -, and its
+    path."""
+    for path in sources():
+        file = f"{ROOT}/{path}"
+        if os.path.isfile(file):
+            yield f"{sum_of(file)} {'x' if os.access(file, os.X_OK) else '-'} {path}\n"
 
 
 def sum_of_sources():
-    """One sum of all files of the repository, with their paths and whether they are programs."""
-    lines = []
-    for path, content in sums_of_sources().items():
-        mode = "x" if os.access(f"{ROOT}/{path}", os.X_OK) else "-"
-        lines.append(f"{content} {mode} {path}\n")
-    return hashlib.sha256("".join(lines).encode()).hexdigest()
+    """One sum of all files of the repository: that of their lines."""
+    return hashlib.sha256("".join(lines_of_sources()).encode()).hexdigest()
+
+
+def kit():
+    """The kit's name, the sum of its logic, and those of itself."""
+    said = subprocess.run(["rt", "version"], capture_output=True, text=True, check=True).stdout
+    folder = os.path.dirname(os.path.dirname(os.path.realpath(shutil.which("rt"))))
+    with open(f"{folder}/WHAT") as file:
+        return [said.strip(), *file.read().splitlines()]
 
 
 def place():
@@ -76,9 +84,8 @@ def end(begun, lines):
         return "this is no clone"
     if sum_of_sources() != begun:
         return "files have changed since the gate began"
-    kit = subprocess.run(["rt", "version"], capture_output=True, text=True, check=True).stdout
     made = {it: sum_of(f"{ROOT}/{it}") for it in MADE if os.path.exists(f"{ROOT}/{it}")}
-    record = {"sources": begun, "kit": kit.strip(), "lines": lines, "made": made}
+    record = {"sources": begun, "kit": kit(), "lines": lines, "made": made}
     with open(place(), "w") as file:
         json.dump(record, file, indent=1)
     return None
