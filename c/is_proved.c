@@ -1,5 +1,5 @@
-/* Whether the library that is linked is proved: c/Makefile defines TEVASULIM_IS_PROVED as 1 where it
- * links the proved archive, and as 0 where it links that of a trial. */
+/* Whether the library that is linked is proved: c/Makefile defines TEVASULIM_IS_PROVED as 1 where
+ * it links the proved archive, and as 0 where it links that of a trial. */
 #include <stdint.h>
 
 #ifndef TEVASULIM_IS_PROVED

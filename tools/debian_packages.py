@@ -176,7 +176,8 @@ def add_control(folder, name):
     words["size"] = sum(os.path.getsize(f"{folder}/{it}") // 1024 + 1 for it in files)
     words["multi"] = "Multi-Arch: same\n" if name.startswith("lib") else ""
     words.update({"section": section, "summary": summary, "text": text})
-    sums = subprocess.run(["md5sum", *files], cwd=folder, capture_output=True, text=True, check=True)
+    how = {"cwd": folder, "capture_output": True, "text": True, "check": True}
+    sums = subprocess.run(["md5sum", *files], **how)
     write(f"{folder}/DEBIAN/control", CONTROL.format(**words))
     write(f"{folder}/DEBIAN/md5sums", sums.stdout)
     if name == "libtevasulim0":
