@@ -42,7 +42,7 @@ PACKAGES = {
     ),
     "python3-tevasulim": (
         "python",
-        "libtevasulim0 (>= {upstream}), python3 (>= 3.8), python3-numpy",
+        "libtevasulim0 (>= {upstream}), python3 (>= 3.9), python3-numpy",
         "Delaunay triangulations of whole-number points (Python)",
         "The Python package over the library, with numpy arrays in and out.",
     ),

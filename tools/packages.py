@@ -78,14 +78,18 @@ def write_archive(out, source, epoch):
         write_tar(f"{out}/{top}.tar.gz", room, top, epoch)
 
 
+# Builds the wheel and the sources' archive as pip would, but in no environment of its own, so that
+# nothing is fetched.
 BUILD = """
-import os, sys
+import importlib, os, re, sys
+
 sys.path.insert(0, os.getcwd())
 sys.dont_write_bytecode = True
-import offline
-out = sys.argv[1]
-offline.build_wheel(out)
-offline.build_sdist(out)
+with open("pyproject.toml") as project:
+    name = re.search(r'^build-backend = "(.*)"', project.read(), re.M)[1]
+backend, out = importlib.import_module(name), sys.argv[1]
+backend.build_wheel(out)
+backend.build_sdist(out)
 """
 
 
