@@ -21,7 +21,7 @@ ROOT = os.path.dirname(os.path.dirname(os.path.realpath(__file__)))
 # Not the first one on the path: Debian's packages are for this one alone.
 PYTHON = "/usr/bin/python3"
 DOCUMENTS = ("README.md", "CHANGELOG.md", "SECURITY.md", "docs/C.md", "docs/PROGRAM.md")
-DOCUMENTS += ("python/README.md", "LICENSE", "LICENSE-APACHE", "LICENSE-MIT")
+DOCUMENTS += ("docs/PROVED.md", "python/README.md", "LICENSE", "LICENSE-APACHE", "LICENSE-MIT")
 EXAMPLES = ("c/hill.c", "c/hill.cpp")
 
 
