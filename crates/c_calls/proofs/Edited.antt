@@ -12,7 +12,7 @@ use Rattle.delaunay_edit.specs.delaunay_legalization.State.{State, points_and_co
 use Rattle.delaunay_edit.specs.Constrained.{none, constrained, constraint_edges}
 use Rattle.delaunay_edit.specs.ConstraintEdits.{AddsConstraint}
 use Rattle.delaunay_edit.specs.Edits.{RemovesVertex}
-use Rattle.spade_delaunay.specs.Views.{CanAddConstraint}
+use Rattle.delaunay_interface.specs.Views.{CanAddConstraint}
 use Rattle.c_calls.specs.declared.raw.NumberedPoint.{NumberedPoint}
 use Rattle.c_calls.specs.declared.kept.KeptPoints.{KeptPoints}
 use Rattle.c_calls.specs.declared.kept.KeptPoints.TheVariants.{Plain, Constrained}

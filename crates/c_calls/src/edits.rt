@@ -11,9 +11,11 @@ use crate::raw::{NumberedPoint, RawCounts};
 use crate::statuses::{
     CROSSING, IS_CONSTRAINED, IS_PLAIN, NO_CONSTRAINT, NO_SUCH_VERTEX, OUT_OF_MEMORY, WELL,
 };
+use delaunay_interface::Triangulation;
+use delaunay_interface::delaunay_core::math::InsertionError;
+use delaunay_interface::delaunay_core::point::Point2;
+use delaunay_interface::half_edge_mesh::FixedVertexHandle;
 use exact_predicates::ExactTests;
-use spade_delaunay::handles::FixedVertexHandle;
-use spade_delaunay::{InsertionError, Point2, Triangulation};
 use std::alloc::Global;
 
 /// A vertex as it is inserted, with the number 0.

@@ -15,12 +15,12 @@ use crate::queries::{is_in_range, point_of};
 use crate::raw::{NumberedPoint, RawMeeting, RawPoint};
 use crate::statuses::TOO_LARGE;
 use crate::told::{put, status_by_room};
+use delaunay_interface::delaunay_core::math::PlaneTests;
+use delaunay_interface::delaunay_core::point::HasPosition;
+use delaunay_interface::delaunay_legalization::ConstraintMarker;
+use delaunay_interface::half_edge_mesh::DirectedEdgeHandle;
+use delaunay_interface::{Intersection, LineIntersectionIterator, Triangulation};
 use exact_predicates::ExactTests;
-use spade_delaunay::handles::DirectedEdgeHandle;
-use spade_delaunay::{
-    ConstraintMarker, HasPosition, Intersection, LineIntersectionIterator, PlaneTests,
-    Triangulation,
-};
 
 pub const AT_VERTEX: u32 = 0;
 

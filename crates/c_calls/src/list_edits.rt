@@ -13,9 +13,11 @@ use crate::raw::{NumberedPoint, RawPoint};
 use crate::statuses::{
     IS_PLAIN, NO_SUCH_VERTEX, OUT_OF_MEMORY, TOO_SHORT, UNEQUAL_LENGTHS, WELL, status_of_list_error,
 };
+use delaunay_bulk::InsertAll;
+use delaunay_interface::Triangulation;
+use delaunay_interface::delaunay_core::point::Point2;
+use delaunay_interface::half_edge_mesh::FixedVertexHandle;
 use exact_predicates::ExactTests;
-use spade_delaunay::handles::FixedVertexHandle;
-use spade_delaunay::{InsertAll, Point2, Triangulation};
 use std::alloc::{AllocError, Global};
 
 // The vertices that are inserted at points.

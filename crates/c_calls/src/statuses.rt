@@ -3,7 +3,8 @@ ghost use Rattle.std.specs.Prelude.{◌≡◌};
 ghost use Rattle.c_calls.specs.Answers.{status_of_error};
 ghost use Rattle.c_calls.specs.Lists.{status_of_list_error};
 
-use spade_delaunay::{BulkInsertionError, InsertionError};
+use delaunay_bulk::BulkInsertionError;
+use delaunay_interface::delaunay_core::math::InsertionError;
 
 /// All went well.
 pub const WELL: u32 = 0;

@@ -8,8 +8,8 @@ ghost use Rattle.c_calls.specs.Written.{Answered, IsRawInRange};
 
 use c_calls::statuses::{CROSSING, NO_SUCH_POINT, OUT_OF_INDEXES, OUT_OF_MEMORY, TOO_LARGE, WELL};
 use c_calls::{RawFace, RawPoint, RawSegment, is_in_range, write_faces};
+use delaunay_interface::delaunay_core::point::Point2;
 use drawing_faces::{DrawingError, DrawnMesh, DrawnSegment, Kept, triangulate_drawing};
-use spade_delaunay::Point2;
 use std::alloc::{AllocError, Global};
 
 // The place of the first point that is out of range, if there is one.
