@@ -10,8 +10,8 @@ use Rattle.std.proofs.Common.{arith}
 use Rattle.std.specs.Prelude.{ℤ, Contains}
 use Rattle.std.specs.Borrow.{Bor}
 use Rattle.std.proofs.lemmas.List.Elements.{All-map, Contains-append_left, Contains-push_cases}
-use Rattle.delaunay_paths.specs.half_edge_views.declared.edge.DirectedEdgeHandle.{DirectedEdgeHandle}
-use Rattle.delaunay_paths.specs.half_edge_views.declared.vertex.VertexHandle.{VertexHandle}
+use Rattle.delaunay_paths.specs.half_edge_mesh.declared.edge.DirectedEdgeHandle.{DirectedEdgeHandle}
+use Rattle.delaunay_paths.specs.half_edge_mesh.declared.vertex.VertexHandle.{VertexHandle}
 use Rattle.delaunay_paths.specs.half_edge_mesh.Contents.{Contents}
 use Rattle.delaunay_paths.specs.half_edge_mesh.Mesh.{origin, rev}
 use Rattle.delaunay_paths.proofs.half_edge_links.Lists.Rev.{rev_within}

@@ -3,7 +3,6 @@ pub use Rattle.delaunay_paths.specs.plane_tiling as plane_tiling
 pub use Rattle.delaunay_paths.specs.plane_delaunay as plane_delaunay
 pub use Rattle.delaunay_paths.specs.plane_segments as plane_segments
 pub use Rattle.delaunay_paths.specs.half_edge_links as half_edge_links
-pub use Rattle.delaunay_paths.specs.half_edge_views as half_edge_views
 pub use Rattle.delaunay_paths.specs.half_edge_mesh as half_edge_mesh
 pub use Rattle.delaunay_paths.specs.delaunay_core as delaunay_core
 pub use Rattle.delaunay_paths.specs.mesh_embedding as mesh_embedding

@@ -3,7 +3,6 @@ pub use Rattle.mesh_embedding.specs.plane_tiling as plane_tiling
 pub use Rattle.mesh_embedding.specs.plane_edits as plane_edits
 pub use Rattle.mesh_embedding.specs.half_edge_links as half_edge_links
 pub use Rattle.mesh_embedding.specs.half_edge_dcel as half_edge_dcel
-pub use Rattle.mesh_embedding.specs.half_edge_views as half_edge_views
 pub use Rattle.mesh_embedding.specs.half_edge_mesh as half_edge_mesh
 pub use Rattle.delaunay_core.specs as delaunay_core
 pub use Rattle.mesh_embedding.specs as mesh_embedding

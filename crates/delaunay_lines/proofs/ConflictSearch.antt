@@ -8,7 +8,7 @@ use Rattle.std.specs.Borrow.{Bor}
 use Rattle.std.proofs.lemmas.List.Elements.{Contains-push_cases}
 use Rattle.delaunay_location.specs.half_edge_mesh.Mesh.{origin, rev}
 use Rattle.delaunay_location.specs.half_edge_mesh.Contents.{Contents}
-use Rattle.delaunay_location.specs.half_edge_views.declared.edge.DirectedEdgeHandle.{DirectedEdgeHandle}
+use Rattle.delaunay_location.specs.half_edge_mesh.declared.edge.DirectedEdgeHandle.{DirectedEdgeHandle}
 use Rattle.delaunay_location.specs.plane.Fraction.{Point}
 use Rattle.delaunay_location.specs.plane.Pairs.{EachPairOnce}
 use Rattle.delaunay_location.specs.plane.Line.{Item, at_vertex, across, along}

@@ -7,7 +7,7 @@ use Rattle.std.specs.Prelude.{ℤ, Contains}
 use Rattle.std.proofs.lemmas.List.Elements.{Contains-append_right}
 use Rattle.delaunay_location.specs.half_edge_mesh.Mesh.{Mesh, origin, rev}
 use Rattle.delaunay_location.specs.half_edge_mesh.Contents.{Contents}
-use Rattle.delaunay_location.specs.half_edge_views.declared.edge.DirectedEdgeHandle.{DirectedEdgeHandle}
+use Rattle.delaunay_location.specs.half_edge_mesh.declared.edge.DirectedEdgeHandle.{DirectedEdgeHandle}
 use Rattle.delaunay_location.specs.plane.Fraction.{Point, whole, IsSame}
 use Rattle.delaunay_location.specs.plane.Pairs.{Joins}
 use Rattle.delaunay_location.specs.plane.Tiling.{Triangulation, IsEdge}

@@ -14,7 +14,7 @@ use Rattle.delaunay_location.specs.half_edge_mesh.Mesh.{Mesh, origin, next, prev
 use Rattle.delaunay_location.proofs.half_edge_links.Lists.Rev.{rev-rev, rev_within}
 use Rattle.delaunay_location.specs.half_edge_mesh.Contents.{Contents}
 use Rattle.delaunay_location.specs.half_edge_mesh.Rounds.{GivesOuterLoop, hull_left}
-use Rattle.delaunay_location.specs.half_edge_views.declared.rounds.HullIterator.{HullIterator}
+use Rattle.delaunay_location.specs.half_edge_mesh.declared.rounds.HullIterator.{HullIterator}
 use Rattle.delaunay_location.specs.plane.Fraction.{Point, whole, IsSame, OnSegment}
 use Rattle.delaunay_location.specs.plane.Side.{side, left, right}
 use Rattle.delaunay_location.specs.plane.Circle.{gap, IsNearer}

@@ -6,8 +6,8 @@ use Rattle.std.proofs.Common.{ℕ, List, Option, Some, None, refl, sym, ap, subs
 use Rattle.std.specs.Borrow.{Bor}
 use Rattle.std.specs.Prelude.{ℤ}
 use Rattle.delaunay_location.specs.half_edge_mesh.Contents.{Contents}
-use Rattle.delaunay_location.specs.half_edge_views.declared.edge.DirectedEdgeHandle.{DirectedEdgeHandle}
-use Rattle.delaunay_location.specs.half_edge_views.declared.vertex.VertexHandle.{VertexHandle}
+use Rattle.delaunay_location.specs.half_edge_mesh.declared.edge.DirectedEdgeHandle.{DirectedEdgeHandle}
+use Rattle.delaunay_location.specs.half_edge_mesh.declared.vertex.VertexHandle.{VertexHandle}
 use Rattle.delaunay_location.specs.plane.Fraction.{Point}
 use Rattle.delaunay_location.specs.plane.Line.{Item}
 use Rattle.delaunay_location.specs.delaunay_core.Place.{place_of}

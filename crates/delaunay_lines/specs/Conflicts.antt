@@ -3,7 +3,7 @@ use Rattle.std.specs.Prelude.{◌≡◌, ◌≢◌, ◌/◌, ◌<◌, [], ◌∷
 use Rattle.std.specs.Prelude.{ℕ, List, length, ℤ, Option, Some, MatchOption, Contains}
 use Rattle.delaunay_location.specs.half_edge_mesh.Mesh.{origin, rev}
 use Rattle.delaunay_location.specs.half_edge_mesh.Contents.{Contents}
-use Rattle.delaunay_location.specs.half_edge_views.declared.edge.DirectedEdgeHandle.{DirectedEdgeHandle}
+use Rattle.delaunay_location.specs.half_edge_mesh.declared.edge.DirectedEdgeHandle.{DirectedEdgeHandle}
 use Rattle.delaunay_location.specs.plane.Crossing.{MeetsWithin}
 use Rattle.delaunay_location.specs.plane.Fraction.{Point, whole}
 use Rattle.delaunay_location.specs.plane.Line.{Item, across}

@@ -3,7 +3,7 @@ use Rattle.std.specs.Prelude.{◌<◌, Option, Some, None, length}
 use Rattle.std.specs.Borrow.{Bor}
 use Rattle.delaunay_location.specs.half_edge_mesh.Mesh.{Mesh, origin, rev}
 use Rattle.delaunay_location.specs.half_edge_mesh.Contents.{Contents}
-use Rattle.delaunay_location.specs.half_edge_views.declared.edge.DirectedEdgeHandle.{DirectedEdgeHandle}
+use Rattle.delaunay_location.specs.half_edge_mesh.declared.edge.DirectedEdgeHandle.{DirectedEdgeHandle}
 use Rattle.delaunay_location.specs.plane.Line.{Item, at_vertex, across, along}
 use Rattle.delaunay_lines.specs.declared.intersection.Intersection.{Intersection}
 use Rattle.delaunay_lines.specs.declared.intersection.Intersection.TheVariants.{EdgeIntersection}

@@ -4,7 +4,7 @@ use Rattle.std.proofs.Common.{◌≡◌, ◌⊎◌, ◌↔◌, ◌<◌}
 use Rattle.std.proofs.Common.{ℕ, Bool, true, false, IsTrue, List, length, map, Option, Some, None}
 use Rattle.std.proofs.Common.{is_some, refl, subst, inl, inr}
 use Rattle.std.specs.Prelude.{ℤ, not}
-use Rattle.delaunay_lines.specs.half_edge_views.declared.edge.DirectedEdgeHandle.{DirectedEdgeHandle}
+use Rattle.delaunay_lines.specs.half_edge_mesh.declared.edge.DirectedEdgeHandle.{DirectedEdgeHandle}
 use Rattle.delaunay_lines.specs.half_edge_mesh.Contents.{Contents}
 use Rattle.delaunay_lines.specs.plane.Crossing.{Cross, MeetsWithin}
 use Rattle.delaunay_lines.specs.plane.Fraction.{Point, Fraction, whole, IsSame, WithinSegment}

@@ -35,7 +35,7 @@ use Rattle.delaunay_lines.proofs.mesh_embedding.WorkLists.{contains_before, cont
 use Rattle.delaunay_lines.proofs.mesh_embedding.WorkLists.{contains_map_from, once_after}
 use Rattle.delaunay_lines.specs.delaunay_legalization.State.{State, state_of}
 use Rattle.delaunay_lines.proofs.delaunay_legalization_lemmas.Legalizing.{half_within}
-use Rattle.delaunay_lines.specs.half_edge_views.declared.edge.DirectedEdgeHandle.{DirectedEdgeHandle}
+use Rattle.delaunay_lines.specs.half_edge_mesh.declared.edge.DirectedEdgeHandle.{DirectedEdgeHandle}
 use Rattle.delaunay_lines.specs.declared.intersection.Intersection.{Intersection}
 use Rattle.delaunay_lines.specs.declared.intersection.Intersection.TheVariants.{EdgeIntersection}
 use Rattle.delaunay_lines.specs.declared.iterator.LineIntersectionIterator.{LineIntersectionIterator}

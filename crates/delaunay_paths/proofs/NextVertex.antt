@@ -27,7 +27,7 @@ use Rattle.delaunay_lines.proofs.plane_segments.Constraints.Pieces.{on_parts}
 use Rattle.delaunay_lines.specs.mesh_embedding.Drawn.{drawn, faces_of, outer_of}
 use Rattle.delaunay_lines.specs.delaunay_legalization.Known.{point_at}
 use Rattle.delaunay_lines.specs.delaunay_legalization.State.{state_of}
-use Rattle.delaunay_lines.specs.half_edge_views.declared.vertex.VertexHandle.{VertexHandle}
+use Rattle.delaunay_lines.specs.half_edge_mesh.declared.vertex.VertexHandle.{VertexHandle}
 use Rattle.delaunay_lines.specs.declared.intersection.Intersection.{Intersection}
 use Rattle.delaunay_lines.specs.declared.intersection.Intersection.TheVariants.{VertexIntersection}
 use Rattle.delaunay_lines.specs.declared.iterator.LineIntersectionIterator.{LineIntersectionIterator}

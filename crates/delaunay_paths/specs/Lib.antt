@@ -5,7 +5,6 @@ pub use Rattle.delaunay_lines.specs.plane_delaunay as plane_delaunay
 pub use Rattle.delaunay_lines.specs.plane_segments as plane_segments
 pub use Rattle.delaunay_lines.specs.half_edge_links as half_edge_links
 pub use Rattle.delaunay_lines.specs.half_edge_dcel as half_edge_dcel
-pub use Rattle.delaunay_lines.specs.half_edge_views as half_edge_views
 pub use Rattle.delaunay_lines.specs.half_edge_mesh as half_edge_mesh
 pub use Rattle.delaunay_lines.specs.delaunay_core as delaunay_core
 pub use Rattle.delaunay_lines.specs.mesh_embedding as mesh_embedding

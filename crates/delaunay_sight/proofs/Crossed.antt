@@ -6,7 +6,7 @@ use Rattle.std.proofs.Common.{true, false, refl, sym, ap, subst, inl, inr}
 use Rattle.delaunay_lines.specs.half_edge_mesh.Mesh.{Mesh, origin, rev}
 use Rattle.delaunay_lines.specs.half_edge_mesh.Contents.{Contents}
 use Rattle.delaunay_lines.proofs.half_edge_links.Lists.Rev.{rev-rev}
-use Rattle.delaunay_lines.specs.half_edge_views.declared.edge.DirectedEdgeHandle.{DirectedEdgeHandle}
+use Rattle.delaunay_lines.specs.half_edge_mesh.declared.edge.DirectedEdgeHandle.{DirectedEdgeHandle}
 use Rattle.delaunay_lines.specs.plane.Fraction.{Point, Fraction, whole}
 use Rattle.delaunay_lines.specs.plane.Side.{side, on, opposite}
 use Rattle.delaunay_lines.specs.plane.Pairs.{place}
