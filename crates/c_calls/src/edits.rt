@@ -2,7 +2,7 @@
 ghost use Rattle.std.specs.Prelude.{◌≡◌, ◌↔◌, ◌<◌, [], length, IsTrue};
 ghost use Rattle.c_calls.specs.Kept.{InsertsKept, IsKeptDelaunay, CountsKept, kept_vertices};
 ghost use Rattle.c_calls.specs.Kept.{IsOfKind, kept_place};
-ghost use Rattle.c_calls.specs.Edits.{Addition, AddsKept, AllowsConstraints, Release};
+ghost use Rattle.c_calls.specs.Edits.{Addition, AddsKept, AllowsConstraints, IsSameKind, Release};
 ghost use Rattle.c_calls.specs.Edits.{ReleasesKept, Removal, RemovesKept};
 
 use crate::kept::{ConstrainedPoints, KeptPoints, PlainPoints};
@@ -209,6 +209,7 @@ impl KeptPoints {
     /// Forgets all.
     pub fn clear(&mut self)
         ensures empty { kept_vertices self.new ≡ [] }
+        ensures kind { IsSameKind self.old self.new }
         ensures headline { IsKeptDelaunay self.new }
     {
         match self {

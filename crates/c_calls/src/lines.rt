@@ -44,8 +44,8 @@ fn met_edge<M: ConstraintMarker<UE>, V, DE, UE, F>(
     }
 }
 
-// What a line meets, for C.
-fn raw_meeting<M: ConstraintMarker<UE>, V, DE, UE, F>(
+/// What a line meets, for C.
+pub fn raw_meeting<M: ConstraintMarker<UE>, V, DE, UE, F>(
     item: Intersection<'_, V, DE, UE, F>,
 ) -> RawMeeting
     ensures { IsRawMeeting M.constraints item.entry result }
@@ -88,8 +88,8 @@ fn write_meetings<M: ConstraintMarker<UE>, V: HasPosition, DE, UE, F, P: PlaneTe
     status_by_room(meetings.len(), count)
 }
 
-// Whether a segment may be asked about.
-fn may_ask_line(from: &RawPoint, to: &RawPoint) -> bool
+/// Whether a segment may be asked about.
+pub fn may_ask_line(from: &RawPoint, to: &RawPoint) -> bool
     ensures { IsTrue result ↔ MayAskLine from.now to.now }
 {
     is_in_range(from) && is_in_range(to)

@@ -60,6 +60,16 @@ pub struct RawMeeting {
     pub constrained: u32,
 }
 
+/// A closed circle or rectangle, by its kind.
+#[repr(C)]
+#[derive(Clone, Copy)]
+pub struct RawShape {
+    pub kind: u32,
+    pub first: RawPoint,
+    pub second: RawPoint,
+    pub radius_2: i64,
+}
+
 /// How many elements a triangulation has.
 #[repr(C)]
 #[derive(Clone, Copy)]

@@ -15,7 +15,7 @@ pub const CLOSED: u32 = 1;
 /// It is open, and was to be opened.
 pub const ALREADY_OPEN: u32 = 2;
 
-/// Neither plain nor constrained.
+/// No triangulation or no shape is of this kind.
 pub const NO_SUCH_KIND: u32 = 3;
 
 /// A call for constrained ones alone.
