@@ -312,12 +312,13 @@ tevasulim_status tevasulim_line(tevasulim_triangulation *self, const tevasulim_p
                                 const tevasulim_point *to, tevasulim_meeting *meetings, size_t room,
                                 size_t *length);
 
-/* Writes the constraints that the segment from one point to another crosses, which means that it
- * meets them in one point strictly within them, in the order along the segment. Each goes from
- * `from` to `to` with the segment's end on its left. These are the constraints that keep
- * `tevasulim_constrain` from joining two vertices at these points. A plain triangulation has none.
- * TEVASULIM_TOO_LARGE: a coordinate is out of range. TEVASULIM_TOO_SHORT: as much as there is room
- * for is written. */
+/* Writes the constraints that the segment from one point to another crosses, in the order along the
+ * segment. It crosses those that it meets in one point strictly within them, also where it ends
+ * there; from a point to itself it crosses none. Each goes from `from` to `to` with the segment's
+ * end on its left. Between the positions of two vertices these are the constraints for which
+ * `tevasulim_constrain` gives TEVASULIM_CROSSING. A plain triangulation has none.
+ * TEVASULIM_TOO_LARGE: a coordinate is out of range. TEVASULIM_TOO_SHORT: as many as there is room
+ * for are written. */
 tevasulim_status tevasulim_conflicts(tevasulim_triangulation *self, const tevasulim_point *from,
                                      const tevasulim_point *to, tevasulim_segment *constraints,
                                      size_t room, size_t *length);
