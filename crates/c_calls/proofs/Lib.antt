@@ -18,3 +18,6 @@ pub mod Sides
 pub mod Corners
 pub mod Found
 pub mod Walked
+pub mod Crossed
+pub mod Seen
+pub mod Copies

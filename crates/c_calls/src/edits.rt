@@ -207,6 +207,7 @@ impl KeptPoints {
     }
 
     /// Forgets all.
+    #[tactic(auto, using(crate::proofs::Edited::clearances))]
     pub fn clear(&mut self)
         ensures empty { kept_vertices self.new ≡ [] }
         ensures kind { IsSameKind self.old self.new }
