@@ -5,7 +5,7 @@ ghost use Rattle.c_calls.specs.Calls.{TellsEdges, TellsEdgesIn, TellsFaces, Tell
 ghost use Rattle.c_calls.specs.Calls.{TellsLayers, TellsLine, TellsNearest, TellsNumbers};
 ghost use Rattle.c_calls.specs.Calls.{TellsPlaces, TellsPositions, TellsVerticesIn};
 ghost use Rattle.c_calls.specs.Words.{TellsWords};
-ghost use Rattle.c_triangulate.specs.Whole.{DrawsFaces};
+ghost use Rattle.c_triangulate.specs.Whole.{Triangulates};
 
 use c_calls::{
     Handle, RawCounts, RawEdge, RawFace, RawMeeting, RawPlace, RawPoint, RawSegment, RawShape,
@@ -243,7 +243,7 @@ pub extern "C" fn tevasulim_triangulate(
     length: &mut usize,
     at: &mut usize,
 ) -> u32
-    ensures { DrawsFaces points.now segments.now result at.new length.old length.new faces.old
+    ensures { Triangulates points.now segments.now result at.new length.old length.new faces.old
         faces.new }
 {
     c_triangulate::triangulate(points, segments, faces, length, at, alloc)
