@@ -77,7 +77,7 @@ typedef enum tevasulim_status {
     TEVASULIM_CROSSING = 11,       /* a constraint crosses the segment */
     TEVASULIM_NO_CONSTRAINT = 12,  /* no constraint joins the two vertices */
     TEVASULIM_TOO_SHORT = 13,      /* a list has too little room */
-    TEVASULIM_OUT_OF_INDEXES = 14, /* six times the number of vertices would pass 2^32 - 1 */
+    TEVASULIM_OUT_OF_INDEXES = 14, /* six times the number of vertices could pass 2^32 - 1 */
     TEVASULIM_OUT_OF_MEMORY = 15,  /* memory was refused */
     TEVASULIM_NO_SUCH_STATUS = 16  /* a number that is no status was to be said in words */
 } tevasulim_status;
@@ -229,8 +229,10 @@ tevasulim_status tevasulim_insert(tevasulim_triangulation *self, int32_t x, int3
  * the place that its point has in the list. The vertices are inserted along a curve through the
  * plane, whatever their order in the list, so new ones get their indexes in the order along that
  * curve. `vertices` is written where the status is TEVASULIM_OK, and else stays as it was.
- * TEVASULIM_TOO_SHORT: room < count. TEVASULIM_TOO_LARGE: a coordinate is out of range.
- * TEVASULIM_OUT_OF_INDEXES and TEVASULIM_OUT_OF_MEMORY: some of the vertices may be inserted. */
+ * The first of these that applies decides. TEVASULIM_TOO_SHORT: room < count.
+ * TEVASULIM_TOO_LARGE: a coordinate is out of range. TEVASULIM_OUT_OF_INDEXES: six times the number
+ * of vertices that are there and `count` more passes 2^32 - 1. TEVASULIM_OUT_OF_MEMORY: some of the
+ * vertices may be inserted. */
 tevasulim_status tevasulim_insert_all(tevasulim_triangulation *self, const tevasulim_point *points,
                                       size_t count, uint32_t *vertices, size_t room);
 
@@ -351,7 +353,8 @@ tevasulim_status tevasulim_edges_in(tevasulim_triangulation *self, const tevasul
  * are, and room for 2 * count always serves. TEVASULIM_TOO_LARGE: a coordinate is out of range, and
  * `*at` is the first such point. TEVASULIM_NO_SUCH_POINT: a segment names no point, and `*at` is
  * the first such segment. TEVASULIM_CROSSING: a segment crosses one before it, and `*at` is the
- * first such segment. TEVASULIM_TOO_SHORT. TEVASULIM_OUT_OF_INDEXES. TEVASULIM_OUT_OF_MEMORY. */
+ * first such segment. TEVASULIM_TOO_SHORT. TEVASULIM_OUT_OF_INDEXES: six times `count` passes
+ * 2^32 - 1. TEVASULIM_OUT_OF_MEMORY. */
 tevasulim_status tevasulim_triangulate(const tevasulim_point *points, size_t count,
                                        const tevasulim_segment *segments, size_t segment_count,
                                        tevasulim_face *faces, size_t room, size_t *length,

@@ -37,14 +37,14 @@ pub crossed_skip : (constraints : List (ℕ × ℕ)) (m : Item)
     → ((s : RawSegment) → ¬ IsCrossed constraints m s) → (items : List Item)
     (found : List RawSegment) → AreCrossed constraints items found
     → AreCrossed constraints (items ++ m ∷ []) found
-crossed_skip constraints m no [] found none = inl (no, none)
-crossed_skip constraints m no (k ∷ items) found (inl h) =
-    inl (h.0, crossed_skip constraints m no items found h.1)
-crossed_skip constraints m no (k ∷ items) found (inr h) = inr (
+crossed_skip constraints m other [] found none = inl (other, none)
+crossed_skip constraints m other (k ∷ items) found (inl h) =
+    inl (h.0, crossed_skip constraints m other items found h.1)
+crossed_skip constraints m other (k ∷ items) found (inr h) = inr (
   h.0,
   (
     h.1.0,
-    (h.1.1.0, (h.1.1.1.0, crossed_skip constraints m no items h.1.0 h.1.1.1.1)),
+    (h.1.1.0, (h.1.1.1.0, crossed_skip constraints m other items h.1.0 h.1.1.1.1)),
   ),
 )
 
@@ -81,10 +81,10 @@ conflict_is constraints (along i j) m s met kind marked is =
 pub conflict_none : (constraints : List (ℕ × ℕ)) (k : Item) (m : RawMeeting)
     → IsMeeting constraints k m → (m.kind ≢ ACROSS_EDGE) ⊎ (m.constrained ≡ 0) → (s : RawSegment)
     → ¬ IsCrossed constraints k s
-conflict_none constraints (at_vertex i) m met no s h = h
+conflict_none constraints (at_vertex i) m met why s h = h
 conflict_none constraints (across i j) m met (inl other) s h = other met.0
 conflict_none constraints (across i j) m met (inr zero) s h = elim met.3 [
   | inl one ↦ let differ : 1 ≡ 0 = sym one.0 ∙ zero in absurd (omega (arith, differ))
   | inr free ↦ free.1 h.1
 ]
-conflict_none constraints (along i j) m met no s h = h
+conflict_none constraints (along i j) m met why s h = h

@@ -20,4 +20,3 @@ pub mod Found
 pub mod Walked
 pub mod Crossed
 pub mod Seen
-pub mod Copies

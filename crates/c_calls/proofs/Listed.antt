@@ -1,7 +1,7 @@
 -- How the insertion of a list that C asks for ended, by what the library's insertion says.
--- Lemmas: write_more, write_all, may_still, vertices_in_range, points_in_range, is_all_inserted,
--- is_stopped, listed_in_plain, listed_in_constrained.
-use Rattle.std.proofs.Common.{◌≡◌, ◌<◌, ◌≤◌, ◌+◌, ◌∙◌, [], ◌∷◌, ◌++◌, ℕ, List, length}
+-- Lemmas: write_more, write_all, vertices_in_range, points_in_range, count_same,
+-- may_insert, is_all_inserted, is_stopped, listed_in_plain, listed_in_constrained.
+use Rattle.std.proofs.Common.{◌≡◌, ◌<◌, ◌≤◌, ◌+◌, ◌*◌, ◌∙◌, [], ◌∷◌, ◌++◌, ℕ, List, length}
 use Rattle.std.proofs.Common.{take, drop, set, get_or, refl, sym, ap, subst, inl, inr, arith}
 use Rattle.std.proofs.Common.{append_assoc}
 use Rattle.std.specs.Prelude.{All}
@@ -10,6 +10,7 @@ use Rattle.std.proofs.lemmas.List.{drop_more, get_or-map, length-map, length-tak
 use Rattle.std.proofs.lemmas.List.{take_all, take_more}
 use Rattle.delaunay_edit.specs.plane.Fraction.{Point}
 use Rattle.delaunay_edit.specs.plane.Tests.{InRange}
+use Rattle.delaunay_edit.specs.half_edge_links.declared.room.TheConstants.{MAX_ELEMENTS}
 use Rattle.delaunay_edit.specs.delaunay_legalization.State.{State}
 use Rattle.delaunay_edit.specs.delaunay_legalization.declared.cdt_edge.CdtEdge.{CdtEdge}
 use Rattle.delaunay_edit.specs.Constrained.{none, constraint_edges}
@@ -46,13 +47,6 @@ write_all xs ys zs i at is = is
     ∙ ap (λ (n : ℕ). xs ++ drop n ys) at
 
 -- ---- how it ended
--- what may be inserted is so by each name of the triangulation
-pub may_still : {V D U F : Type 0} (place : V → Point) (list : List V) (before : List ℕ)
-    (old now : State V D U F) → now ≡ old → MayInsert place list before old
-    → MayInsert place list before now
-may_still place list before old now same may =
-    subst (λ (s : State _ _ _ _). MayInsert place list before s) (sym same) may
-
 -- points in range are vertices in range
 pub vertices_in_range : (points : List RawPoint) → All IsRawInRange points
     → All (λ v. InRange (kept_place v)) (unnumbered_points points)
@@ -67,6 +61,24 @@ points_in_range points all = λ i d below.
     (get_or-map (λ (p : RawPoint). unnumbered_at p.x p.y) points i d (unnumbered_at d.x d.y) below)
     (all i (unnumbered_at d.x d.y) (subst (λ (n : ℕ). i < n)
     (sym (length-map points (λ (p : RawPoint). unnumbered_at p.x p.y))) below))
+
+-- there are as many
+pub count_same : (points : List RawPoint) → length (unnumbered_points points) ≡ length points
+count_same points = length-map points (λ (p : RawPoint). unnumbered_at p.x p.y)
+
+-- points may be inserted once room was made for them, where that changed nothing
+pub may_insert : {D U F : Type 0} (points : List RawPoint) (before : List ℕ)
+    (old now : State NumberedPoint D U F) → length points ≤ length before
+    → All IsRawInRange points → now ≡ old
+    → ¬ (MAX_ELEMENTS < 6 * (length old.vertices + length points))
+    → MayInsert kept_place (unnumbered_points points) before now
+may_insert points before old now fits range same few = record {
+  room = subst (λ (n : ℕ). n ≤ length before) (sym (count_same points)) fits;
+  in_range = vertices_in_range points range;
+  few = λ more. few (subst (λ (n : ℕ). MAX_ELEMENTS < 6 * (length old.vertices + n))
+      (count_same points) (subst (λ (s : State NumberedPoint _ _ _). MAX_ELEMENTS
+      < 6 * (length s.vertices + length (unnumbered_points points))) same more));
+}
 
 module _ {V D U F : Type 0} (place : V → Point) (constraints : List U → List ℕ) (list : List V)
     (before after : List ℕ) (old new : State V D U F) (may : MayInsert place list before old) where
