@@ -5,12 +5,9 @@
 #include <stdio.h>
 
 /* Says why a call was refused. */
-static int refused(const char *what, uint32_t status)
+static int refused(const char *what, tevasulim_status status)
 {
-    uint8_t text[100];
-    size_t length;
-    tevasulim_status_text(status, text, sizeof text, &length);
-    fprintf(stderr, "%s: %s\n", what, (const char *)text);
+    fprintf(stderr, "%s: %s\n", what, tevasulim_status_string(status));
     return 1;
 }
 
@@ -26,7 +23,8 @@ static unsigned point_at(const uint32_t *vertices, size_t count, uint32_t vertex
 static int tell_nearest(const tevasulim_point *points, size_t count)
 {
     tevasulim_triangulation hill = {0};
-    uint32_t vertices[4], nearest, status;
+    uint32_t vertices[4], nearest;
+    tevasulim_status status;
     tevasulim_point camp = {70, 110};
     status = tevasulim_open(&hill, TEVASULIM_PLAIN);
     if (!status)
@@ -52,7 +50,8 @@ static void print_meetings(const tevasulim_meeting *met, size_t length, const ui
 static int tell_path(const tevasulim_point *points, size_t count)
 {
     tevasulim_triangulation hill = {0};
-    uint32_t vertices[4], status;
+    uint32_t vertices[4];
+    tevasulim_status status;
     tevasulim_point from = {-100, 20}, to = {70, 110};
     tevasulim_meeting met[16];
     size_t length = 0;

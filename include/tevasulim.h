@@ -1,35 +1,42 @@
 /* Delaunay triangulations of whole-number points.
  *
- * Proved of each call: whatever handle, length, index or number it is given, it returns and stays
- * within the lists that it is given; and what a handle has is the constrained Delaunay
- * triangulation of its points. docs/PROVED.md has what is proved beyond that, call by call.
+ * What is proved. Whatever handle, length, index or number a call is given, it returns, and it
+ * reads and writes nothing but what it is given. What a handle has is the constrained Delaunay
+ * triangulation of its points. docs/PROVED.md says call by call what is proved beyond that.
  *
- * A coordinate is from -TEVASULIM_MOST to TEVASULIM_MOST. A triangulation is plain, or
- * constrained: then edges may be constraints. Vertices, edges and faces have indexes from 0 on.
- * An edit may change the indexes of edges and faces; those of vertices stay, but for
- * `tevasulim_remove`.
+ * Coordinates are whole numbers from -TEVASULIM_MOST to TEVASULIM_MOST. A triangulation is plain,
+ * or it is constrained: then some of its edges may be constraints. Vertices, edges and faces have
+ * indexes from 0 on. An edit may change the indexes of edges and faces. The indexes of vertices
+ * stay, but for `tevasulim_remove`.
  *
- * Statuses. Each call but `tevasulim_close` and `tevasulim_version` gives one, TEVASULIM_OK
- * where all went well, and `tevasulim_status_text` says it in words. After any other the
- * triangulation is as it was, unless the call says what stays; what an out list or an out number
- * holds then is not told, but for the length that TEVASULIM_TOO_SHORT comes with; the lists of all
- * elements, `tevasulim_locate` and `tevasulim_nearest` leave theirs as it was. Where several
- * statuses apply, the call gives one of them.
+ * Statuses. Most calls give a `tevasulim_status`, which is TEVASULIM_OK where all went well.
+ * `tevasulim_status_string` says any status in words. After any status but TEVASULIM_OK the
+ * triangulation is as it was before the call, unless the call says what has changed. What the
+ * call then left in its out lists and out numbers is not told, with two exceptions: `*length` is
+ * right where the status is TEVASULIM_TOO_SHORT, and the lists of all elements,
+ * `tevasulim_locate` and `tevasulim_nearest` leave theirs as they were. Where several statuses
+ * apply, the call gives one of them. Each call that takes a triangulation gives TEVASULIM_CLOSED
+ * where that is not open, but for `tevasulim_open` and `tevasulim_close`; below this is not said
+ * again.
  *
- * Lists. A list is a pointer and the number of elements there, its room where the call writes
- * it. A call that gives as many elements as it likes writes how many there are to `*length`,
- * also where the room is too short.
+ * Lists. A list is a pointer and a number of elements: how many there are, or, where the call
+ * writes the list, how many it has room for (`room`). A call that finds as many elements as there
+ * happen to be writes their number to `*length`. Where this is more than `room`, the status is
+ * TEVASULIM_TOO_SHORT, and `*length` is the room that is needed.
  *
  * What is trusted. Nothing checks a C program, so these are its part:
- *   - a pointer is to as many elements as the call says, is never NULL (also for no elements:
- *     then it is not followed), and no list that a call writes overlaps another argument;
- *   - a tevasulim_triangulation is {0} at first, and then only calls write it. It is not copied:
- *     what a copy holds is gone once a call with the other closes it;
- *   - no two calls with one tevasulim_triangulation run at once;
- *   - malloc, realloc and free are those of one C library; no call is made by a signal handler.
+ *   - Each pointer is to as many elements as the call says. It is not NULL unless the call allows
+ *     that, also where there are no elements: then it is not followed.
+ *   - No list, number or triangulation that a call writes overlaps another argument.
+ *   - A `tevasulim_triangulation` is {0} at first, and from then on only calls write it. It is not
+ *     copied as a struct, since a call that closes one of two such copies frees what the other one
+ *     has: `tevasulim_copy` makes a copy.
+ *   - No two calls with the same `tevasulim_triangulation` run at the same time. Calls with
+ *     different ones may run in different threads at once.
+ *   - malloc, realloc and free are those of one C library, and no call is made by a signal handler.
  *
- * What stays. The calls, structs and numbers of this header stay as they are as long as the
- * first number of the version does; new ones may come, and with them new statuses. */
+ * What stays. The calls, structs and numbers of this header stay as they are as long as the first
+ * number of the version does. New ones may come, and with them new statuses. */
 #ifndef TEVASULIM_H
 #define TEVASULIM_H
 
@@ -46,44 +53,50 @@ extern "C" {
 #define TEVASULIM_NONE UINT32_MAX /* in place of an index: there is none */
 
 /* Kinds of triangulations. */
-enum { TEVASULIM_PLAIN = 0, TEVASULIM_CONSTRAINED = 1 };
+typedef enum tevasulim_kind { TEVASULIM_PLAIN = 0, TEVASULIM_CONSTRAINED = 1 } tevasulim_kind;
 
-/* Statuses. */
-enum {
-    TEVASULIM_OK = 0,
+/* Kinds of shapes. */
+typedef enum tevasulim_shape_kind {
+    TEVASULIM_CIRCLE = 0,
+    TEVASULIM_RECTANGLE = 1
+} tevasulim_shape_kind;
+
+/* How a call ended. */
+typedef enum tevasulim_status {
+    TEVASULIM_OK = 0,              /* all went well */
     TEVASULIM_CLOSED = 1,          /* the triangulation is not open */
-    TEVASULIM_ALREADY_OPEN = 2,    /* it is open, and was to be opened */
-    TEVASULIM_NO_SUCH_KIND = 3,    /* neither plain nor constrained */
-    TEVASULIM_IS_PLAIN = 4,        /* a call for constrained ones alone */
-    TEVASULIM_IS_CONSTRAINED = 5,  /* a call for plain ones alone */
-    TEVASULIM_UNEQUAL_LENGTHS = 6, /* two lists that go together have not one length */
+    TEVASULIM_ALREADY_OPEN = 2,    /* the triangulation that was to be opened is open */
+    TEVASULIM_NO_SUCH_KIND = 3,    /* no triangulation or no shape is of this kind */
+    TEVASULIM_IS_PLAIN = 4,        /* the call is for constrained triangulations alone */
+    TEVASULIM_IS_CONSTRAINED = 5,  /* the call is for plain triangulations alone */
+    TEVASULIM_UNEQUAL_LENGTHS = 6, /* two lists that go together have different lengths */
     TEVASULIM_TOO_LARGE = 7,       /* a coordinate is out of range */
     TEVASULIM_NEGATIVE = 8,        /* a squared radius is negative */
-    TEVASULIM_NO_SUCH_VERTEX = 9,  /* an index of a vertex is out of range */
-    TEVASULIM_NO_SUCH_POINT = 10,  /* a segment names no point of the list */
+    TEVASULIM_NO_SUCH_VERTEX = 9,  /* there is no vertex with this index */
+    TEVASULIM_NO_SUCH_POINT = 10,  /* a segment names a point that is not in the list */
     TEVASULIM_CROSSING = 11,       /* a constraint crosses the segment */
     TEVASULIM_NO_CONSTRAINT = 12,  /* no constraint joins the two vertices */
     TEVASULIM_TOO_SHORT = 13,      /* a list has too little room */
-    TEVASULIM_OUT_OF_INDEXES = 14, /* six times the number of vertices would pass 2^32 - 1 */
+    TEVASULIM_OUT_OF_INDEXES = 14, /* six times the number of vertices could pass 2^32 - 1 */
     TEVASULIM_OUT_OF_MEMORY = 15,  /* memory was refused */
-    TEVASULIM_NO_SUCH_STATUS = 16  /* a number that is no status */
-};
+    TEVASULIM_NO_SUCH_STATUS = 16  /* a number that is no status was to be said in words */
+} tevasulim_status;
 
 /* Where a point is. */
-enum {
+typedef enum tevasulim_place_kind {
     TEVASULIM_ON_VERTEX = 0,
     TEVASULIM_ON_EDGE = 1,
     TEVASULIM_IN_FACE = 2,
     TEVASULIM_OUTSIDE = 3, /* the edge is one of the hull that is seen from the point */
-    TEVASULIM_NOWHERE = 4  /* there are fewer than two vertices, and none is there */
-};
+    TEVASULIM_NOWHERE = 4  /* there are fewer than two vertices, and none is at the point */
+} tevasulim_place_kind;
 
 /* What a line meets. */
-enum {
+typedef enum tevasulim_meeting_kind {
     TEVASULIM_AT_VERTEX = 0,
     TEVASULIM_ACROSS_EDGE = 1,
     TEVASULIM_ALONG_EDGE = 2
-};
+} tevasulim_meeting_kind;
 
 typedef struct {
     int32_t x, y;
@@ -94,8 +107,8 @@ typedef struct {
     uint32_t from, to;
 } tevasulim_segment;
 
-/* A face: its corners, counterclockwise; the face opposite each corner, or TEVASULIM_NONE; and
- * whether the edge opposite each corner is a constraint, 1 or 0. */
+/* A face: its corners, counterclockwise; the face beyond the edge opposite each corner, or
+ * TEVASULIM_NONE; and whether the edge opposite each corner is a constraint, 1 or 0. */
 typedef struct {
     uint32_t corners[3], neighbors[3], constrained[3];
 } tevasulim_face;
@@ -105,18 +118,31 @@ typedef struct {
     uint32_t from, to, constrained;
 } tevasulim_edge;
 
-/* Where a point is, and the index of the vertex, edge or face there: TEVASULIM_NONE at NOWHERE. */
+/* Where a point is: a `tevasulim_place_kind`, and the index of the vertex, edge or face there,
+ * which is TEVASULIM_NONE at TEVASULIM_NOWHERE. */
 typedef struct {
     uint32_t kind, index;
 } tevasulim_place;
 
-/* What a line meets: a vertex, which is both `from` and `to`, or an edge. An edge that it
- * crosses has the line's end on its left, one that it runs along has the line's direction. And
- * whether that is a constraint, 1 or 0. */
+/* What a line meets: a `tevasulim_meeting_kind`, and a vertex, which is then both `from` and `to`,
+ * or an edge. An edge that the line crosses goes from `from` to `to` with the line's end on its
+ * left. An edge that the line runs along has the line's direction. `constrained` is 1 where that
+ * edge is a constraint, and else 0. */
 typedef struct {
     uint32_t kind, from, to, constrained;
 } tevasulim_meeting;
 
+/* A closed shape. Of a circle `first` is the center and `radius_2` the squared radius; `second` is
+ * not looked at. Of a rectangle `first` is the lower left corner and `second` the upper right one;
+ * `radius_2` is not looked at. A rectangle whose `second` is left of `first` or below it has no
+ * point. `tevasulim_circle` and `tevasulim_rectangle` make shapes. */
+typedef struct {
+    uint32_t kind; /* a tevasulim_shape_kind */
+    tevasulim_point first, second;
+    int64_t radius_2;
+} tevasulim_shape;
+
+/* How many elements a triangulation has. */
 typedef struct {
     uint64_t vertices, edges, faces, constraints;
 } tevasulim_counts;
@@ -127,134 +153,212 @@ typedef struct {
     bool is_open;
 } tevasulim_triangulation;
 
+/* ---- Shapes ---- */
+
+static inline tevasulim_shape tevasulim_circle(tevasulim_point center, int64_t radius_2)
+{
+    tevasulim_shape shape = {TEVASULIM_CIRCLE, {0, 0}, {0, 0}, 0};
+    shape.first = center;
+    shape.radius_2 = radius_2;
+    return shape;
+}
+
+static inline tevasulim_shape tevasulim_rectangle(tevasulim_point lower, tevasulim_point upper)
+{
+    tevasulim_shape shape = {TEVASULIM_RECTANGLE, {0, 0}, {0, 0}, 0};
+    shape.first = lower;
+    shape.second = upper;
+    return shape;
+}
+
 /* ---- The library ---- */
 
 /* The version of the library that is linked: TEVASULIM_VERSION where it is that of this header. */
 uint32_t tevasulim_version(void);
 
-/* A status in words, with a final 0 byte. `*length` is that of the words without it, so there is
- * room for them where room > *length. 100 bytes serve for each. */
-uint32_t tevasulim_status_text(uint32_t status, uint8_t *text, size_t room, size_t *length);
+/* 1 where the library that is linked was proved as it was built, and 0 in a trial build, of which
+ * nothing is proved. */
+uint32_t tevasulim_is_proved(void);
+
+/* A status in words, which stay where they are and are not to be freed. Of a number that is no
+ * status the words say so. */
+const char *tevasulim_status_string(uint32_t status);
+
+/* Copies the words of a status to `text`, with a final 0 byte. `*length` is the length of the words
+ * without that byte, so there is room for them where room > *length. 100 bytes serve for each.
+ * TEVASULIM_TOO_SHORT: there is no room, and nothing is written. TEVASULIM_NO_SUCH_STATUS: the
+ * number is no status, and the words say so. */
+tevasulim_status tevasulim_status_text(uint32_t status, uint8_t *text, size_t room,
+                                       size_t *length);
 
 /* ---- Its life ---- */
 
-/* Makes a triangulation with no vertex, of this kind. */
-uint32_t tevasulim_open(tevasulim_triangulation *self, uint32_t kind);
+/* Opens a closed triangulation: it is of this `tevasulim_kind`, and has no vertex.
+ * TEVASULIM_ALREADY_OPEN: it is open, and stays as it is. TEVASULIM_NO_SUCH_KIND: `kind` is no
+ * kind. TEVASULIM_OUT_OF_MEMORY. */
+tevasulim_status tevasulim_open(tevasulim_triangulation *self, uint32_t kind);
 
-/* Ends a triangulation, and gives its memory back. Of a closed one it changes nothing. */
+/* Closes a triangulation, and gives its memory back. Of a closed one, and of NULL, it changes
+ * nothing. */
 void tevasulim_close(tevasulim_triangulation *self);
 
-/* Makes a constrained triangulation of a plain one, with no constraint. Indexes and numbers
- * stay. */
-uint32_t tevasulim_allow_constraints(tevasulim_triangulation *self);
+/* Opens the closed triangulation `copy` as a copy of `self`: it is of the same kind, and has the
+ * same vertices, edges, faces and constraints with the same indexes, and the same numbers. From
+ * then on each of the two is edited by itself. TEVASULIM_ALREADY_OPEN: `copy` is open, and stays
+ * as it is. TEVASULIM_OUT_OF_MEMORY: `copy` stays closed. */
+tevasulim_status tevasulim_copy(tevasulim_triangulation *self, tevasulim_triangulation *copy);
+
+/* Makes a constrained triangulation of a plain one. It has no constraint yet. The indexes of
+ * vertices, edges and faces and the numbers stay. TEVASULIM_IS_CONSTRAINED: it is constrained
+ * already. TEVASULIM_OUT_OF_MEMORY. */
+tevasulim_status tevasulim_allow_constraints(tevasulim_triangulation *self);
 
 /* Forgets each vertex, edge and face. The kind stays. */
-uint32_t tevasulim_clear(tevasulim_triangulation *self);
+tevasulim_status tevasulim_clear(tevasulim_triangulation *self);
 
 /* ---- Edits ---- */
 
-/* Inserts a vertex with the number 0, and gives its index: that of the vertex at the point, if
- * there is one, which keeps its index and constraints; else that of the new last vertex. */
-uint32_t tevasulim_insert(tevasulim_triangulation *self, int32_t x, int32_t y, uint32_t *vertex);
+/* Inserts a vertex with the number 0, and writes its index to `*vertex`. Where a vertex is at the
+ * point already, that one gets the number 0, and keeps its index and its constraints. Else the new
+ * vertex has the index after the last one. TEVASULIM_TOO_LARGE: a coordinate is out of range.
+ * TEVASULIM_OUT_OF_INDEXES. TEVASULIM_OUT_OF_MEMORY. */
+tevasulim_status tevasulim_insert(tevasulim_triangulation *self, int32_t x, int32_t y,
+                                  uint32_t *vertex);
 
-/* Inserts as many vertices, each with the number 0, and gives the index of each. They are inserted
- * along a curve through the plane, whatever their order in the list, so new ones have indexes in
- * that order. At OUT_OF_INDEXES and OUT_OF_MEMORY some of them may be there; `vertices` is written
- * at OK alone. */
-uint32_t tevasulim_insert_all(tevasulim_triangulation *self, const tevasulim_point *points,
-                              size_t count, uint32_t *vertices, size_t room);
+/* Inserts `count` vertices, each with the number 0, and writes the index of each to `vertices` at
+ * the place that its point has in the list. The vertices are inserted along a curve through the
+ * plane, whatever their order in the list, so new ones get their indexes in the order along that
+ * curve. `vertices` is written where the status is TEVASULIM_OK, and else stays as it was.
+ * The first of these that applies decides. TEVASULIM_TOO_SHORT: room < count.
+ * TEVASULIM_TOO_LARGE: a coordinate is out of range. TEVASULIM_OUT_OF_INDEXES: six times the number
+ * of vertices that are there and `count` more passes 2^32 - 1. TEVASULIM_OUT_OF_MEMORY: some of the
+ * vertices may be inserted. */
+tevasulim_status tevasulim_insert_all(tevasulim_triangulation *self, const tevasulim_point *points,
+                                      size_t count, uint32_t *vertices, size_t room);
 
-/* Removes a vertex with the constraints that end at it. The last vertex takes its index. Where
- * exactly two constraints end at it, and it is strictly between their other ends, one joins
- * these then. */
-uint32_t tevasulim_remove(tevasulim_triangulation *self, uint32_t vertex);
+/* Removes a vertex and the constraints that end at it. The last vertex takes its index. Where
+ * exactly two constraints end at the vertex and it is strictly between their other ends, a
+ * constraint joins these ends afterwards. TEVASULIM_NO_SUCH_VERTEX. TEVASULIM_OUT_OF_MEMORY. */
+tevasulim_status tevasulim_remove(tevasulim_triangulation *self, uint32_t vertex);
 
-/* Makes constraints of the edges along the segment between two vertices. A vertex strictly
- * within it stays one, between two constraints. Of a vertex and itself it makes none. */
-uint32_t tevasulim_constrain(tevasulim_triangulation *self, uint32_t from, uint32_t to);
+/* Makes constraints of the edges along the segment between two vertices. A vertex that is strictly
+ * within the segment stays, between two constraints. From a vertex to itself there is nothing to
+ * join. TEVASULIM_IS_PLAIN. TEVASULIM_NO_SUCH_VERTEX. TEVASULIM_CROSSING: a constraint crosses the
+ * segment (`tevasulim_conflicts` lists all that do). TEVASULIM_OUT_OF_MEMORY. */
+tevasulim_status tevasulim_constrain(tevasulim_triangulation *self, uint32_t from, uint32_t to);
 
-/* The same from each vertex of a list to the next, and from the last to the first where it is
- * closed. `*made` is how many segments are joined. At CROSSING and OUT_OF_MEMORY those before it
- * stay. */
-uint32_t tevasulim_constrain_chain(tevasulim_triangulation *self, const uint32_t *vertices,
-                                   size_t count, bool closed, size_t *made);
+/* Joins each vertex of a list to the next one in the same way, and the last one to the first one
+ * where the chain is closed. `*made` is how many segments are joined. TEVASULIM_IS_PLAIN.
+ * TEVASULIM_NO_SUCH_VERTEX: nothing is joined. TEVASULIM_CROSSING and TEVASULIM_OUT_OF_MEMORY: the
+ * segments before the refused one stay joined. */
+tevasulim_status tevasulim_constrain_chain(tevasulim_triangulation *self, const uint32_t *vertices,
+                                           size_t count, bool closed, size_t *made);
 
-/* Takes from the edge between two vertices that it is a constraint. */
-uint32_t tevasulim_release(tevasulim_triangulation *self, uint32_t from, uint32_t to);
+/* Makes an edge that is no constraint of the constraint between two vertices. TEVASULIM_IS_PLAIN.
+ * TEVASULIM_NO_SUCH_VERTEX. TEVASULIM_NO_CONSTRAINT: no constraint joins the two.
+ * TEVASULIM_OUT_OF_MEMORY. */
+tevasulim_status tevasulim_release(tevasulim_triangulation *self, uint32_t from, uint32_t to);
 
-/* Gives numbers of the caller's to vertices: the last one where a vertex is named more than once.
- * An insertion gives its vertex the number 0. */
-uint32_t tevasulim_set_numbers(tevasulim_triangulation *self, const uint32_t *vertices,
-                               size_t count, const uint64_t *numbers, size_t number_count);
+/* Gives numbers of the caller's own to vertices: numbers[k] to vertices[k]. A vertex that is named
+ * more than once gets the last of its numbers. An insertion gives its vertex the number 0.
+ * TEVASULIM_UNEQUAL_LENGTHS: count and number_count differ. TEVASULIM_NO_SUCH_VERTEX: no vertex
+ * gets a number. */
+tevasulim_status tevasulim_set_numbers(tevasulim_triangulation *self, const uint32_t *vertices,
+                                       size_t count, const uint64_t *numbers, size_t number_count);
 
 /* ---- All of it ---- */
 
-/* How many elements there are. A triangulation that is plain has no constraints. */
-uint32_t tevasulim_count(tevasulim_triangulation *self, tevasulim_counts *counts);
+/* Writes how many elements there are. A plain triangulation has no constraints. */
+tevasulim_status tevasulim_count(tevasulim_triangulation *self, tevasulim_counts *counts);
 
-/* The position of each vertex, by index. */
-uint32_t tevasulim_positions(tevasulim_triangulation *self, tevasulim_point *points, size_t room,
-                             size_t *length);
+/* Writes the position of each vertex, by index. TEVASULIM_TOO_SHORT. */
+tevasulim_status tevasulim_positions(tevasulim_triangulation *self, tevasulim_point *points,
+                                     size_t room, size_t *length);
 
-/* The number of each vertex, by index. */
-uint32_t tevasulim_numbers(tevasulim_triangulation *self, uint64_t *numbers, size_t room,
-                           size_t *length);
+/* Writes the number of each vertex, by index. TEVASULIM_TOO_SHORT. */
+tevasulim_status tevasulim_numbers(tevasulim_triangulation *self, uint64_t *numbers, size_t room,
+                                   size_t *length);
 
-/* The edges, by index. */
-uint32_t tevasulim_edges(tevasulim_triangulation *self, tevasulim_edge *edges, size_t room,
-                         size_t *length);
+/* Writes the edges, by index. TEVASULIM_TOO_SHORT. */
+tevasulim_status tevasulim_edges(tevasulim_triangulation *self, tevasulim_edge *edges, size_t room,
+                                 size_t *length);
 
-/* The faces, by index. */
-uint32_t tevasulim_faces(tevasulim_triangulation *self, tevasulim_face *faces, size_t room,
-                         size_t *length);
+/* Writes the faces, by index. TEVASULIM_TOO_SHORT. */
+tevasulim_status tevasulim_faces(tevasulim_triangulation *self, tevasulim_face *faces, size_t room,
+                                 size_t *length);
+
+/* Writes the layer of each face, by index: how many constraints at least a way from outside the
+ * hull to the face crosses, where the way goes from face to face across edges. A face that can be
+ * reached past no constraint has layer 0, a face inside one closed chain of constraints has layer
+ * 1, and so on. TEVASULIM_TOO_SHORT. TEVASULIM_OUT_OF_MEMORY. */
+tevasulim_status tevasulim_face_layers(tevasulim_triangulation *self, uint32_t *layers, size_t room,
+                                       size_t *length);
 
 /* ---- Queries ---- */
 
-/* Where each point is. */
-uint32_t tevasulim_locate(tevasulim_triangulation *self, const tevasulim_point *points,
-                          size_t count, tevasulim_place *places, size_t room);
+/* Writes where each of `count` points is. TEVASULIM_TOO_SHORT: room < count. TEVASULIM_TOO_LARGE: a
+ * coordinate is out of range. */
+tevasulim_status tevasulim_locate(tevasulim_triangulation *self, const tevasulim_point *points,
+                                  size_t count, tevasulim_place *places, size_t room);
 
-/* A vertex that none is strictly nearer than, for each point, or TEVASULIM_NONE where there is
- * no vertex. For plain triangulations. */
-uint32_t tevasulim_nearest(tevasulim_triangulation *self, const tevasulim_point *points,
-                           size_t count, uint32_t *vertices, size_t room);
+/* Writes for each of `count` points a vertex that no other is strictly nearer to it than, or
+ * TEVASULIM_NONE where there is no vertex. TEVASULIM_TOO_SHORT: room < count. TEVASULIM_TOO_LARGE:
+ * a coordinate is out of range. TEVASULIM_IS_CONSTRAINED. */
+tevasulim_status tevasulim_nearest(tevasulim_triangulation *self, const tevasulim_point *points,
+                                   size_t count, uint32_t *vertices, size_t room);
 
-/* What the segment from one point to another meets, in the order along it. */
-uint32_t tevasulim_line(tevasulim_triangulation *self, const tevasulim_point *from,
-                        const tevasulim_point *to, tevasulim_meeting *meetings, size_t room,
-                        size_t *length);
+/* Writes what the segment from one point to another meets, in the order along it.
+ * TEVASULIM_TOO_LARGE: a coordinate is out of range. TEVASULIM_TOO_SHORT: as much as there is room
+ * for is written. */
+tevasulim_status tevasulim_line(tevasulim_triangulation *self, const tevasulim_point *from,
+                                const tevasulim_point *to, tevasulim_meeting *meetings, size_t room,
+                                size_t *length);
 
-/* The vertices at most the root of `radius_2` from a point, each once, in no promised order. */
-uint32_t tevasulim_vertices_in_circle(tevasulim_triangulation *self, const tevasulim_point *center,
-                                      int64_t radius_2, uint32_t *vertices, size_t room,
-                                      size_t *length);
+/* Writes the constraints that the segment from one point to another crosses, in the order along the
+ * segment. It crosses those that it meets in one point strictly within them, also where it ends
+ * there; from a point to itself it crosses none. Each goes from `from` to `to` with the segment's
+ * end on its left. Between the positions of two vertices these are the constraints for which
+ * `tevasulim_constrain` gives TEVASULIM_CROSSING. A plain triangulation has none.
+ * TEVASULIM_TOO_LARGE: a coordinate is out of range. TEVASULIM_TOO_SHORT: as many as there is room
+ * for are written. */
+tevasulim_status tevasulim_conflicts(tevasulim_triangulation *self, const tevasulim_point *from,
+                                     const tevasulim_point *to, tevasulim_segment *constraints,
+                                     size_t room, size_t *length);
 
-/* The edges with a point at most that far from one, each once, in no promised order. */
-uint32_t tevasulim_edges_in_circle(tevasulim_triangulation *self, const tevasulim_point *center,
-                                   int64_t radius_2, uint32_t *edges, size_t room, size_t *length);
+/* Writes to `*seen` whether each point of the segment from one point to another is in a closed face
+ * that is free, 1 or 0. Face f is free where is_free[f] is not 0. So the segment does not leave the
+ * hull and enters no face that is not free, but it may pass through the corners of such faces, and
+ * along an edge with a free face on one side. TEVASULIM_UNEQUAL_LENGTHS: `free_count` is not the
+ * number of faces. TEVASULIM_TOO_LARGE: a coordinate is out of range. */
+tevasulim_status tevasulim_in_sight(tevasulim_triangulation *self, const tevasulim_point *from,
+                                    const tevasulim_point *to, const uint8_t *is_free,
+                                    size_t free_count, uint32_t *seen);
 
-/* The vertices in a closed rectangle, each once, in no promised order: none where `upper` is
- * left of `lower` or below it. */
-uint32_t tevasulim_vertices_in_rectangle(tevasulim_triangulation *self,
-                                         const tevasulim_point *lower,
-                                         const tevasulim_point *upper, uint32_t *vertices,
-                                         size_t room, size_t *length);
+/* Writes the vertices in a closed shape, each once, in no promised order. TEVASULIM_NO_SUCH_KIND:
+ * the shape is of no kind. TEVASULIM_TOO_LARGE: a coordinate of the shape is out of range.
+ * TEVASULIM_NEGATIVE: a circle's squared radius is negative. TEVASULIM_OUT_OF_MEMORY.
+ * TEVASULIM_TOO_SHORT: as many as there is room for are written. */
+tevasulim_status tevasulim_vertices_in(tevasulim_triangulation *self, const tevasulim_shape *shape,
+                                       uint32_t *vertices, size_t room, size_t *length);
 
-/* The edges with a point in a closed rectangle, each once, in no promised order: none where
- * `upper` is left of `lower` or below it. */
-uint32_t tevasulim_edges_in_rectangle(tevasulim_triangulation *self, const tevasulim_point *lower,
-                                      const tevasulim_point *upper, uint32_t *edges, size_t room,
-                                      size_t *length);
+/* Writes the edges with at least one point in a closed shape, each once, in no promised order. The
+ * statuses are those of `tevasulim_vertices_in`. */
+tevasulim_status tevasulim_edges_in(tevasulim_triangulation *self, const tevasulim_shape *shape,
+                                    uint32_t *edges, size_t room, size_t *length);
 
 /* ---- Without a triangulation that C keeps ---- */
 
-/* The faces of the constrained triangulation of points and segments between them. Corners are
- * indexes of points: of equal points the first. `*length` is how many faces there are: room for
- * 2 * count always serves. `*at` is the first point at TOO_LARGE, and the first segment at
- * NO_SUCH_POINT and CROSSING, that is refused. */
-uint32_t tevasulim_triangulate(const tevasulim_point *points, size_t count,
-                               const tevasulim_segment *segments, size_t segment_count,
-                               tevasulim_face *faces, size_t room, size_t *length, size_t *at);
+/* Writes the faces of the constrained triangulation of points and of segments between them. Their
+ * corners are indexes of points: of equal points the first one. `*length` is how many faces there
+ * are, and room for 2 * count always serves. TEVASULIM_TOO_LARGE: a coordinate is out of range, and
+ * `*at` is the first such point. TEVASULIM_NO_SUCH_POINT: a segment names no point, and `*at` is
+ * the first such segment. TEVASULIM_CROSSING: a segment crosses one before it, and `*at` is the
+ * first such segment. TEVASULIM_TOO_SHORT. TEVASULIM_OUT_OF_INDEXES: six times `count` passes
+ * 2^32 - 1. TEVASULIM_OUT_OF_MEMORY. */
+tevasulim_status tevasulim_triangulate(const tevasulim_point *points, size_t count,
+                                       const tevasulim_segment *segments, size_t segment_count,
+                                       tevasulim_face *faces, size_t room, size_t *length,
+                                       size_t *at);
 
 #ifdef __cplusplus
 }

@@ -1,7 +1,21 @@
 // Delaunay triangulations of whole-number points for C++17, over tevasulim.h, which says what each
-// call does. A refusal is thrown as a tevasulim::Error, and the triangulation is then as it was.
+// call does and which statuses it gives.
+//
+// `Triangulation` throws a `tevasulim::Error` where a call is refused, and std::bad_alloc where
+// memory was refused; the triangulation is then as it was, unless tevasulim.h says what has
+// changed. `Handle` has the same calls, but each gives its status and writes its answer to an
+// argument: it is for programs without exceptions (-fno-exceptions), for which `Triangulation`,
+// `Error` and `triangulate` are not there. The answers are std::vectors in both; where there is no
+// memory for one of these, it throws, and without exceptions the program ends.
+//
+// No two calls of one object may run at the same time, those that are const among them, since each
+// keeps where the next search begins. Different objects may be used in different threads at once.
 #ifndef TEVASULIM_HPP
 #define TEVASULIM_HPP
+
+#if __cplusplus < 201703L
+#error "tevasulim.hpp needs C++17: compile with -std=c++17 or later"
+#endif
 
 #include "tevasulim.h"
 
@@ -9,11 +23,13 @@
 #include <cstddef>
 #include <cstdint>
 #include <initializer_list>
-#include <new>
-#include <stdexcept>
-#include <string>
 #include <utility>
 #include <vector>
+
+#ifdef __cpp_exceptions
+#include <new>
+#include <stdexcept>
+#endif
 
 namespace tevasulim {
 
@@ -24,33 +40,34 @@ using Edge = tevasulim_edge;
 using Place = tevasulim_place;
 using Meeting = tevasulim_meeting;
 using Counts = tevasulim_counts;
+using Shape = tevasulim_shape;
+using Status = tevasulim_status;
 
 inline constexpr std::uint32_t none = TEVASULIM_NONE;
 
-// A status in words.
-inline std::string text_of(std::uint32_t status) {
-    std::array<std::uint8_t, 128> text{};
-    std::size_t length = 0;
-    tevasulim_status_text(status, text.data(), text.size(), &length);
-    return std::string(text.begin(), text.begin() + length);
+enum class Kind : std::uint32_t {
+    plain = TEVASULIM_PLAIN,
+    constrained = TEVASULIM_CONSTRAINED
+};
+
+// A status in words, which stay where they are.
+inline const char *text_of(Status status) { return tevasulim_status_string(status); }
+
+// Whether the library that is linked was proved as it was built.
+inline bool is_proved() { return tevasulim_is_proved() != 0; }
+
+inline Shape circle(Point center, std::int64_t radius_2) {
+    return tevasulim_circle(center, radius_2);
 }
 
-// Why a call was refused. `at` is the point or the segment, where the call names one.
-class Error : public std::runtime_error {
-public:
-    explicit Error(std::uint32_t status, std::size_t at = 0)
-        : std::runtime_error(text_of(status)), status(status), at(at) {}
-
-    std::uint32_t status;
-    std::size_t at;
-};
+inline Shape rectangle(Point lower, Point upper) { return tevasulim_rectangle(lower, upper); }
 
 // Elements in a row that someone else owns: of a vector, an array, a list in braces, or a pointer
 // and a length.
 template <class T> class Span {
 public:
     constexpr Span() = default;
-    constexpr Span(const T *data, std::size_t size) : data_(data), size_(size) {}
+    constexpr Span(const T *first, std::size_t count) : data_(first), size_(count) {}
     template <std::size_t N> constexpr Span(const T (&all)[N]) : data_(all), size_(N) {}
     template <std::size_t N>
     constexpr Span(const std::array<T, N> &all) : data_(all.data()), size_(N) {}
@@ -75,14 +92,222 @@ private:
     std::size_t size_ = 0;
 };
 
-enum class Kind : std::uint32_t {
-    plain = TEVASULIM_PLAIN,
-    constrained = TEVASULIM_CONSTRAINED
+namespace detail {
+
+// Fills a vector by a call that says how much it gives: asked once more where the room was too
+// short.
+template <class T, class Call>
+Status fill(std::vector<T> &found, std::size_t guess, const Call &call) {
+    found.resize(guess ? guess : 1);
+    for (;;) {
+        std::size_t length = 0;
+        const Status status = call(found.data(), found.size(), &length);
+        if (status == TEVASULIM_TOO_SHORT) {
+            found.resize(length);
+            continue;
+        }
+        found.resize(status == TEVASULIM_OK ? length : 0);
+        return status;
+    }
+}
+
+// Fills a vector by a call that gives one answer a query.
+template <class T, class Call>
+Status answer(std::vector<T> &answers, std::size_t count, const Call &call) {
+    answers.resize(count + 1);
+    const Status status = call(answers.data(), answers.size());
+    answers.resize(status == TEVASULIM_OK ? count : 0);
+    return status;
+}
+
+} // namespace detail
+
+// A triangulation whose calls give their status. It is closed at first, and closes itself at its
+// end. It can be moved, and `copy_to` copies it. An answer that is a vector is empty after any
+// status but TEVASULIM_OK.
+class Handle {
+public:
+    Handle() = default;
+    ~Handle() { tevasulim_close(&handle_); }
+
+    Handle(const Handle &) = delete;
+    Handle &operator=(const Handle &) = delete;
+
+    Handle(Handle &&other) noexcept
+        : handle_(std::exchange(other.handle_, tevasulim_triangulation{})) {}
+
+    Handle &operator=(Handle &&other) noexcept {
+        if (this != &other) {
+            tevasulim_close(&handle_);
+            handle_ = std::exchange(other.handle_, tevasulim_triangulation{});
+        }
+        return *this;
+    }
+
+    // Its life.
+
+    Status open(Kind kind) { return tevasulim_open(&handle_, static_cast<std::uint32_t>(kind)); }
+
+    void close() { tevasulim_close(&handle_); }
+
+    // Opens another, closed one as a copy.
+    Status copy_to(Handle &copy) const {
+        return this == &copy ? TEVASULIM_ALREADY_OPEN : tevasulim_copy(&handle_, &copy.handle_);
+    }
+
+    Status allow_constraints() { return tevasulim_allow_constraints(&handle_); }
+
+    Status clear() { return tevasulim_clear(&handle_); }
+
+    // Edits.
+
+    Status insert(Point point, std::uint32_t &vertex) {
+        return tevasulim_insert(&handle_, point.x, point.y, &vertex);
+    }
+
+    Status insert_all(Span<Point> points, std::vector<std::uint32_t> &vertices) {
+        return detail::answer(vertices, points.size(), [&](auto... room) {
+            return tevasulim_insert_all(&handle_, points.data(), points.size(), room...);
+        });
+    }
+
+    Status remove(std::uint32_t vertex) { return tevasulim_remove(&handle_, vertex); }
+
+    Status constrain(std::uint32_t from, std::uint32_t to) {
+        return tevasulim_constrain(&handle_, from, to);
+    }
+
+    // `made` is how many segments are joined.
+    Status constrain_chain(Span<std::uint32_t> vertices, bool closed, std::size_t &made) {
+        return tevasulim_constrain_chain(&handle_, vertices.data(), vertices.size(), closed, &made);
+    }
+
+    Status release(std::uint32_t from, std::uint32_t to) {
+        return tevasulim_release(&handle_, from, to);
+    }
+
+    Status set_numbers(Span<std::uint32_t> vertices, Span<std::uint64_t> numbers) {
+        return tevasulim_set_numbers(&handle_, vertices.data(), vertices.size(), numbers.data(),
+                                     numbers.size());
+    }
+
+    // All of it.
+
+    Status count(Counts &counts) const { return tevasulim_count(&handle_, &counts); }
+
+    Status positions(std::vector<Point> &points) const {
+        return detail::fill(points, counted().vertices, [this](auto... room) {
+            return tevasulim_positions(&handle_, room...);
+        });
+    }
+
+    Status numbers(std::vector<std::uint64_t> &numbers) const {
+        return detail::fill(numbers, counted().vertices, [this](auto... room) {
+            return tevasulim_numbers(&handle_, room...);
+        });
+    }
+
+    Status edges(std::vector<Edge> &edges) const {
+        return detail::fill(edges, counted().edges, [this](auto... room) {
+            return tevasulim_edges(&handle_, room...);
+        });
+    }
+
+    Status faces(std::vector<Face> &faces) const {
+        return detail::fill(faces, counted().faces, [this](auto... room) {
+            return tevasulim_faces(&handle_, room...);
+        });
+    }
+
+    Status face_layers(std::vector<std::uint32_t> &layers) const {
+        return detail::fill(layers, counted().faces, [this](auto... room) {
+            return tevasulim_face_layers(&handle_, room...);
+        });
+    }
+
+    // Queries.
+
+    Status locate(Span<Point> points, std::vector<Place> &places) const {
+        return detail::answer(places, points.size(), [&](auto... room) {
+            return tevasulim_locate(&handle_, points.data(), points.size(), room...);
+        });
+    }
+
+    Status nearest(Span<Point> points, std::vector<std::uint32_t> &vertices) const {
+        return detail::answer(vertices, points.size(), [&](auto... room) {
+            return tevasulim_nearest(&handle_, points.data(), points.size(), room...);
+        });
+    }
+
+    Status line(Point from, Point to, std::vector<Meeting> &meetings) const {
+        return detail::fill(meetings, 64, [&](auto... room) {
+            return tevasulim_line(&handle_, &from, &to, room...);
+        });
+    }
+
+    Status conflicts(Point from, Point to, std::vector<Segment> &constraints) const {
+        return detail::fill(constraints, 64, [&](auto... room) {
+            return tevasulim_conflicts(&handle_, &from, &to, room...);
+        });
+    }
+
+    // `is_free` has an element for each face, which is not 0 where the face is free.
+    Status in_sight(Point from, Point to, Span<std::uint8_t> is_free, bool &seen) const {
+        std::uint32_t told = 0;
+        const Status status =
+            tevasulim_in_sight(&handle_, &from, &to, is_free.data(), is_free.size(), &told);
+        seen = status == TEVASULIM_OK && told != 0;
+        return status;
+    }
+
+    Status vertices_in(Shape shape, std::vector<std::uint32_t> &vertices) const {
+        return detail::fill(vertices, 64, [&](auto... room) {
+            return tevasulim_vertices_in(&handle_, &shape, room...);
+        });
+    }
+
+    Status edges_in(Shape shape, std::vector<std::uint32_t> &edges) const {
+        return detail::fill(edges, 64, [&](auto... room) {
+            return tevasulim_edges_in(&handle_, &shape, room...);
+        });
+    }
+
+private:
+    // How many elements there are, and none where it is closed.
+    Counts counted() const {
+        Counts counts{};
+        tevasulim_count(&handle_, &counts);
+        return counts;
+    }
+
+    mutable tevasulim_triangulation handle_{};
+};
+
+// Writes the faces of the constrained triangulation of points and segments between them. `at` is
+// the point or the segment that is refused, where the call names one.
+inline Status triangulate(Span<Point> points, Span<Segment> segments, std::vector<Face> &faces,
+                          std::size_t &at) {
+    return detail::fill(faces, 2 * points.size(), [&](auto... room) {
+        return tevasulim_triangulate(points.data(), points.size(), segments.data(),
+                                     segments.size(), room..., &at);
+    });
+}
+
+#ifdef __cpp_exceptions
+
+// Why a call was refused. `at` is the point or the segment, where the call names one.
+class Error : public std::runtime_error {
+public:
+    explicit Error(Status why, std::size_t place = 0)
+        : std::runtime_error(text_of(why)), status(why), at(place) {}
+
+    Status status;
+    std::size_t at;
 };
 
 namespace detail {
 
-inline void check(std::uint32_t status, std::size_t at = 0) {
+inline void check(Status status, std::size_t at = 0) {
     if (status == TEVASULIM_OUT_OF_MEMORY) {
         throw std::bad_alloc();
     }
@@ -91,186 +316,145 @@ inline void check(std::uint32_t status, std::size_t at = 0) {
     }
 }
 
-// What a call gives that says how much that is: asked once more where the room was too short.
-template <class T, class Call> std::vector<T> all_of(std::size_t guess, Call call) {
-    std::vector<T> found(guess ? guess : 1);
-    for (;;) {
-        std::size_t length = 0;
-        const std::uint32_t status = call(found.data(), found.size(), &length);
-        if (status == TEVASULIM_TOO_SHORT) {
-            found.resize(length);
-            continue;
-        }
-        check(status);
-        found.resize(length);
-        return found;
-    }
-}
-
 } // namespace detail
 
-// A triangulation. It closes itself, and can be moved but not copied. No two of its methods may run
-// at once, those that are const among them: each tells where the next search begins.
+// An open triangulation. It closes itself. It can be moved, and `copy` copies it. One that was
+// moved from is closed.
 class Triangulation {
 public:
-    explicit Triangulation(Kind kind = Kind::plain) {
-        detail::check(tevasulim_open(&handle_, static_cast<std::uint32_t>(kind)));
-    }
+    explicit Triangulation(Kind kind = Kind::plain) { detail::check(handle_.open(kind)); }
 
-    ~Triangulation() { tevasulim_close(&handle_); }
-
-    Triangulation(const Triangulation &) = delete;
-    Triangulation &operator=(const Triangulation &) = delete;
-
-    Triangulation(Triangulation &&other) noexcept
-        : handle_(std::exchange(other.handle_, tevasulim_triangulation{})) {}
-
-    Triangulation &operator=(Triangulation &&other) noexcept {
-        if (this != &other) {
-            tevasulim_close(&handle_);
-            handle_ = std::exchange(other.handle_, tevasulim_triangulation{});
-        }
-        return *this;
+    Triangulation copy() const {
+        Triangulation made{Closed{}};
+        detail::check(handle_.copy_to(made.handle_));
+        return made;
     }
 
     // Edits.
 
     std::uint32_t insert(Point point) {
         std::uint32_t vertex = none;
-        detail::check(tevasulim_insert(&handle_, point.x, point.y, &vertex));
+        detail::check(handle_.insert(point, vertex));
         return vertex;
     }
 
     std::vector<std::uint32_t> insert_all(Span<Point> points) {
-        std::vector<std::uint32_t> vertices(points.size() + 1, none);
-        detail::check(tevasulim_insert_all(&handle_, points.data(), points.size(), vertices.data(),
-                                           vertices.size()));
-        vertices.pop_back();
-        return vertices;
+        return found<std::uint32_t>(
+            [&](auto &vertices) { return handle_.insert_all(points, vertices); });
     }
 
-    void remove(std::uint32_t vertex) { detail::check(tevasulim_remove(&handle_, vertex)); }
+    void remove(std::uint32_t vertex) { detail::check(handle_.remove(vertex)); }
 
     void constrain(std::uint32_t from, std::uint32_t to) {
-        detail::check(tevasulim_constrain(&handle_, from, to));
+        detail::check(handle_.constrain(from, to));
     }
 
     // An error's `at` is how many segments are joined: they stay.
     void constrain_chain(Span<std::uint32_t> vertices, bool closed = false) {
         std::size_t made = 0;
-        const std::uint32_t status = tevasulim_constrain_chain(
-            &handle_, vertices.data(), vertices.size(), closed, &made);
+        const Status status = handle_.constrain_chain(vertices, closed, made);
         detail::check(status, made);
     }
 
     void release(std::uint32_t from, std::uint32_t to) {
-        detail::check(tevasulim_release(&handle_, from, to));
+        detail::check(handle_.release(from, to));
     }
 
     void set_numbers(Span<std::uint32_t> vertices, Span<std::uint64_t> numbers) {
-        detail::check(tevasulim_set_numbers(&handle_, vertices.data(), vertices.size(),
-                                            numbers.data(), numbers.size()));
+        detail::check(handle_.set_numbers(vertices, numbers));
     }
 
-    void allow_constraints() { detail::check(tevasulim_allow_constraints(&handle_)); }
+    void allow_constraints() { detail::check(handle_.allow_constraints()); }
 
-    void clear() { detail::check(tevasulim_clear(&handle_)); }
+    void clear() { detail::check(handle_.clear()); }
 
     // All of it.
 
     Counts counts() const {
         Counts counts{};
-        detail::check(tevasulim_count(&handle_, &counts));
+        detail::check(handle_.count(counts));
         return counts;
     }
 
     std::vector<Point> positions() const {
-        return detail::all_of<Point>(counts().vertices, [this](auto... room) {
-            return tevasulim_positions(&handle_, room...);
-        });
+        return found<Point>([this](auto &points) { return handle_.positions(points); });
     }
 
     std::vector<std::uint64_t> numbers() const {
-        return detail::all_of<std::uint64_t>(counts().vertices, [this](auto... room) {
-            return tevasulim_numbers(&handle_, room...);
-        });
+        return found<std::uint64_t>([this](auto &numbers) { return handle_.numbers(numbers); });
     }
 
     std::vector<Edge> edges() const {
-        return detail::all_of<Edge>(counts().edges, [this](auto... room) {
-            return tevasulim_edges(&handle_, room...);
-        });
+        return found<Edge>([this](auto &edges) { return handle_.edges(edges); });
     }
 
     std::vector<Face> faces() const {
-        return detail::all_of<Face>(counts().faces, [this](auto... room) {
-            return tevasulim_faces(&handle_, room...);
-        });
+        return found<Face>([this](auto &faces) { return handle_.faces(faces); });
+    }
+
+    std::vector<std::uint32_t> face_layers() const {
+        return found<std::uint32_t>([this](auto &layers) { return handle_.face_layers(layers); });
     }
 
     // Queries.
 
     std::vector<Place> locate(Span<Point> points) const {
-        std::vector<Place> places(points.size() + 1);
-        detail::check(tevasulim_locate(&handle_, points.data(), points.size(), places.data(),
-                                       places.size()));
-        places.pop_back();
-        return places;
+        return found<Place>([&](auto &places) { return handle_.locate(points, places); });
     }
 
     std::vector<std::uint32_t> nearest(Span<Point> points) const {
-        std::vector<std::uint32_t> vertices(points.size() + 1);
-        detail::check(tevasulim_nearest(&handle_, points.data(), points.size(), vertices.data(),
-                                        vertices.size()));
-        vertices.pop_back();
-        return vertices;
+        return found<std::uint32_t>(
+            [&](auto &vertices) { return handle_.nearest(points, vertices); });
     }
 
     std::vector<Meeting> line(Point from, Point to) const {
-        return detail::all_of<Meeting>(64, [&](auto... room) {
-            return tevasulim_line(&handle_, &from, &to, room...);
-        });
+        return found<Meeting>([&](auto &meetings) { return handle_.line(from, to, meetings); });
     }
 
-    std::vector<std::uint32_t> vertices_in_circle(Point center, std::int64_t radius_2) const {
-        return detail::all_of<std::uint32_t>(64, [&](auto... room) {
-            return tevasulim_vertices_in_circle(&handle_, &center, radius_2, room...);
-        });
+    std::vector<Segment> conflicts(Point from, Point to) const {
+        return found<Segment>(
+            [&](auto &constraints) { return handle_.conflicts(from, to, constraints); });
     }
 
-    std::vector<std::uint32_t> edges_in_circle(Point center, std::int64_t radius_2) const {
-        return detail::all_of<std::uint32_t>(64, [&](auto... room) {
-            return tevasulim_edges_in_circle(&handle_, &center, radius_2, room...);
-        });
+    bool in_sight(Point from, Point to, Span<std::uint8_t> is_free) const {
+        bool seen = false;
+        detail::check(handle_.in_sight(from, to, is_free, seen));
+        return seen;
     }
 
-    std::vector<std::uint32_t> vertices_in_rectangle(Point lower, Point upper) const {
-        return detail::all_of<std::uint32_t>(64, [&](auto... room) {
-            return tevasulim_vertices_in_rectangle(&handle_, &lower, &upper, room...);
-        });
+    std::vector<std::uint32_t> vertices_in(Shape shape) const {
+        return found<std::uint32_t>(
+            [&](auto &vertices) { return handle_.vertices_in(shape, vertices); });
     }
 
-    std::vector<std::uint32_t> edges_in_rectangle(Point lower, Point upper) const {
-        return detail::all_of<std::uint32_t>(64, [&](auto... room) {
-            return tevasulim_edges_in_rectangle(&handle_, &lower, &upper, room...);
-        });
+    std::vector<std::uint32_t> edges_in(Shape shape) const {
+        return found<std::uint32_t>([&](auto &edges) { return handle_.edges_in(shape, edges); });
     }
 
 private:
-    mutable tevasulim_triangulation handle_{};
+    struct Closed {};
+
+    explicit Triangulation(Closed) {}
+
+    template <class T, class Call> static std::vector<T> found(const Call &call) {
+        std::vector<T> all;
+        detail::check(call(all));
+        return all;
+    }
+
+    Handle handle_;
 };
 
 // The faces of the constrained triangulation of points and segments between them.
 inline std::vector<Face> triangulate(Span<Point> points, Span<Segment> segments = {}) {
-    std::vector<Face> faces(2 * points.size() + 1);
-    std::size_t length = 0, at = 0;
-    const std::uint32_t status =
-        tevasulim_triangulate(points.data(), points.size(), segments.data(), segments.size(),
-                              faces.data(), faces.size(), &length, &at);
+    std::vector<Face> faces;
+    std::size_t at = 0;
+    const Status status = triangulate(points, segments, faces, at);
     detail::check(status, at);
-    faces.resize(length);
     return faces;
 }
+
+#endif // __cpp_exceptions
 
 } // namespace tevasulim
 

@@ -1,7 +1,8 @@
 -- How an edit of a triangulation that C keeps ended, by what the library's edit says.
 -- Lemmas: edited_at, is_removed, is_not_removed, removes_none, removed_from_plain,
 -- removed_from_constrained, is_added, is_not_added, is_crossing, adds_no_first, adds_no_second,
--- not_added_to_plain, added_to_constrained, is_allowed, is_not_allowed, is_constrained.
+-- not_added_to_plain, added_to_constrained, is_allowed, is_not_allowed, is_constrained,
+-- still_plain, still_constrained.
 use Rattle.std.proofs.Common.{◌≡◌, ◌<◌, ℕ, Bool, List, length, refl, sym, subst}
 use Rattle.std.specs.Prelude.{Option, Some, Result, Ok, Err, IfErr, IfOk, OnOk, OnErr}
 use Rattle.delaunay_edit.specs.plane.Fraction.{Point}
@@ -11,8 +12,9 @@ use Rattle.delaunay_edit.specs.delaunay_legalization.Constraints.{points_and_con
 use Rattle.delaunay_edit.specs.delaunay_legalization.State.{State, points_and_constraints}
 use Rattle.delaunay_edit.specs.Constrained.{none, constrained, constraint_edges}
 use Rattle.delaunay_edit.specs.ConstraintEdits.{AddsConstraint}
+use Rattle.delaunay_edit.specs.Data.{HasOtherEdgeData}
 use Rattle.delaunay_edit.specs.Edits.{RemovesVertex}
-use Rattle.spade_delaunay.specs.Views.{CanAddConstraint}
+use Rattle.delaunay_interface.specs.Views.{CanAddConstraint}
 use Rattle.c_calls.specs.declared.raw.NumberedPoint.{NumberedPoint}
 use Rattle.c_calls.specs.declared.kept.KeptPoints.{KeptPoints}
 use Rattle.c_calls.specs.declared.kept.KeptPoints.TheVariants.{Plain, Constrained}
@@ -20,7 +22,7 @@ use Rattle.c_calls.specs.declared.statuses.TheConstants.{WELL, IS_PLAIN, NO_SUCH
 use Rattle.c_calls.specs.declared.statuses.TheConstants.{CROSSING, IS_CONSTRAINED}
 use Rattle.c_calls.specs.declared.statuses.TheConstants.{OUT_OF_MEMORY}
 use Rattle.c_calls.specs.Edits.{AddsKept, Addition, AllowsConstraints, EditsAt}
-use Rattle.c_calls.specs.Edits.{Removal, RemovesKept}
+use Rattle.c_calls.specs.Edits.{IsSameKind, Removal, RemovesKept}
 use Rattle.c_calls.specs.Edits.{removed, removal_of_none, removal_refused}
 use Rattle.c_calls.specs.Edits.{added, addition_of_none, addition_crossing, addition_refused}
 use Rattle.c_calls.specs.Kept.{IsKeptDelaunay, kept_place}
@@ -127,16 +129,21 @@ added_to_constrained from to status k a b is h =
 module _ (k : KeptPoints) (a : State NumberedPoint (Unit {0}) (Unit {0}) (Unit {0}))
     (is : k ≡ Plain a) where
   -- it did
-  pub is_allowed : {E : Type 0}
+  pub is_allowed : {E : Type 0} (R : Unit {0} → CdtEdge (Unit {0}) → Type 0)
       (r : Result (State NumberedPoint (Unit {0}) (CdtEdge (Unit {0})) (Unit {0})) E)
       (b : State NumberedPoint (Unit {0}) (CdtEdge (Unit {0})) (Unit {0})) → r ≡ Ok b
       → IfOk r (λ c. Unconstrains kept_place (points_and_constraints a) (constrained c))
-      → AllowsConstraints WELL k (Constrained b)
-  is_allowed r b ok h = subst (λ (w : KeptPoints). AllowsConstraints WELL w (Constrained b))
-      (sym is) (
+      → IfOk r (HasOtherEdgeData R a) → AllowsConstraints WELL k (Constrained b)
+  is_allowed R r b ok h others =
+      let rest = (subst (λ (q : Result _ _). IfOk q (HasOtherEdgeData R a)) ok others).rest in
+      subst (λ (w : KeptPoints). AllowsConstraints WELL w (Constrained b)) (sym is) (
         refl,
         subst (λ (q : Result _ _). IfOk q (λ c. Unconstrains kept_place
             (points_and_constraints a) (constrained c))) ok h,
+        record {
+          vertices = ap (λ (s : State _ _ _ _). s.vertices) rest;
+          mesh = ap (λ (s : State _ _ _ _). s.mesh) rest;
+        },
       )
 
   -- memory was refused
@@ -155,6 +162,17 @@ is_constrained k a is =
     subst (λ (w : KeptPoints). AllowsConstraints IS_CONSTRAINED w (Constrained a)) (sym is)
     (refl, refl)
 
+-- ---- a triangulation whose vertices are forgotten stays plain
+pub still_plain : (k : KeptPoints) (a b : State NumberedPoint (Unit {0}) (Unit {0}) (Unit {0}))
+    → k ≡ Plain a → IsSameKind k (Plain b)
+still_plain k a b is = subst (λ (w : KeptPoints). IsSameKind w (Plain b)) (sym is) refl
+
+-- or constrained
+pub still_constrained : (k : KeptPoints)
+    (a b : State NumberedPoint (Unit {0}) (CdtEdge (Unit {0})) (Unit {0})) → k ≡ Constrained a
+    → IsSameKind k (Constrained b)
+still_constrained k a b is = subst (λ (w : KeptPoints). IsSameKind w (Constrained b)) (sym is) refl
+
 -- ---- for the functions that make the edits
 pub ruleset removals = (is_removed, is_not_removed, removes_none)
 
@@ -165,3 +183,5 @@ pub ruleset additions = (is_added, is_not_added, is_crossing, adds_no_first, add
 pub ruleset additions_kept = (not_added_to_plain, added_to_constrained)
 
 pub ruleset allowances = (is_allowed, is_not_allowed, is_constrained)
+
+pub ruleset clearances = (still_plain, still_constrained)

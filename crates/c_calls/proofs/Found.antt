@@ -20,7 +20,7 @@ use Rattle.delaunay_edit.specs.delaunay_core.declared.point.Point2.{Point2}
 use Rattle.delaunay_edit.specs.delaunay_legalization.Shape.{IsTriangulated}
 use Rattle.delaunay_edit.specs.delaunay_legalization.State.{State}
 use Rattle.delaunay_shapes.specs.InShape.{AreEdgesInShape, AreVerticesInShape}
-use Rattle.spade_delaunay.specs.Found.{FindsEdges, FindsVertices}
+use Rattle.delaunay_shape_queries.specs.Found.{FindsEdges, FindsVertices}
 use Rattle.c_calls.specs.declared.shapes.RawCircle.{RawCircle}
 use Rattle.c_calls.specs.declared.shapes.RawRectangle.{RawRectangle}
 use Rattle.c_calls.specs.Links.{AreFew, indexes_in}

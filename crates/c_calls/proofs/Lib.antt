@@ -18,3 +18,5 @@ pub mod Sides
 pub mod Corners
 pub mod Found
 pub mod Walked
+pub mod Crossed
+pub mod Seen

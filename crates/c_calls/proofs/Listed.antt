@@ -1,15 +1,16 @@
 -- How the insertion of a list that C asks for ended, by what the library's insertion says.
--- Lemmas: write_more, write_all, is_all_inserted, is_stopped, is_short, is_refused,
--- listed_in_plain, listed_in_constrained.
-use Rattle.std.proofs.Common.{◌≡◌, ◌≢◌, ◌<◌, ◌≤◌, ◌+◌, ◌∙◌, [], ◌∷◌, ◌++◌, ℕ, List, length}
+-- Lemmas: write_more, write_all, vertices_in_range, points_in_range, count_same,
+-- may_insert, is_all_inserted, is_stopped, listed_in_plain, listed_in_constrained.
+use Rattle.std.proofs.Common.{◌≡◌, ◌<◌, ◌≤◌, ◌+◌, ◌*◌, ◌∙◌, [], ◌∷◌, ◌++◌, ℕ, List, length}
 use Rattle.std.proofs.Common.{take, drop, set, get_or, refl, sym, ap, subst, inl, inr, arith}
 use Rattle.std.proofs.Common.{append_assoc}
-use Rattle.std.specs.Prelude.{Err}
-use Rattle.std.proofs.lemmas.List.{drop_more, length-take-le, set_at, take_all, take_more}
+use Rattle.std.specs.Prelude.{All}
+use Rattle.std.proofs.lemmas.List.Elements.{All-map}
+use Rattle.std.proofs.lemmas.List.{drop_more, get_or-map, length-map, length-take-le, set_at}
+use Rattle.std.proofs.lemmas.List.{take_all, take_more}
 use Rattle.delaunay_edit.specs.plane.Fraction.{Point}
 use Rattle.delaunay_edit.specs.plane.Tests.{InRange}
-use Rattle.delaunay_edit.specs.delaunay_core.declared.math.InsertionError.TheVariants.{TooLarge}
-use Rattle.delaunay_edit.specs.delaunay_core.declared.math.InsertionError.TheVariants.{OutOfMemory}
+use Rattle.delaunay_edit.specs.half_edge_links.declared.room.TheConstants.{MAX_ELEMENTS}
 use Rattle.delaunay_edit.specs.delaunay_legalization.State.{State}
 use Rattle.delaunay_edit.specs.delaunay_legalization.declared.cdt_edge.CdtEdge.{CdtEdge}
 use Rattle.delaunay_edit.specs.Constrained.{none, constraint_edges}
@@ -20,12 +21,12 @@ use Rattle.delaunay_bulk.proofs.Turns.{one_of_all}
 use Rattle.c_calls.specs.declared.raw.NumberedPoint.{NumberedPoint}
 use Rattle.c_calls.specs.declared.kept.KeptPoints.{KeptPoints}
 use Rattle.c_calls.specs.declared.kept.KeptPoints.TheVariants.{Plain, Constrained}
-use Rattle.c_calls.specs.declared.statuses.TheConstants.{WELL, TOO_SHORT, OUT_OF_MEMORY}
-use Rattle.c_calls.specs.Answers.{status_of_error}
-use Rattle.c_calls.specs.Lists.{InsertsListKept, ListInsertion, status_of_list_error}
-use Rattle.c_calls.specs.Lists.{all_inserted, insertion_short, insertion_outside}
-use Rattle.c_calls.specs.Lists.{insertion_refused, insertion_stopped}
-use Rattle.c_calls.specs.Kept.{kept_place}
+use Rattle.c_calls.specs.declared.raw.RawPoint.{RawPoint}
+use Rattle.c_calls.specs.declared.statuses.TheConstants.{WELL, OUT_OF_MEMORY}
+use Rattle.c_calls.specs.Lists.{InsertsListKept, ListInsertion, MayInsert, unnumbered_points}
+use Rattle.c_calls.specs.Lists.{all_inserted, insertion_refused, insertion_stopped}
+use Rattle.c_calls.specs.Kept.{kept_place, unnumbered_at}
+use Rattle.c_calls.specs.Written.{IsRawInRange}
 
 -- ---- one more of a list is written to the front of another
 pub write_more : (xs ys : List ℕ) (i : ℕ) → i < length xs → length xs ≤ length ys
@@ -46,48 +47,57 @@ write_all xs ys zs i at is = is
     ∙ ap (λ (n : ℕ). xs ++ drop n ys) at
 
 -- ---- how it ended
+-- points in range are vertices in range
+pub vertices_in_range : (points : List RawPoint) → All IsRawInRange points
+    → All (λ v. InRange (kept_place v)) (unnumbered_points points)
+vertices_in_range points all =
+    All-map (λ v. InRange (kept_place v)) (λ (p : RawPoint). unnumbered_at p.x p.y) points all
+
+-- and the other way round
+pub points_in_range : (points : List RawPoint)
+    → All (λ v. InRange (kept_place v)) (unnumbered_points points) → All IsRawInRange points
+points_in_range points all = λ i d below.
+    subst (λ v. InRange (kept_place v))
+    (get_or-map (λ (p : RawPoint). unnumbered_at p.x p.y) points i d (unnumbered_at d.x d.y) below)
+    (all i (unnumbered_at d.x d.y) (subst (λ (n : ℕ). i < n)
+    (sym (length-map points (λ (p : RawPoint). unnumbered_at p.x p.y))) below))
+
+-- there are as many
+pub count_same : (points : List RawPoint) → length (unnumbered_points points) ≡ length points
+count_same points = length-map points (λ (p : RawPoint). unnumbered_at p.x p.y)
+
+-- points may be inserted once room was made for them, where that changed nothing
+pub may_insert : {D U F : Type 0} (points : List RawPoint) (before : List ℕ)
+    (old now : State NumberedPoint D U F) → length points ≤ length before
+    → All IsRawInRange points → now ≡ old
+    → ¬ (MAX_ELEMENTS < 6 * (length old.vertices + length points))
+    → MayInsert kept_place (unnumbered_points points) before now
+may_insert points before old now fits range same few = record {
+  room = subst (λ (n : ℕ). n ≤ length before) (sym (count_same points)) fits;
+  in_range = vertices_in_range points range;
+  few = λ more. few (subst (λ (n : ℕ). MAX_ELEMENTS < 6 * (length old.vertices + n))
+      (count_same points) (subst (λ (s : State NumberedPoint _ _ _). MAX_ELEMENTS
+      < 6 * (length s.vertices + length (unnumbered_points points))) same more));
+}
+
 module _ {V D U F : Type 0} (place : V → Point) (constraints : List U → List ℕ) (list : List V)
-    (before after : List ℕ) (old new : State V D U F) where
+    (before after : List ℕ) (old new : State V D U F) (may : MayInsert place list before old) where
   -- all were inserted, and their indexes written
   pub is_all_inserted : (handles : List ℕ) → InsertsAll place constraints list handles old new
       → after ≡ handles ++ drop (length handles) before
       → ListInsertion place constraints list WELL before after old new
-  is_all_inserted handles done written = all_inserted handles refl done written
-
-  -- one was refused after others were inserted. It is in range
-  stops_later : after ≡ before → (error : BulkInsertionError)
-      → StopsLater place constraints list error old new
-      → ListInsertion place constraints list (status_of_list_error error) before after old new
-  stops_later same error stops =
-      let why = stops.refused.why in
-      let small : why ≢ TooLarge =
-      λ large. stops.refused.refused.too_large.0 (ap Err large) stops.in_range in
-      insertion_stopped stops.entry.0 why small (ap status_of_list_error stops.refused.told)
-      (subst (λ (e : BulkInsertionError). StopsLater place constraints list e old new)
-      stops.refused.told stops) same
+  is_all_inserted handles done written = all_inserted handles refl may done written
 
   -- they were not inserted, or not all
   pub is_stopped : after ≡ before → (error : BulkInsertionError)
       → StopsAt place constraints list error old new
-      → ListInsertion place constraints list (status_of_list_error error) before after old new
-  is_stopped same (Vertex i why) (inl ((large, first), stays)) =
-      insertion_outside (ap status_of_error large) (λ all. first.outside
-      (one_of_all (λ v. InRange (place v)) list i first.vertex all first.there)) stays same
-  is_stopped same (NoRoom why) (inl ((small, all), stays)) =
-      insertion_refused why small refl stays same
-  is_stopped same (Vertex i why) (inr stops) = stops_later same (Vertex i why) stops
-  is_stopped same (NoRoom why) (inr stops) = stops_later same (NoRoom why) stops
-
-module _ {V D U F : Type 0} (place : V → Point) (constraints : List U → List ℕ) (list : List V)
-    (before : List ℕ) (s : State V D U F) where
-  -- there was no room for the indexes
-  pub is_short : length before < length list
-      → ListInsertion place constraints list TOO_SHORT before before s s
-  is_short less = insertion_short refl less refl refl
-
-  -- there was no memory for the vertices
-  pub is_refused : ListInsertion place constraints list OUT_OF_MEMORY before before s s
-  is_refused = insertion_refused OutOfMemory (λ e. absurd (cc)) refl refl refl
+      → ListInsertion place constraints list OUT_OF_MEMORY before after old new
+  is_stopped same (Vertex i why) (inl ((large, first), stays)) = absurd (first.outside
+      (one_of_all (λ v. InRange (place v)) list i first.vertex may.in_range first.there))
+  is_stopped same (NoRoom why) (inl (refused, stays)) = insertion_refused refl may stays same
+  is_stopped same (Vertex i why) (inr stops) =
+      insertion_stopped (Vertex i why) refl may stops same
+  is_stopped same (NoRoom why) (inr stops) = insertion_stopped (NoRoom why) refl may stops same
 
 -- into a plain triangulation
 pub listed_in_plain : (list : List NumberedPoint) (status : ℕ) (before after : List ℕ)
@@ -107,6 +117,4 @@ listed_in_constrained list status before after k a b is h =
     h
 
 -- for the functions that make the edit
-pub ruleset refusals = (is_short, is_refused)
-
 pub ruleset insertions_kept = (listed_in_plain, listed_in_constrained)

@@ -1,6 +1,6 @@
 -- What C is told of a walk along a line, one item after another.
--- Notions: IsPart, IsToldOf; walk_begins, walk_goes_on, item_mesh, item_more, walk_ends,
--- meeting_of.
+-- Notions: IsPart, IsToldOf; no_more, each_more, walk_begins, walk_goes_on, walk_skips, item_mesh,
+-- item_more, walk_ends, meeting_of.
 use Rattle.std.proofs.Common.{◌≡◌, ◌∙◌, ◌<◌, ◌≤◌, ◌+◌, ◌++◌, ℕ, Bool, List, [], ◌∷◌, length, set}
 use Rattle.std.proofs.Common.{refl, sym, ap, subst, arith, append-nil, append_assoc}
 use Rattle.std.proofs.Common.{length-append}
@@ -28,16 +28,22 @@ use Rattle.c_calls.specs.Queries.{IsMark, IsMeeting}
 use Rattle.c_calls.proofs.Marks.{mark_joins}
 use Rattle.c_calls.proofs.Telling.{IsTold, none_told, told_more}
 
+-- there are no more answers than items where each has its own
+pub no_more : {A B : Type 0} (R : A → B → Type 0) (xs : List A) (ys : List B) → AllZip R xs ys
+    → length ys ≤ length xs
+no_more R xs ys h = let same = as_many R xs ys h in omega (arith, same)
+
 -- one more pair of elements that go together
-each_more : {A B : Type 0} (R : A → B → Type 0) (xs : List A) (ys : List B) (x : A) (y : B)
+pub each_more : {A B : Type 0} (R : A → B → Type 0) (xs : List A) (ys : List B) (x : A) (y : B)
     → AllZip R xs ys → R x y → AllZip R (xs ++ x ∷ []) (ys ++ y ∷ [])
 each_more R [] [] x y h r = (r, tt)
 each_more R [] (b ∷ bs) x y h r = absurd h
 each_more R (a ∷ xs) [] x y h r = absurd h
 each_more R (a ∷ xs) (b ∷ bs) x y h r = (h.0, each_more R xs bs x y h.1 r)
 
-module _ {V D U F P S A : Type 0} (at : V → Point) (number : S → ℤ) (R : Item → A → Type 0) where
-  -- the first of these items were told, and the others are left
+module _ {V D U F P S A : Type 0} (at : V → Point) (number : S → ℤ)
+    (Each : List Item → List A → Type 0) where
+  -- what these answers say of the first of these items was told, and the others are left
   pub record IsPart (items : List Item) (now : LineIntersectionIterator V D U F P S) (count : ℕ)
       (old new : List A) : Type 0 where
     pub passed : List Item
@@ -45,7 +51,7 @@ module _ {V D U F P S A : Type 0} (at : V → Point) (number : S → ℤ) (R : I
     pub split : items ≡ passed ++ others
     pub left : AreLeft at number now others
     pub answers : List A
-    pub each : AllZip R passed answers
+    pub each : Each passed answers
     pub told : IsTold answers count old new
 
   -- so much of a walk was told
@@ -55,9 +61,9 @@ module _ {V D U F P S A : Type 0} (at : V → Point) (number : S → ℤ) (R : I
     pub part : (items : List Item) → AreLeft at number start items
         → IsPart items now count old new
 
-  pub walk_begins : (start : LineIntersectionIterator V D U F P S) (old : List A)
+  pub walk_begins : (start : LineIntersectionIterator V D U F P S) (old : List A) → Each [] []
       → IsToldOf start start 0 old old
-  walk_begins start old = record {
+  walk_begins start old none = record {
     same_mesh = refl;
     part = λ items left. record {
       passed = [];
@@ -65,7 +71,7 @@ module _ {V D U F P S A : Type 0} (at : V → Point) (number : S → ℤ) (R : I
       split = refl;
       left = left;
       answers = [];
-      each = tt;
+      each = none;
       told = none_told old;
     };
   }
@@ -73,9 +79,11 @@ module _ {V D U F P S A : Type 0} (at : V → Point) (number : S → ℤ) (R : I
   module _ (start now : LineIntersectionIterator V D U F P S) (count : ℕ) (old new : List A)
       (told : IsToldOf start now count old new) (after : LineIntersectionIterator V D U F P S) where
     module _ (x : Intersection V D U F) (gives : GivesNext at number now (Some x) after) where
-      pub walk_goes_on : (a : A) → R (item_in x) a
+      -- one more was told
+      pub walk_goes_on : (a : A) → ((ms : List Item) (bs : List A) → Each ms bs
+          → Each (ms ++ item_in x ∷ []) (bs ++ a ∷ []))
           → IsToldOf start after (count + 1) old (set new count a)
-      walk_goes_on a r = record {
+      walk_goes_on a more = record {
         same_mesh = gives.same_mesh ∙ told.same_mesh;
         part = λ items left.
             let b = told.part items left in
@@ -86,8 +94,27 @@ module _ {V D U F P S A : Type 0} (at : V → Point) (number : S → ℤ) (R : I
                   ∙ sym (append_assoc b.passed (item_in x ∷ []) n.1.0);
               left = n.1.2;
               answers = b.answers ++ a ∷ [];
-              each = each_more R b.passed b.answers (item_in x) a b.each r;
+              each = more b.passed b.answers b.each;
               told = told_more b.answers count old new a b.told;
+            };
+      }
+
+      -- nothing was told of one more
+      pub walk_skips : ((ms : List Item) (bs : List A) → Each ms bs → Each (ms ++ item_in x ∷ []) bs)
+          → IsToldOf start after count old new
+      walk_skips more = record {
+        same_mesh = gives.same_mesh ∙ told.same_mesh;
+        part = λ items left.
+            let b = told.part items left in
+            let n = gives.gives b.others b.left in record {
+              passed = b.passed ++ item_in x ∷ [];
+              others = n.1.0;
+              split = b.split ∙ ap (λ (l : List Item). b.passed ++ l) n.1.1
+                  ∙ sym (append_assoc b.passed (item_in x ∷ []) n.1.0);
+              left = n.1.2;
+              answers = b.answers;
+              each = more b.passed b.answers b.each;
+              told = b.told;
             };
       }
 
@@ -98,8 +125,9 @@ module _ {V D U F P S A : Type 0} (at : V → Point) (number : S → ℤ) (R : I
             (gives.gives b.others b.left).0 ∙ told.same_mesh
 
         -- there are more than were told
-        pub item_more : count + 1 ≤ length items
-        item_more =
+        pub item_more : ((ms : List Item) (bs : List A) → Each ms bs → length bs ≤ length ms)
+            → count + 1 ≤ length items
+        item_more few =
             let b = told.part items left in
             let n = gives.gives b.others b.left in
             let split : length items ≡ length (b.passed ++ item_in x ∷ n.1.0) =
@@ -107,19 +135,18 @@ module _ {V D U F P S A : Type 0} (at : V → Point) (number : S → ℤ) (R : I
             let sum : length (b.passed ++ item_in x ∷ n.1.0)
             ≡ length b.passed + length (item_in x ∷ n.1.0) =
             length-append b.passed (item_in x ∷ n.1.0) in
-            let same : length b.passed ≡ length b.answers =
-            as_many R b.passed b.answers b.each in
+            let same : length b.answers ≤ length b.passed = few b.passed b.answers b.each in
             let counted : count ≡ length b.answers = b.told.counted in
             omega arith
 
     pub walk_ends : GivesNext at number now None after → (items : List Item)
         → AreLeft at number start items
-        → (answers : List A) × AllZip R items answers × IsTold answers count old new
+        → (answers : List A) × Each items answers × IsTold answers count old new
     walk_ends gives items left =
         let b = told.part items left in
         let n = gives.gives b.others b.left in (
           b.answers,
-          subst (λ (l : List Item). AllZip R l b.answers)
+          subst (λ (l : List Item). Each l b.answers)
               (sym (b.split ∙ ap (λ (l : List Item). b.passed ++ l) n.0 ∙ append-nil b.passed))
               b.each,
           b.told,

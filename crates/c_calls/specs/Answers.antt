@@ -9,7 +9,7 @@ use Rattle.delaunay_edit.specs.delaunay_core.declared.math.InsertionError.TheVar
 }
 use Rattle.c_calls.specs.declared.raw.NumberedPoint.{NumberedPoint}
 use Rattle.c_calls.specs.declared.kept.KeptPoints.{KeptPoints}
-use Rattle.c_calls.specs.declared.statuses.TheConstants.{WELL, TOO_LARGE, NO_SUCH_KIND}
+use Rattle.c_calls.specs.declared.statuses.TheConstants.{ALREADY_OPEN, WELL, TOO_LARGE, NO_SUCH_KIND}
 use Rattle.c_calls.specs.declared.statuses.TheConstants.{OUT_OF_INDEXES, OUT_OF_MEMORY}
 use Rattle.c_calls.specs.Kept.{InsertsKept, IsKeptDelaunay, IsOfKind, kept_vertices}
 
@@ -36,9 +36,18 @@ pub record InsertsAt (v : NumberedPoint) (status vertex : ℕ) (old : KeptPoints
   pub told : status ≡ status_of_insertion inserted
   pub index : IfOk inserted (λ i. vertex ≡ i)
 
--- a closed handle was to be opened, with a triangulation of this kind
+-- a closed handle was to be opened, with a triangulation of this kind. Any other status says that
+-- memory was refused
 pub record OpensAt (kind status : ℕ) (kept : Option KeptPoints) : Type 0 where
   pub opened : status ≡ WELL → IfSome kept (λ k.
       IsOfKind (nat_eq kind 1) k × (kept_vertices k ≡ []) × IsKeptDelaunay k)
   pub refused : status ≢ WELL → kept ≡ None
   pub no_such_kind : status ≡ NO_SUCH_KIND ↔ (1 < kind)
+  pub others : status ≢ WELL → status ≢ NO_SUCH_KIND → status ≡ OUT_OF_MEMORY
+
+-- how it ended that a handle was to be opened with a copy of this triangulation
+pub data OpensCopy (k : KeptPoints) (status : ℕ) (old new : Option KeptPoints) : Type 0 where
+  copied : status ≡ WELL → old ≡ None → new ≡ Some k → IsKeptDelaunay k
+      → OpensCopy k status old new
+  copy_to_open : status ≡ ALREADY_OPEN → old ≢ None → new ≡ old → OpensCopy k status old new
+  copy_refused : status ≡ OUT_OF_MEMORY → old ≡ None → new ≡ None → OpensCopy k status old new

@@ -1,5 +1,5 @@
 -- What each call says of the triangulation that a handle has, where it has one.
-use Rattle.std.specs.Prelude.{◌≡◌, ℕ, ℤ, List, Option, None, Some, MatchOption}
+use Rattle.std.specs.Prelude.{◌≡◌, ℕ, List, Option, None, Some, MatchOption}
 use Rattle.c_calls.specs.declared.kept.KeptPoints.{KeptPoints}
 use Rattle.c_calls.specs.declared.raw.RawCounts.{RawCounts}
 use Rattle.c_calls.specs.declared.raw.RawEdge.{RawEdge}
@@ -7,21 +7,28 @@ use Rattle.c_calls.specs.declared.raw.RawFace.{RawFace}
 use Rattle.c_calls.specs.declared.raw.RawMeeting.{RawMeeting}
 use Rattle.c_calls.specs.declared.raw.RawPlace.{RawPlace}
 use Rattle.c_calls.specs.declared.raw.RawPoint.{RawPoint}
-use Rattle.c_calls.specs.declared.shapes.RawCircle.{RawCircle}
-use Rattle.c_calls.specs.declared.shapes.RawRectangle.{RawRectangle}
+use Rattle.c_calls.specs.declared.raw.RawSegment.{RawSegment}
+use Rattle.c_calls.specs.declared.raw.RawShape.{RawShape}
 use Rattle.c_calls.specs.declared.statuses.TheConstants.{ALREADY_OPEN, CLOSED, WELL}
-use Rattle.c_calls.specs.Answers.{OpensAt}
+use Rattle.c_calls.specs.Answers.{OpensAt, OpensCopy}
+use Rattle.c_calls.specs.Conflicts.{FindsConflicts}
 use Rattle.c_calls.specs.Kept.{CountsKept, kept_drawing, kept_links, kept_state, kept_vertices}
-use Rattle.c_calls.specs.Queries.{FindsEdgesInCircle, FindsEdgesInRectangle, FindsKeptNearest}
-use Rattle.c_calls.specs.Queries.{FindsLine, FindsVerticesInCircle, FindsVerticesInRectangle}
-use Rattle.c_calls.specs.Queries.{IsKeptPlace, ListsRawEdges, ListsRawFaces, ListsNumbers}
-use Rattle.c_calls.specs.Queries.{ListsPositions}
+use Rattle.c_calls.specs.Layers.{ListsLayers, kept_marked}
+use Rattle.c_calls.specs.Queries.{FindsKeptNearest, FindsLine, IsKeptPlace, ListsNumbers}
+use Rattle.c_calls.specs.Queries.{ListsPositions, ListsRawEdges, ListsRawFaces}
+use Rattle.c_calls.specs.Shapes.{FindsEdgesIn, FindsVerticesIn}
+use Rattle.c_calls.specs.Sight.{FindsSight}
 use Rattle.c_calls.specs.Written.{Answering}
 
 -- a closed handle was to be opened, and an open one refuses that
 abbrev pub OpensClosed : ℕ → ℕ → Option KeptPoints → Option KeptPoints → Type 0
 OpensClosed kind status old new =
     MatchOption old (OpensAt kind status new) (λ k. (status ≡ ALREADY_OPEN) × (new ≡ Some k))
+
+-- a handle was to be opened with a copy of what another one has, if that is open
+abbrev pub CopiesOpen : Option KeptPoints → ℕ → Option KeptPoints → Option KeptPoints → Type 0
+CopiesOpen kept status old new =
+    MatchOption kept ((status ≡ CLOSED) × (new ≡ old)) (λ k. OpensCopy k status old new)
 
 -- an edit of what an open handle has. A closed one refuses it
 abbrev pub EditsOpen : (KeptPoints → Option KeptPoints → Type 0) → ℕ → Option KeptPoints
@@ -55,6 +62,11 @@ abbrev pub TellsFaces : Option KeptPoints → ℕ → ℕ → ℕ → List RawFa
 TellsFaces kept status was told old new = AsksOpen ((new ≡ old) × (told ≡ was))
     (λ k. ListsRawFaces (kept_drawing k) (kept_state k).constraints status told old new) status kept
 
+abbrev pub TellsLayers : Option KeptPoints → ℕ → ℕ → ℕ → List ℕ → List ℕ → Type 0
+TellsLayers kept status was told old new = AsksOpen ((new ≡ old) × (told ≡ was))
+    (λ k. ListsLayers (kept_drawing k) (kept_links k) (kept_marked k) status told old new) status
+    kept
+
 -- ---- answers to many queries
 abbrev pub TellsPlaces : Option KeptPoints → List RawPoint → ℕ → List RawPlace → List RawPlace
     → Type 0
@@ -66,41 +78,27 @@ TellsNearest kept queries status old new = AsksOpen (new ≡ old)
     (λ k. FindsKeptNearest k queries status old new) status kept
 
 -- ---- lists of what was found
--- a circle, and a rectangle, of what C hands in
-abbrev pub raw_circle : RawPoint → ℤ → RawCircle
-raw_circle center radius_2 = record { center = center; radius_2 = radius_2 }
-
-abbrev pub raw_rectangle : RawPoint → RawPoint → RawRectangle
-raw_rectangle lower upper = record { lower = lower; upper = upper }
-
 abbrev pub TellsLine : Option KeptPoints → RawPoint → RawPoint → ℕ → ℕ → ℕ → List RawMeeting
     → List RawMeeting → Type 0
 TellsLine kept from to status was told old new = AsksOpen ((new ≡ old) × (told ≡ was))
     (λ k. FindsLine (kept_drawing k) (kept_state k).constraints from to status was told old new)
     status kept
 
-abbrev pub TellsVerticesInCircle : Option KeptPoints → RawCircle → ℕ → ℕ → ℕ → List ℕ → List ℕ
-    → Type 0
-TellsVerticesInCircle kept circle status was told old new =
-    AsksOpen ((new ≡ old) × (told ≡ was))
-    (λ k. FindsVerticesInCircle (kept_drawing k) circle status was told old new) status kept
+abbrev pub TellsCrossed : Option KeptPoints → RawPoint → RawPoint → ℕ → ℕ → ℕ → List RawSegment
+    → List RawSegment → Type 0
+TellsCrossed kept from to status was told old new = AsksOpen ((new ≡ old) × (told ≡ was))
+    (λ k. FindsConflicts (kept_drawing k) (kept_state k).constraints from to status was told old
+    new) status kept
 
-abbrev pub TellsEdgesInCircle : Option KeptPoints → RawCircle → ℕ → ℕ → ℕ → List ℕ → List ℕ
-    → Type 0
-TellsEdgesInCircle kept circle status was told old new = AsksOpen ((new ≡ old) × (told ≡ was))
-    (λ k. FindsEdgesInCircle (kept_drawing k) (kept_links k) circle status was told old new)
-    status kept
+abbrev pub TellsVerticesIn : Option KeptPoints → RawShape → ℕ → ℕ → ℕ → List ℕ → List ℕ → Type 0
+TellsVerticesIn kept shape status was told old new = AsksOpen ((new ≡ old) × (told ≡ was))
+    (λ k. FindsVerticesIn (kept_drawing k) shape status was told old new) status kept
 
-abbrev pub TellsVerticesInRectangle : Option KeptPoints → RawRectangle → ℕ → ℕ → ℕ → List ℕ
-    → List ℕ → Type 0
-TellsVerticesInRectangle kept rectangle status was told old new =
-    AsksOpen ((new ≡ old) × (told ≡ was))
-    (λ k. FindsVerticesInRectangle (kept_drawing k) rectangle status was told old new)
-    status kept
+abbrev pub TellsEdgesIn : Option KeptPoints → RawShape → ℕ → ℕ → ℕ → List ℕ → List ℕ → Type 0
+TellsEdgesIn kept shape status was told old new = AsksOpen ((new ≡ old) × (told ≡ was))
+    (λ k. FindsEdgesIn (kept_drawing k) (kept_links k) shape status was told old new) status kept
 
-abbrev pub TellsEdgesInRectangle : Option KeptPoints → RawRectangle → ℕ → ℕ → ℕ → List ℕ
-    → List ℕ → Type 0
-TellsEdgesInRectangle kept rectangle status was told old new =
-    AsksOpen ((new ≡ old) × (told ≡ was))
-    (λ k. FindsEdgesInRectangle (kept_drawing k) (kept_links k) rectangle status was told old new)
-    status kept
+-- ---- lines of sight
+abbrev pub TellsInSight : Option KeptPoints → RawPoint → RawPoint → List ℕ → ℕ → ℕ → Type 0
+TellsInSight kept from to bytes status seen = MatchOption kept (status ≡ CLOSED)
+    (λ k. FindsSight (kept_drawing k) from to bytes status seen)

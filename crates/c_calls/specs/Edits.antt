@@ -1,5 +1,5 @@
 -- What edits of a triangulation that C keeps make of it, by their statuses.
-use Rattle.std.specs.Prelude.{◌≡◌, ◌<◌, [], ℕ, List, length, Option, Some}
+use Rattle.std.specs.Prelude.{◌≡◌, ◌<◌, [], ℕ, List, length, Option, Some, false, true}
 use Rattle.delaunay_edit.specs.plane.Fraction.{Point}
 use Rattle.delaunay_edit.specs.plane.Pairs.{Joins}
 use Rattle.delaunay_edit.specs.plane.Plain.{Adds, CanAdd, Releases, Removes, Unconstrains}
@@ -12,7 +12,7 @@ use Rattle.c_calls.specs.declared.kept.KeptPoints.TheVariants.{Plain, Constraine
 use Rattle.c_calls.specs.declared.statuses.TheConstants.{WELL, IS_PLAIN, NO_SUCH_VERTEX}
 use Rattle.c_calls.specs.declared.statuses.TheConstants.{CROSSING, IS_CONSTRAINED}
 use Rattle.c_calls.specs.declared.statuses.TheConstants.{NO_CONSTRAINT, OUT_OF_MEMORY}
-use Rattle.c_calls.specs.Kept.{IsKeptDelaunay, kept_place, kept_state, kept_vertices}
+use Rattle.c_calls.specs.Kept.{IsKeptDelaunay, IsOfKind, kept_place, kept_state, kept_vertices}
 
 -- an open handle had a triangulation: it has what this edit made of it
 pub record EditsAt (Edits : KeptPoints → KeptPoints → Type 0) (old : KeptPoints)
@@ -80,14 +80,27 @@ ReleasesKept from to status (Constrained a) (Constrained b) =
     Release kept_place from to status a b
 ReleasesKept from to status (Constrained a) (Plain b) = ⊥
 
+-- all is at the same index: the vertices, and how edges and faces are linked
+pub record KeepsIndexes {V D U T F : Type 0} (old : State V D U F) (new : State V D T F) : Type 0
+  where
+    pub vertices : new.vertices ≡ old.vertices
+    pub mesh : new.mesh ≡ old.mesh
+
 -- a plain triangulation was to become a constrained one, and a constrained one refuses that
 abbrev pub AllowsConstraints : ℕ → KeptPoints → KeptPoints → Type 0
 AllowsConstraints status (Plain a) (Constrained b) =
     (status ≡ WELL) × Unconstrains kept_place (kept_state (Plain a)) (constrained b)
+    × KeepsIndexes a b
 AllowsConstraints status (Plain a) (Plain b) = (status ≡ OUT_OF_MEMORY) × (b ≡ a)
 AllowsConstraints status (Constrained a) new =
     (status ≡ IS_CONSTRAINED) × (new ≡ Constrained a)
 
--- all was forgotten
+-- two triangulations are of one kind
+abbrev pub IsSameKind : KeptPoints → KeptPoints → Type 0
+IsSameKind (Plain a) new = IsOfKind false new
+IsSameKind (Constrained a) new = IsOfKind true new
+
+-- all was forgotten, and the kind stayed
 abbrev pub ClearsKept : ℕ → KeptPoints → KeptPoints → Type 0
-ClearsKept status old new = (status ≡ WELL) × (kept_vertices new ≡ [])
+ClearsKept status old new =
+    (status ≡ WELL) × (kept_vertices new ≡ []) × IsSameKind old new

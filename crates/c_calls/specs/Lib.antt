@@ -7,4 +7,8 @@ pub mod Queries
 pub mod Links
 pub mod Lists
 pub mod Words
+pub mod Layers
+pub mod Sight
+pub mod Conflicts
+pub mod Shapes
 pub mod Calls

@@ -1,16 +1,15 @@
 -- What edits of a triangulation that C keeps make of it by a list of C's, by their statuses.
-use Rattle.std.specs.Prelude.{◌≡◌, ◌≢◌, ◌<◌, [], ◌∷◌, ◌++◌, ℕ, Bool, true, false, List, length, map}
+use Rattle.std.specs.Prelude.{◌≡◌, ◌≢◌, ◌+◌, ◌*◌, ◌<◌, ◌≤◌, [], ◌∷◌, ◌++◌, ℕ, Bool, true, false}
+use Rattle.std.specs.Prelude.{List, length, map}
 use Rattle.std.specs.Prelude.{All, Contains, Some, drop, slice_get, take}
 use Rattle.delaunay_edit.specs.plane.Fraction.{Point}
 use Rattle.delaunay_edit.specs.plane.Plain.{Adds, CanAdd}
 use Rattle.delaunay_edit.specs.plane.Tests.{InRange}
-use Rattle.delaunay_edit.specs.delaunay_core.declared.math.InsertionError.{InsertionError}
-use Rattle.delaunay_edit.specs.delaunay_core.declared.math.InsertionError.TheVariants.{TooLarge}
+use Rattle.delaunay_edit.specs.half_edge_links.declared.room.TheConstants.{MAX_ELEMENTS}
 use Rattle.delaunay_edit.specs.delaunay_legalization.State.{State}
 use Rattle.delaunay_edit.specs.delaunay_legalization.declared.cdt_edge.CdtEdge.{CdtEdge}
 use Rattle.delaunay_edit.specs.Constrained.{none, constrained, constraint_edges}
 use Rattle.delaunay_bulk.specs.declared.error.BulkInsertionError.{BulkInsertionError}
-use Rattle.delaunay_bulk.specs.declared.error.BulkInsertionError.TheVariants.{Vertex, NoRoom}
 use Rattle.delaunay_bulk.specs.Bulk.{InsertsAll, StopsLater}
 use Rattle.c_calls.specs.declared.raw.NumberedPoint.{NumberedPoint}
 use Rattle.c_calls.specs.declared.raw.RawPoint.{RawPoint}
@@ -18,8 +17,7 @@ use Rattle.c_calls.specs.declared.kept.KeptPoints.{KeptPoints}
 use Rattle.c_calls.specs.declared.kept.KeptPoints.TheVariants.{Plain, Constrained}
 use Rattle.c_calls.specs.declared.statuses.TheConstants.{WELL, IS_PLAIN, UNEQUAL_LENGTHS}
 use Rattle.c_calls.specs.declared.statuses.TheConstants.{TOO_LARGE, TOO_SHORT, NO_SUCH_VERTEX}
-use Rattle.c_calls.specs.declared.statuses.TheConstants.{CROSSING, OUT_OF_MEMORY}
-use Rattle.c_calls.specs.Answers.{status_of_error}
+use Rattle.c_calls.specs.declared.statuses.TheConstants.{CROSSING, OUT_OF_INDEXES, OUT_OF_MEMORY}
 use Rattle.c_calls.specs.Kept.{kept_place, unnumbered_at}
 
 -- ---- a list of points
@@ -27,28 +25,35 @@ use Rattle.c_calls.specs.Kept.{kept_place, unnumbered_at}
 abbrev pub unnumbered_points : List RawPoint → List NumberedPoint
 unnumbered_points ps = map (λ p. unnumbered_at p.x p.y) ps
 
--- the status of the refusal of a list, or of one of its vertices
-abbrev pub status_of_list_error : BulkInsertionError → ℕ
-status_of_list_error (Vertex i why) = status_of_error why
-status_of_list_error (NoRoom why) = status_of_error why
-
 module _ {V D U F : Type 0} (place : V → Point) (constraints : List U → List ℕ) where
+  -- a list may be inserted: there is room for its indexes, all is in range, and there are few
+  -- enough vertices
+  pub record MayInsert (list : List V) (before : List ℕ) (old : State V D U F) : Type 0 where
+    pub room : length list ≤ length before
+    pub in_range : All (λ v. InRange (place v)) list
+    pub few : ¬ (MAX_ELEMENTS < 6 * (length old.vertices + length list))
+
   -- how the insertion of all vertices of a list ended. Their indexes are written to the front of
   -- another list where all are there, and else that stays
   pub data ListInsertion (list : List V) (status : ℕ) (before after : List ℕ)
       (old new : State V D U F) : Type 0 where
-    all_inserted : (handles : List ℕ) → status ≡ WELL
+    all_inserted : (handles : List ℕ) → status ≡ WELL → MayInsert list before old
         → InsertsAll place constraints list handles old new
         → after ≡ handles ++ drop (length handles) before
         → ListInsertion list status before after old new
     insertion_short : status ≡ TOO_SHORT → length before < length list → new ≡ old
         → after ≡ before → ListInsertion list status before after old new
-    insertion_outside : status ≡ TOO_LARGE → ¬ All (λ v. InRange (place v)) list → new ≡ old
+    insertion_outside : status ≡ TOO_LARGE → length list ≤ length before
+        → ¬ All (λ v. InRange (place v)) list → new ≡ old → after ≡ before
+        → ListInsertion list status before after old new
+    insertion_full : status ≡ OUT_OF_INDEXES → length list ≤ length before
+        → All (λ v. InRange (place v)) list
+        → MAX_ELEMENTS < 6 * (length old.vertices + length list) → new ≡ old → after ≡ before
+        → ListInsertion list status before after old new
+    insertion_refused : status ≡ OUT_OF_MEMORY → MayInsert list before old → new ≡ old
         → after ≡ before → ListInsertion list status before after old new
-    insertion_refused : (why : InsertionError) → why ≢ TooLarge → status ≡ status_of_error why
-        → new ≡ old → after ≡ before → ListInsertion list status before after old new
-    insertion_stopped : (i : ℕ) (why : InsertionError) → why ≢ TooLarge
-        → status ≡ status_of_error why → StopsLater place constraints list (Vertex i why) old new
+    insertion_stopped : (error : BulkInsertionError) → status ≡ OUT_OF_MEMORY
+        → MayInsert list before old → StopsLater place constraints list error old new
         → after ≡ before → ListInsertion list status before after old new
 
 -- an insertion of a list into either type, which stays

@@ -10,7 +10,7 @@ use Rattle.delaunay_edit.specs.plane.Shape.{IsNearest, InClosedCircle, InClosedR
 use Rattle.delaunay_edit.specs.plane.Tiling.{Face, Triangulation, HasFace, face}
 use Rattle.delaunay_edit.specs.delaunay_legalization.State.{State, triangulation_of}
 use Rattle.delaunay_shapes.specs.InShape.{AreEdgesInShape, AreVerticesInShape}
-use Rattle.spade_delaunay.specs.Elements.{FindsLocation}
+use Rattle.delaunay_interface.specs.Elements.{FindsLocation}
 use Rattle.delaunay_edit.specs.delaunay_location.declared.position_in_triangulation.PositionInTriangulation.{PositionInTriangulation}
 use Rattle.delaunay_edit.specs.delaunay_location.declared.position_in_triangulation.PositionInTriangulation.TheVariants.{
   OnVertex,

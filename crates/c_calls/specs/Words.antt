@@ -9,7 +9,7 @@ status_words s =
     if s == 0 then codes "all went well"
     else if s == 1 then codes "the triangulation is closed: open it first"
     else if s == 2 then codes "the triangulation is already open: close it first"
-    else if s == 3 then codes "there is no such kind of triangulation"
+    else if s == 3 then codes "there is no such kind of triangulation or shape"
     else if s == 4 then codes "the triangulation is plain: this call is for constrained ones"
     else if s == 5 then codes "the triangulation is constrained: this call is for plain ones"
     else if s == 6 then codes "two lists that go together have different lengths"

@@ -1,14 +1,16 @@
 //! The calls that open, close and read what a handle has.
 ghost use Rattle.std.specs.Prelude.{◌≡◌, None};
-ghost use Rattle.c_calls.specs.Calls.{OpensClosed, TellsCounts, TellsEdges, TellsEdgesInCircle};
-ghost use Rattle.c_calls.specs.Calls.{TellsEdgesInRectangle, TellsFaces, TellsLine};
-ghost use Rattle.c_calls.specs.Calls.{TellsNearest, TellsNumbers, TellsPlaces, TellsPositions};
-ghost use Rattle.c_calls.specs.Calls.{TellsVerticesInCircle, TellsVerticesInRectangle};
+ghost use Rattle.c_calls.specs.Calls.{CopiesOpen, OpensClosed, TellsCounts, TellsCrossed};
+ghost use Rattle.c_calls.specs.Calls.{TellsEdges, TellsEdgesIn, TellsFaces, TellsInSight};
+ghost use Rattle.c_calls.specs.Calls.{TellsLayers, TellsLine, TellsNearest, TellsNumbers};
+ghost use Rattle.c_calls.specs.Calls.{TellsPlaces, TellsPositions, TellsVerticesIn};
+ghost use Rattle.c_calls.specs.Answers.{OpensCopy};
 
 use crate::handle::Handle;
 use crate::kept::KeptPoints;
-use crate::raw::{RawCounts, RawEdge, RawFace, RawMeeting, RawPlace, RawPoint};
-use crate::shapes::{RawCircle, RawRectangle};
+use crate::raw::{
+    RawCounts, RawEdge, RawFace, RawMeeting, RawPlace, RawPoint, RawSegment, RawShape,
+};
 use crate::statuses::{ALREADY_OPEN, CLOSED, NO_SUCH_KIND, OUT_OF_MEMORY, WELL};
 use std::alloc::Global;
 
@@ -38,6 +40,34 @@ impl Handle {
         ensures { self.new.kept ≡ None }
     {
         drop(self.take(alloc));
+    }
+
+    /// Opens another, closed handle with a copy of what this one has.
+    pub fn copy(&mut self, alloc: Global, other: &mut Handle) -> u32
+        ensures kept { self.new.kept ≡ self.old.kept }
+        ensures copy { CopiesOpen self.old.kept result other.old.kept other.new.kept }
+    {
+        let Some(kept) = self.take(alloc) else {
+            return CLOSED;
+        };
+        let status = other.open_copy(alloc, &*kept);
+        self.put(kept, alloc);
+        status
+    }
+
+    // Opens a closed handle with a copy of a triangulation.
+    fn open_copy(&mut self, alloc: Global, kept: &KeptPoints) -> u32
+        ensures { OpensCopy kept.now result self.old.kept self.new.kept }
+    {
+        if let Some(there) = self.take(alloc) {
+            self.put(there, alloc);
+            return ALREADY_OPEN;
+        }
+        let Some(copy) = kept.boxed_clone(alloc) else {
+            return OUT_OF_MEMORY;
+        };
+        self.put(copy, alloc);
+        WELL
     }
 
     /// Tells how many parts there are.
@@ -159,83 +189,98 @@ impl Handle {
         status
     }
 
-    /// Writes the vertices in a circle, as far as there is room, and how many there are.
-    pub fn vertices_in_circle(
+    /// Writes the layer of each face, if there is room.
+    pub fn face_layers(&mut self, alloc: Global, layers: &mut [u32], length: &mut usize) -> u32
+        ensures kept { self.new.kept ≡ self.old.kept }
+        ensures layers { TellsLayers self.old.kept result length.old length.new layers.old
+            layers.new }
+    {
+        let Some(kept) = self.take(alloc) else {
+            return CLOSED;
+        };
+        let status = kept.write_layers(alloc, layers, length);
+        self.put(kept, alloc);
+        status
+    }
+
+    /// Writes the constraints that a segment crosses, as far as there is room, and how many they
+    /// are.
+    pub fn conflicts(
         &mut self,
         alloc: Global,
-        circle: RawCircle,
+        from: &RawPoint,
+        to: &RawPoint,
+        conflicts: &mut [RawSegment],
+        length: &mut usize,
+    ) -> u32
+        ensures kept { self.new.kept ≡ self.old.kept }
+        ensures conflicts { TellsCrossed self.old.kept from.now to.now result length.old length.new
+            conflicts.old conflicts.new }
+    {
+        let Some(kept) = self.take(alloc) else {
+            return CLOSED;
+        };
+        let status = kept.write_conflicts(from, to, conflicts, length);
+        self.put(kept, alloc);
+        status
+    }
+
+    /// Tells whether a segment stays in free faces, by a byte for each face.
+    pub fn in_sight(
+        &mut self,
+        alloc: Global,
+        from: &RawPoint,
+        to: &RawPoint,
+        bytes: &[u8],
+        seen: &mut u32,
+    ) -> u32
+        ensures kept { self.new.kept ≡ self.old.kept }
+        ensures seen { TellsInSight self.old.kept from.now to.now bytes.now result seen.new }
+    {
+        let Some(kept) = self.take(alloc) else {
+            return CLOSED;
+        };
+        let status = kept.find_sight(from, to, bytes, seen);
+        self.put(kept, alloc);
+        status
+    }
+
+    /// Writes the vertices in a shape, as far as there is room, and how many there are.
+    pub fn vertices_in(
+        &mut self,
+        alloc: Global,
+        shape: &RawShape,
         vertices: &mut [u32],
         length: &mut usize,
     ) -> u32
         ensures kept { self.new.kept ≡ self.old.kept }
-        ensures vertices { TellsVerticesInCircle self.old.kept circle result length.old length.new
+        ensures vertices { TellsVerticesIn self.old.kept shape.now result length.old length.new
             vertices.old vertices.new }
     {
         let Some(kept) = self.take(alloc) else {
             return CLOSED;
         };
-        let status = kept.vertices_in_circle(alloc, circle, vertices, length);
+        let status = kept.vertices_in(alloc, shape, vertices, length);
         self.put(kept, alloc);
         status
     }
 
-    /// Writes the edges with a point in a circle, as far as there is room, and how many there are.
-    pub fn edges_in_circle(
+    /// Writes the edges with a point in a shape, as far as there is room, and how many there are.
+    pub fn edges_in(
         &mut self,
         alloc: Global,
-        circle: RawCircle,
+        shape: &RawShape,
         edges: &mut [u32],
         length: &mut usize,
     ) -> u32
         ensures kept { self.new.kept ≡ self.old.kept }
-        ensures edges { TellsEdgesInCircle self.old.kept circle result length.old length.new
-            edges.old edges.new }
+        ensures edges { TellsEdgesIn self.old.kept shape.now result length.old length.new edges.old
+            edges.new }
     {
         let Some(kept) = self.take(alloc) else {
             return CLOSED;
         };
-        let status = kept.edges_in_circle(alloc, circle, edges, length);
-        self.put(kept, alloc);
-        status
-    }
-
-    /// Writes the vertices in a rectangle, as far as there is room, and how many there are.
-    pub fn vertices_in_rectangle(
-        &mut self,
-        alloc: Global,
-        rectangle: RawRectangle,
-        vertices: &mut [u32],
-        length: &mut usize,
-    ) -> u32
-        ensures kept { self.new.kept ≡ self.old.kept }
-        ensures vertices { TellsVerticesInRectangle self.old.kept rectangle result length.old
-            length.new vertices.old vertices.new }
-    {
-        let Some(kept) = self.take(alloc) else {
-            return CLOSED;
-        };
-        let status = kept.vertices_in_rectangle(alloc, rectangle, vertices, length);
-        self.put(kept, alloc);
-        status
-    }
-
-    /// Writes the edges with a point in a rectangle, as far as there is room, and how many there
-    /// are.
-    pub fn edges_in_rectangle(
-        &mut self,
-        alloc: Global,
-        rectangle: RawRectangle,
-        edges: &mut [u32],
-        length: &mut usize,
-    ) -> u32
-        ensures kept { self.new.kept ≡ self.old.kept }
-        ensures edges { TellsEdgesInRectangle self.old.kept rectangle result length.old length.new
-            edges.old edges.new }
-    {
-        let Some(kept) = self.take(alloc) else {
-            return CLOSED;
-        };
-        let status = kept.edges_in_rectangle(alloc, rectangle, edges, length);
+        let status = kept.edges_in(alloc, shape, edges, length);
         self.put(kept, alloc);
         status
     }

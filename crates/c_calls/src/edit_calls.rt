@@ -12,7 +12,7 @@ use crate::handle::Handle;
 use crate::kept::KeptPoints;
 use crate::raw::RawPoint;
 use crate::statuses::{CLOSED, WELL, status_of};
-use spade_delaunay::Point2;
+use delaunay_interface::delaunay_core::point::Point2;
 use std::alloc::Global;
 use std::mem::replace;
 

@@ -2,7 +2,7 @@
 ghost use Rattle.std.specs.Prelude.{◌≡◌, ◌↔◌, ◌<◌, [], length, IsTrue};
 ghost use Rattle.c_calls.specs.Kept.{InsertsKept, IsKeptDelaunay, CountsKept, kept_vertices};
 ghost use Rattle.c_calls.specs.Kept.{IsOfKind, kept_place};
-ghost use Rattle.c_calls.specs.Edits.{Addition, AddsKept, AllowsConstraints, Release};
+ghost use Rattle.c_calls.specs.Edits.{Addition, AddsKept, AllowsConstraints, IsSameKind, Release};
 ghost use Rattle.c_calls.specs.Edits.{ReleasesKept, Removal, RemovesKept};
 
 use crate::kept::{ConstrainedPoints, KeptPoints, PlainPoints};
@@ -11,9 +11,11 @@ use crate::raw::{NumberedPoint, RawCounts};
 use crate::statuses::{
     CROSSING, IS_CONSTRAINED, IS_PLAIN, NO_CONSTRAINT, NO_SUCH_VERTEX, OUT_OF_MEMORY, WELL,
 };
+use delaunay_interface::Triangulation;
+use delaunay_interface::delaunay_core::math::InsertionError;
+use delaunay_interface::delaunay_core::point::Point2;
+use delaunay_interface::half_edge_mesh::FixedVertexHandle;
 use exact_predicates::ExactTests;
-use spade_delaunay::handles::FixedVertexHandle;
-use spade_delaunay::{InsertionError, Point2, Triangulation};
 use std::alloc::Global;
 
 /// A vertex as it is inserted, with the number 0.
@@ -205,8 +207,10 @@ impl KeptPoints {
     }
 
     /// Forgets all.
+    #[tactic(auto, using(crate::proofs::Edited::clearances))]
     pub fn clear(&mut self)
         ensures empty { kept_vertices self.new ≡ [] }
+        ensures kind { IsSameKind self.old self.new }
         ensures headline { IsKeptDelaunay self.new }
     {
         match self {

@@ -1,6 +1,6 @@
 //! A triangulation of either type, which C keeps.
 use crate::raw::NumberedPoint;
-use spade_delaunay::{ConstrainedDelaunayTriangulation, DelaunayTriangulation};
+use delaunay_interface::{ConstrainedDelaunayTriangulation, DelaunayTriangulation};
 use std::alloc::Global;
 
 pub type PlainPoints = DelaunayTriangulation<NumberedPoint>;

@@ -3,10 +3,13 @@
 #![tactic(auto)]
 
 mod calls;
+mod conflicts;
+mod copies;
 mod edit_calls;
 mod edits;
 mod handle;
 mod kept;
+mod layers;
 mod lines;
 mod list_edits;
 mod lists;
@@ -14,6 +17,7 @@ mod loose;
 mod queries;
 mod raw;
 mod shapes;
+mod sight;
 pub mod statuses;
 mod told;
 mod words;
@@ -21,6 +25,5 @@ mod words;
 pub use handle::Handle;
 pub use lists::write_faces;
 pub use queries::is_in_range;
-pub use raw::{RawCounts, RawEdge, RawFace, RawMeeting, RawPlace, RawPoint, RawSegment};
-pub use shapes::{RawCircle, RawRectangle};
-pub use words::write_words;
+pub use raw::{RawCounts, RawEdge, RawFace, RawMeeting, RawPlace, RawPoint, RawSegment, RawShape};
+pub use words::{ended_words_of, write_words};

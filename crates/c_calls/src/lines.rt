@@ -15,12 +15,12 @@ use crate::queries::{is_in_range, point_of};
 use crate::raw::{NumberedPoint, RawMeeting, RawPoint};
 use crate::statuses::TOO_LARGE;
 use crate::told::{put, status_by_room};
+use delaunay_interface::delaunay_core::math::PlaneTests;
+use delaunay_interface::delaunay_core::point::HasPosition;
+use delaunay_interface::delaunay_legalization::ConstraintMarker;
+use delaunay_interface::half_edge_mesh::DirectedEdgeHandle;
+use delaunay_interface::{Intersection, LineIntersectionIterator, Triangulation};
 use exact_predicates::ExactTests;
-use spade_delaunay::handles::DirectedEdgeHandle;
-use spade_delaunay::{
-    ConstraintMarker, HasPosition, Intersection, LineIntersectionIterator, PlaneTests,
-    Triangulation,
-};
 
 pub const AT_VERTEX: u32 = 0;
 
@@ -44,8 +44,8 @@ fn met_edge<M: ConstraintMarker<UE>, V, DE, UE, F>(
     }
 }
 
-// What a line meets, for C.
-fn raw_meeting<M: ConstraintMarker<UE>, V, DE, UE, F>(
+/// What a line meets, for C.
+pub fn raw_meeting<M: ConstraintMarker<UE>, V, DE, UE, F>(
     item: Intersection<'_, V, DE, UE, F>,
 ) -> RawMeeting
     ensures { IsRawMeeting M.constraints item.entry result }
@@ -88,8 +88,8 @@ fn write_meetings<M: ConstraintMarker<UE>, V: HasPosition, DE, UE, F, P: PlaneTe
     status_by_room(meetings.len(), count)
 }
 
-// Whether a segment may be asked about.
-fn may_ask_line(from: &RawPoint, to: &RawPoint) -> bool
+/// Whether a segment may be asked about.
+pub fn may_ask_line(from: &RawPoint, to: &RawPoint) -> bool
     ensures { IsTrue result ↔ MayAskLine from.now to.now }
 {
     is_in_range(from) && is_in_range(to)

@@ -4,18 +4,23 @@ ghost use Rattle.std.specs.Prelude.{All, IfOk, IsTrue, Some, false};
 ghost use Rattle.c_calls.specs.declared.raw.NumberedPoint.{NumberedPoint};
 ghost use Rattle.c_calls.specs.Kept.{kept_place};
 ghost use Rattle.c_calls.specs.Lists.{AddsChainKept, ChainAddition, InsertsListKept};
-ghost use Rattle.c_calls.specs.Lists.{ListInsertion, Numbering, NumbersKept};
+ghost use Rattle.c_calls.specs.Lists.{ListInsertion, MayInsert, Numbering, NumbersKept};
 ghost use Rattle.c_calls.specs.Lists.{SegmentsAddition, chain_segments, unnumbered_points};
 
 use crate::edits::{constrain, is_vertex, unnumbered};
 use crate::kept::{ConstrainedPoints, KeptPoints};
+use crate::queries::are_in_range;
 use crate::raw::{NumberedPoint, RawPoint};
 use crate::statuses::{
-    IS_PLAIN, NO_SUCH_VERTEX, OUT_OF_MEMORY, TOO_SHORT, UNEQUAL_LENGTHS, WELL, status_of_list_error,
+    IS_PLAIN, NO_SUCH_VERTEX, OUT_OF_INDEXES, OUT_OF_MEMORY, TOO_LARGE, TOO_SHORT, UNEQUAL_LENGTHS,
+    WELL,
 };
+use delaunay_bulk::InsertAll;
+use delaunay_interface::Triangulation;
+use delaunay_interface::delaunay_core::math::InsertionError;
+use delaunay_interface::delaunay_core::point::Point2;
+use delaunay_interface::half_edge_mesh::FixedVertexHandle;
 use exact_predicates::ExactTests;
-use spade_delaunay::handles::FixedVertexHandle;
-use spade_delaunay::{InsertAll, Point2, Triangulation};
 use std::alloc::{AllocError, Global};
 
 // The vertices that are inserted at points.
@@ -43,8 +48,32 @@ fn write_indexes(vertices: &[FixedVertexHandle], indexes: &mut [u32])
     }
 }
 
+// Inserts vertices in range, for which there is room, and writes the index of each.
+fn insert_in_range<T: Triangulation<Vertex = NumberedPoint>>(
+    points: &mut T,
+    alloc: Global,
+    positions: &[RawPoint],
+    indexes: &mut [u32],
+) -> u32
+    requires { MayInsert kept_place (unnumbered_points positions.now) indexes.old
+        (T.state points.old) }
+    ensures { ListInsertion kept_place T.Constraints.constraints
+        (unnumbered_points positions.now) result indexes.old indexes.new (T.state points.old)
+        (T.state points.new) }
+{
+    let Ok(vertices) = unnumbered_all(alloc, positions) else {
+        return OUT_OF_MEMORY;
+    };
+    match points.insert_all(vertices, &ExactTests) {
+        Ok(handles) => {
+            write_indexes(handles.as_slice(), indexes);
+            WELL
+        }
+        Err(_) => OUT_OF_MEMORY,
+    }
+}
+
 // Inserts vertices, and writes the index of each.
-#[tactic(auto, using(crate::proofs::Listed::refusals))]
 fn insert_all<T: Triangulation<Vertex = NumberedPoint>>(
     points: &mut T,
     alloc: Global,
@@ -58,15 +87,13 @@ fn insert_all<T: Triangulation<Vertex = NumberedPoint>>(
     if indexes.len() < positions.len() {
         return TOO_SHORT;
     }
-    let Ok(vertices) = unnumbered_all(alloc, positions) else {
-        return OUT_OF_MEMORY;
-    };
-    match points.insert_all(vertices, &ExactTests) {
-        Ok(handles) => {
-            write_indexes(handles.as_slice(), indexes);
-            WELL
-        }
-        Err(error) => status_of_list_error(error),
+    if !are_in_range(positions) {
+        return TOO_LARGE;
+    }
+    match points.reserve(positions.len()) {
+        Ok(()) => insert_in_range(points, alloc, positions, indexes),
+        Err(InsertionError::OutOfIndexes) => OUT_OF_INDEXES,
+        Err(_) => OUT_OF_MEMORY,
     }
 }
 

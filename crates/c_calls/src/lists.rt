@@ -12,10 +12,11 @@ ghost use Rattle.c_calls.specs.Queries.{raw_position};
 use crate::kept::KeptPoints;
 use crate::raw::{NumberedPoint, RawCounts, RawEdge, RawFace, RawPoint};
 use crate::statuses::{NONE, TOO_SHORT, WELL};
-use spade_delaunay::handles::{
+use delaunay_interface::Triangulation;
+use delaunay_interface::delaunay_legalization::ConstraintMarker;
+use delaunay_interface::half_edge_mesh::{
     DirectedEdgeHandle, FaceHandle, FixedFaceHandle, FixedUndirectedEdgeHandle, FixedVertexHandle,
 };
-use spade_delaunay::{ConstraintMarker, Triangulation};
 
 // 1 where an edge is a constraint, and else 0.
 fn mark_of<M: ConstraintMarker<UE>, V, DE, UE, F>(edge: DirectedEdgeHandle<'_, V, DE, UE, F>) -> u32

@@ -9,8 +9,10 @@ use crate::kept::{KeptPoints, PlainPoints};
 use crate::lists::face_index;
 use crate::raw::{NumberedPoint, RawPlace, RawPoint};
 use crate::statuses::{IS_CONSTRAINED, NONE, TOO_LARGE, TOO_SHORT, WELL};
+use delaunay_interface::delaunay_core::math::validate_vertex;
+use delaunay_interface::delaunay_core::point::Point2;
+use delaunay_interface::{PositionInTriangulation, Triangulation};
 use exact_predicates::ExactTests;
-use spade_delaunay::{Point2, PositionInTriangulation, Triangulation, validate_vertex};
 
 pub const ON_VERTEX: u32 = 0;
 

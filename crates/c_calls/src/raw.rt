@@ -1,5 +1,5 @@
 //! What crosses between C and the library, field by field as include/tevasulim.h has it.
-use spade_delaunay::{HasPosition, Point2};
+use delaunay_interface::delaunay_core::point::{HasPosition, Point2};
 
 /// A point.
 #[repr(C)]
@@ -58,6 +58,16 @@ pub struct RawMeeting {
     pub from: u32,
     pub to: u32,
     pub constrained: u32,
+}
+
+/// A closed circle or rectangle, by its kind.
+#[repr(C)]
+#[derive(Clone, Copy)]
+pub struct RawShape {
+    pub kind: u32,
+    pub first: RawPoint,
+    pub second: RawPoint,
+    pub radius_2: i64,
 }
 
 /// How many elements a triangulation has.

@@ -1,23 +1,29 @@
 //! Vertices and edges in circles and rectangles.
 ghost use Rattle.std.specs.Prelude.{◌≡◌, MatchOption};
 ghost use Rattle.delaunay_edit.specs.delaunay_legalization.State.{triangulation_of};
-ghost use Rattle.spade_delaunay.specs.Found.{edges_left, vertices_left};
+ghost use Rattle.delaunay_shape_queries.specs.Found.{edges_left, vertices_left};
 ghost use Rattle.c_calls.specs.Kept.{kept_drawing, kept_links, kept_place};
 ghost use Rattle.c_calls.specs.Links.{AreFew, indexes_in};
 ghost use Rattle.c_calls.specs.Queries.{FindsEdgesInCircle, FindsEdgesInRectangle};
 ghost use Rattle.c_calls.specs.Queries.{FindsVerticesInCircle, FindsVerticesInRectangle};
 ghost use Rattle.c_calls.specs.Queries.{MayAskCircle, MayAskRectangle, RefusesCircle};
 ghost use Rattle.c_calls.specs.Queries.{RefusesRectangle};
+ghost use Rattle.c_calls.specs.Shapes.{FindsEdgesIn, FindsVerticesIn, shape_circle};
+ghost use Rattle.c_calls.specs.Shapes.{shape_rectangle};
 ghost use Rattle.c_calls.specs.Written.{Tells};
 
 use crate::kept::KeptPoints;
 use crate::queries::{is_in_range, point_of};
-use crate::raw::{NumberedPoint, RawPoint};
-use crate::statuses::{NEGATIVE, OUT_OF_MEMORY, TOO_LARGE};
+use crate::raw::{NumberedPoint, RawPoint, RawShape};
+use crate::statuses::{NEGATIVE, NO_SUCH_KIND, OUT_OF_MEMORY, TOO_LARGE};
 use crate::told::{put, status_by_room};
+use delaunay_shape_queries::{EdgesInShapeIterator, FloatTriangulation, VerticesInShapeIterator};
 use exact_predicates::ExactTests;
-use spade_delaunay::{EdgesInShapeIterator, FloatTriangulation, VerticesInShapeIterator};
 use std::alloc::Global;
+
+pub const CIRCLE: u32 = 0;
+
+pub const RECTANGLE: u32 = 1;
 
 // Writes the indexes of vertices as far as there is room, and how many there are.
 fn write_vertices<V, DE, UE, F>(
@@ -77,6 +83,26 @@ impl RawCircle {
 pub struct RawRectangle {
     pub lower: RawPoint,
     pub upper: RawPoint,
+}
+
+// The circle of a shape.
+fn circle_of(shape: &RawShape) -> RawCircle
+    ensures { result ≡ shape_circle shape.now }
+{
+    RawCircle {
+        center: shape.first,
+        radius_2: shape.radius_2,
+    }
+}
+
+// The rectangle of a shape.
+fn rectangle_of(shape: &RawShape) -> RawRectangle
+    ensures { result ≡ shape_rectangle shape.now }
+{
+    RawRectangle {
+        lower: shape.first,
+        upper: shape.second,
+    }
 }
 
 // Why a circle may not be asked about, if it may not.
@@ -194,87 +220,74 @@ fn edges_in_rectangle<T: FloatTriangulation<Vertex = NumberedPoint>>(
     }
 }
 
+// Writes the vertices in a shape.
+fn vertices_in<T: FloatTriangulation<Vertex = NumberedPoint>>(
+    points: &T,
+    alloc: Global,
+    shape: &RawShape,
+    vertices: &mut [u32],
+    length: &mut usize,
+) -> u32
+    ensures { FindsVerticesIn (triangulation_of kept_place (T.state points.now)) shape.now result
+        length.old length.new vertices.old vertices.new }
+{
+    match shape.kind {
+        CIRCLE => vertices_in_circle(points, alloc, circle_of(shape), vertices, length),
+        RECTANGLE => vertices_in_rectangle(points, alloc, rectangle_of(shape), vertices, length),
+        _ => NO_SUCH_KIND,
+    }
+}
+
+// Writes the edges in a shape.
+fn edges_in<T: FloatTriangulation<Vertex = NumberedPoint>>(
+    points: &T,
+    alloc: Global,
+    shape: &RawShape,
+    edges: &mut [u32],
+    length: &mut usize,
+) -> u32
+    ensures { FindsEdgesIn (triangulation_of kept_place (T.state points.now))
+        (T.state points.now).mesh shape.now result length.old length.new edges.old edges.new }
+{
+    match shape.kind {
+        CIRCLE => edges_in_circle(points, alloc, circle_of(shape), edges, length),
+        RECTANGLE => edges_in_rectangle(points, alloc, rectangle_of(shape), edges, length),
+        _ => NO_SUCH_KIND,
+    }
+}
+
 impl KeptPoints {
-    /// Writes the vertices in a circle, as far as there is room, and how many there are.
-    pub fn vertices_in_circle(
+    /// Writes the vertices in a shape, as far as there is room, and how many there are.
+    pub fn vertices_in(
         &self,
         alloc: Global,
-        circle: RawCircle,
+        shape: &RawShape,
         vertices: &mut [u32],
         length: &mut usize,
     ) -> u32
-        ensures { FindsVerticesInCircle (kept_drawing self.now) circle result length.old length.new
+        ensures { FindsVerticesIn (kept_drawing self.now) shape.now result length.old length.new
             vertices.old vertices.new }
     {
         match self {
-            KeptPoints::Plain(points) => {
-                vertices_in_circle(points, alloc, circle, vertices, length)
-            }
-            KeptPoints::Constrained(points) => {
-                vertices_in_circle(points, alloc, circle, vertices, length)
-            }
+            KeptPoints::Plain(points) => vertices_in(points, alloc, shape, vertices, length),
+            KeptPoints::Constrained(points) => vertices_in(points, alloc, shape, vertices, length),
         }
     }
 
-    /// Writes the edges with a point in a circle, as far as there is room, and how many there are.
-    pub fn edges_in_circle(
+    /// Writes the edges with a point in a shape, as far as there is room, and how many there are.
+    pub fn edges_in(
         &self,
         alloc: Global,
-        circle: RawCircle,
+        shape: &RawShape,
         edges: &mut [u32],
         length: &mut usize,
     ) -> u32
-        ensures { FindsEdgesInCircle (kept_drawing self.now) (kept_links self.now) circle result
+        ensures { FindsEdgesIn (kept_drawing self.now) (kept_links self.now) shape.now result
             length.old length.new edges.old edges.new }
     {
         match self {
-            KeptPoints::Plain(points) => edges_in_circle(points, alloc, circle, edges, length),
-            KeptPoints::Constrained(points) => {
-                edges_in_circle(points, alloc, circle, edges, length)
-            }
-        }
-    }
-
-    /// Writes the vertices in a rectangle, as far as there is room, and how many there are.
-    pub fn vertices_in_rectangle(
-        &self,
-        alloc: Global,
-        rectangle: RawRectangle,
-        vertices: &mut [u32],
-        length: &mut usize,
-    ) -> u32
-        ensures { FindsVerticesInRectangle (kept_drawing self.now) rectangle result length.old
-            length.new vertices.old vertices.new }
-    {
-        match self {
-            KeptPoints::Plain(points) => {
-                vertices_in_rectangle(points, alloc, rectangle, vertices, length)
-            }
-            KeptPoints::Constrained(points) => {
-                vertices_in_rectangle(points, alloc, rectangle, vertices, length)
-            }
-        }
-    }
-
-    /// Writes the edges with a point in a rectangle, as far as there is room, and how many there
-    /// are.
-    pub fn edges_in_rectangle(
-        &self,
-        alloc: Global,
-        rectangle: RawRectangle,
-        edges: &mut [u32],
-        length: &mut usize,
-    ) -> u32
-        ensures { FindsEdgesInRectangle (kept_drawing self.now) (kept_links self.now) rectangle
-            result length.old length.new edges.old edges.new }
-    {
-        match self {
-            KeptPoints::Plain(points) => {
-                edges_in_rectangle(points, alloc, rectangle, edges, length)
-            }
-            KeptPoints::Constrained(points) => {
-                edges_in_rectangle(points, alloc, rectangle, edges, length)
-            }
+            KeptPoints::Plain(points) => edges_in(points, alloc, shape, edges, length),
+            KeptPoints::Constrained(points) => edges_in(points, alloc, shape, edges, length),
         }
     }
 }

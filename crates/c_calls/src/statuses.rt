@@ -1,9 +1,8 @@
 //! How a call ended, by a number.
 ghost use Rattle.std.specs.Prelude.{◌≡◌};
 ghost use Rattle.c_calls.specs.Answers.{status_of_error};
-ghost use Rattle.c_calls.specs.Lists.{status_of_list_error};
 
-use spade_delaunay::{BulkInsertionError, InsertionError};
+use delaunay_interface::delaunay_core::math::InsertionError;
 
 /// All went well.
 pub const WELL: u32 = 0;
@@ -14,7 +13,7 @@ pub const CLOSED: u32 = 1;
 /// It is open, and was to be opened.
 pub const ALREADY_OPEN: u32 = 2;
 
-/// Neither plain nor constrained.
+/// No triangulation or no shape is of this kind.
 pub const NO_SUCH_KIND: u32 = 3;
 
 /// A call for constrained ones alone.
@@ -67,15 +66,5 @@ pub fn status_of(error: InsertionError) -> u32
         InsertionError::TooLarge => TOO_LARGE,
         InsertionError::OutOfIndexes => OUT_OF_INDEXES,
         InsertionError::OutOfMemory => OUT_OF_MEMORY,
-    }
-}
-
-/// The status of the refusal of a list, or of one of its vertices.
-pub fn status_of_list_error(error: BulkInsertionError) -> u32
-    ensures { result ≡ status_of_list_error error }
-{
-    match error {
-        BulkInsertionError::Vertex { place: _, error } => status_of(error),
-        BulkInsertionError::NoRoom(error) => status_of(error),
     }
 }

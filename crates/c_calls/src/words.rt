@@ -1,31 +1,31 @@
 //! The statuses in words.
-ghost use Rattle.std.specs.Prelude.{◌≡◌, ◌≤◌, ◌++◌, drop, length};
+ghost use Rattle.std.specs.Prelude.{◌≡◌, ◌≤◌, ◌++◌, ◌∷◌, [], drop, length};
 ghost use Rattle.c_calls.specs.Words.{TellsWords, status_words};
 
 use crate::statuses::{NO_SUCH_STATUS, TOO_SHORT, WELL};
 
-// A status in words, of a number that is none those of `NO_SUCH_STATUS`.
-fn words_of(status: u32) -> &'static str
-    ensures { result.now ≡ status_words status }
+/// A status in words and a final 0 byte, of a number that is none those of `NO_SUCH_STATUS`.
+pub fn ended_words_of(status: u32) -> &'static str
+    ensures { result.now ≡ status_words status ++ 0 ∷ [] }
 {
     match status {
-        0 => "all went well",
-        1 => "the triangulation is closed: open it first",
-        2 => "the triangulation is already open: close it first",
-        3 => "there is no such kind of triangulation",
-        4 => "the triangulation is plain: this call is for constrained ones",
-        5 => "the triangulation is constrained: this call is for plain ones",
-        6 => "two lists that go together have different lengths",
-        7 => "a coordinate is out of range: it is more than 2^29 or less than -2^29",
-        8 => "a squared radius is negative",
-        9 => "there is no vertex with this index",
-        10 => "a segment names a point that is not in the list",
-        11 => "a constraint crosses the segment",
-        12 => "no constraint joins the two vertices",
-        13 => "a list is too short",
-        14 => "there are too many vertices for 32-bit indexes",
-        15 => "there is not enough memory",
-        _ => "there is no such status",
+        0 => "all went well\0",
+        1 => "the triangulation is closed: open it first\0",
+        2 => "the triangulation is already open: close it first\0",
+        3 => "there is no such kind of triangulation or shape\0",
+        4 => "the triangulation is plain: this call is for constrained ones\0",
+        5 => "the triangulation is constrained: this call is for plain ones\0",
+        6 => "two lists that go together have different lengths\0",
+        7 => "a coordinate is out of range: it is more than 2^29 or less than -2^29\0",
+        8 => "a squared radius is negative\0",
+        9 => "there is no vertex with this index\0",
+        10 => "a segment names a point that is not in the list\0",
+        11 => "a constraint crosses the segment\0",
+        12 => "no constraint joins the two vertices\0",
+        13 => "a list is too short\0",
+        14 => "there are too many vertices for 32-bit indexes\0",
+        15 => "there is not enough memory\0",
+        _ => "there is no such status\0",
     }
 }
 
@@ -43,13 +43,12 @@ fn write_bytes(bytes: &[u8], text: &mut [u8])
 pub fn write_words(status: u32, text: &mut [u8], length: &mut usize) -> u32
     ensures { TellsWords status result length.new text.old text.new }
 {
-    let words = words_of(status).as_bytes();
-    *length = words.len();
-    if text.len() <= words.len() {
+    let words = ended_words_of(status).as_bytes();
+    *length = words.len() - 1;
+    if text.len() < words.len() {
         return TOO_SHORT;
     }
     write_bytes(words, text);
-    text[words.len()] = 0;
     if status < NO_SUCH_STATUS {
         WELL
     } else {

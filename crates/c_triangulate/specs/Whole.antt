@@ -1,7 +1,8 @@
 -- What one call makes of points and segments between them.
-use Rattle.std.specs.Prelude.{◌≡◌, ◌⊎◌, ◌<◌, [], ℕ, ℤ, List, length, map, take, IsTrue, IsSomeAnd}
+use Rattle.std.specs.Prelude.{◌≡◌, ◌*◌, ◌<◌, [], ℕ, ℤ, List, length, map, take, IsTrue, IsSomeAnd}
 use Rattle.std.specs.Prelude.{slice_get, slice_index}
 use Rattle.delaunay_edit.specs.plane.Tiling.{Triangulation}
+use Rattle.delaunay_edit.specs.half_edge_links.declared.room.TheConstants.{MAX_ELEMENTS}
 use Rattle.delaunay_edit.specs.delaunay_core.declared.point.Point2.{Point2}
 use Rattle.delaunay_edit.specs.delaunay_legalization.State.{triangulation_of}
 use Rattle.delaunay_edit.specs.Constrained.{constraints_of}
@@ -73,9 +74,10 @@ ListsNamedFaces m status told old new =
     Listing (IsNamedFaceAt m) (length (drawing_of m).faces) status told old new
 
 -- ---- the call
--- memory or indexes are wanting
-abbrev pub IsWanting : ℕ → Type 0
-IsWanting status = (status ≡ OUT_OF_MEMORY) ⊎ (status ≡ OUT_OF_INDEXES)
+-- the points may be drawn: all are in range, and they are few enough for indexes
+pub record MayDraw (points : List RawPoint) : Type 0 where
+  pub in_range : FirstAre IsRawInRange points (length points)
+  pub few : ¬ (MAX_ELEMENTS < 6 * length points)
 
 -- each segment of a drawing was taken
 abbrev pub AllTaken : DrawnMesh → Type 0
@@ -87,8 +89,8 @@ pub record DrawsFirst (points : List RawPoint) (segments : List RawSegment) (n :
   pub ends : FirstAre (EndsAtPoints (length points)) segments n
   pub drawn : AreDrawn points (take n segments) m
 
--- how it ended: the faces are listed where each segment is in the drawing, or it tells what is
--- wrong, and at which place
+-- how the drawing of such points ended: the faces are listed where each segment is in the drawing,
+-- or it tells which segment is wrong, or memory was refused
 pub data DrawsFaces (points : List RawPoint) (segments : List RawSegment)
     (status at was told : ℕ) (old new : List RawFace) : Type 0 where
   faces_drawn : (m : DrawnMesh) → DrawsFirst points segments (length segments) m → AllTaken m
@@ -100,7 +102,17 @@ pub data DrawsFaces (points : List RawPoint) (segments : List RawSegment)
   segment_of_none : (m : DrawnMesh) → status ≡ NO_SUCH_POINT → DrawsFirst points segments at m
       → AllTaken m → IsFirstNot (EndsAtPoints (length points)) segments at → told ≡ was
       → new ≡ old → DrawsFaces points segments status at was told old new
-  point_outside : status ≡ TOO_LARGE → IsFirstNot IsRawInRange points at → told ≡ was
-      → new ≡ old → DrawsFaces points segments status at was told old new
-  drawing_refused : IsWanting status → told ≡ was → new ≡ old
+  drawing_refused : status ≡ OUT_OF_MEMORY → told ≡ was → new ≡ old
       → DrawsFaces points segments status at was told old new
+
+-- how the call ended: it tells which point is out of range, or that there are too many, or it drew
+-- them
+pub data Triangulates (points : List RawPoint) (segments : List RawSegment)
+    (status at was told : ℕ) (old new : List RawFace) : Type 0 where
+  drawn : MayDraw points → DrawsFaces points segments status at was told old new
+      → Triangulates points segments status at was told old new
+  point_outside : status ≡ TOO_LARGE → IsFirstNot IsRawInRange points at → told ≡ was
+      → new ≡ old → Triangulates points segments status at was told old new
+  too_many_points : status ≡ OUT_OF_INDEXES → FirstAre IsRawInRange points (length points)
+      → MAX_ELEMENTS < 6 * length points → told ≡ was → new ≡ old
+      → Triangulates points segments status at was told old new

@@ -1,15 +1,16 @@
 //! Points and segments in, faces out.
-ghost use Rattle.std.specs.Prelude.{◌≡◌, ◌↔◌, ◌<◌, ◌≤◌, length, map, slice_index};
+ghost use Rattle.std.specs.Prelude.{◌≡◌, ◌↔◌, ◌*◌, ◌<◌, ◌≤◌, length, map, slice_index};
 ghost use Rattle.std.specs.Prelude.{IfOk, IsTrue, MatchOption};
 ghost use Rattle.c_triangulate.specs.Whole.{AreDrawn, DrawsFaces, EndsAtPoints, FirstAre};
-ghost use Rattle.c_triangulate.specs.Whole.{IsFirstNot, IsNamedOf, IsWanting, ListsNamedFaces};
+ghost use Rattle.c_triangulate.specs.Whole.{IsFirstNot, IsNamedOf, ListsNamedFaces, Triangulates};
 ghost use Rattle.c_triangulate.specs.Whole.{drawn_point, drawn_segment, named_face};
 ghost use Rattle.c_calls.specs.Written.{Answered, IsRawInRange};
 
 use c_calls::statuses::{CROSSING, NO_SUCH_POINT, OUT_OF_INDEXES, OUT_OF_MEMORY, TOO_LARGE, WELL};
 use c_calls::{RawFace, RawPoint, RawSegment, is_in_range, write_faces};
+use delaunay_interface::delaunay_core::point::Point2;
+use delaunay_interface::half_edge_mesh::MAX_ELEMENTS;
 use drawing_faces::{DrawingError, DrawnMesh, DrawnSegment, Kept, triangulate_drawing};
-use spade_delaunay::Point2;
 use std::alloc::{AllocError, Global};
 
 // The place of the first point that is out of range, if there is one.
@@ -107,16 +108,6 @@ fn drawn_mesh(
     )
 }
 
-// The status where no drawing was made of points in range and segments between them.
-fn status_of_drawing(error: DrawingError) -> u32
-    ensures { IsWanting result }
-{
-    match error {
-        DrawingError::TooMany => OUT_OF_INDEXES,
-        _ => OUT_OF_MEMORY,
-    }
-}
-
 // The name of a vertex.
 fn vertex_name(names: &[u32], vertex: u32) -> u32
     ensures { result ≡ slice_index names.now vertex }
@@ -158,8 +149,15 @@ fn write_drawn(drawn: &DrawnMesh, faces: &mut [RawFace], length: &mut usize) -> 
     WELL
 }
 
-/// Writes the faces of the constrained triangulation of points and segments, if there is room.
-pub fn triangulate(
+// Whether so many points are too many for indexes.
+fn are_too_many(count: usize) -> bool
+    ensures { IsTrue result ↔ (MAX_ELEMENTS < 6 * count) }
+{
+    count > MAX_ELEMENTS / 6
+}
+
+// Writes the faces of the constrained triangulation of points and segments, if there is room.
+fn draw(
     points: &[RawPoint],
     segments: &[RawSegment],
     faces: &mut [RawFace],
@@ -170,14 +168,9 @@ pub fn triangulate(
     ensures { DrawsFaces points.now segments.now result at.new length.old length.new faces.old
         faces.new }
 {
-    if let Some(place) = first_outside(points) {
-        *at = place;
-        return TOO_LARGE;
-    }
     let known = known_segments(segments, points.len());
-    let drawn = match drawn_mesh(points, &segments[..known], alloc) {
-        Ok(drawn) => drawn,
-        Err(error) => return status_of_drawing(error),
+    let Ok(drawn) = drawn_mesh(points, &segments[..known], alloc) else {
+        return OUT_OF_MEMORY;
     };
     if let Some(place) = first_untaken(drawn.taken.as_slice()) {
         *at = place;
@@ -188,4 +181,26 @@ pub fn triangulate(
         return NO_SUCH_POINT;
     }
     write_drawn(&drawn, faces, length)
+}
+
+/// Writes the faces of the constrained triangulation of points and segments, if there is room.
+pub fn triangulate(
+    points: &[RawPoint],
+    segments: &[RawSegment],
+    faces: &mut [RawFace],
+    length: &mut usize,
+    at: &mut usize,
+    alloc: Global,
+) -> u32
+    ensures { Triangulates points.now segments.now result at.new length.old length.new faces.old
+        faces.new }
+{
+    if let Some(place) = first_outside(points) {
+        *at = place;
+        return TOO_LARGE;
+    }
+    if are_too_many(points.len()) {
+        return OUT_OF_INDEXES;
+    }
+    draw(points, segments, faces, length, at, alloc)
 }

@@ -1,16 +1,14 @@
 //! The calls that open, close and read a triangulation, and those without one that C keeps.
 ghost use Rattle.std.specs.Prelude.{◌≡◌, None};
-ghost use Rattle.c_calls.specs.Calls.{OpensClosed, TellsCounts, TellsEdges, TellsEdgesInCircle};
-ghost use Rattle.c_calls.specs.Calls.{TellsEdgesInRectangle, TellsFaces, TellsLine};
-ghost use Rattle.c_calls.specs.Calls.{TellsNearest, TellsNumbers, TellsPlaces, TellsPositions};
-ghost use Rattle.c_calls.specs.Calls.{TellsVerticesInCircle, TellsVerticesInRectangle, raw_circle};
-ghost use Rattle.c_calls.specs.Calls.{raw_rectangle};
+ghost use Rattle.c_calls.specs.Calls.{CopiesOpen, OpensClosed, TellsCounts, TellsCrossed};
+ghost use Rattle.c_calls.specs.Calls.{TellsEdges, TellsEdgesIn, TellsFaces, TellsInSight};
+ghost use Rattle.c_calls.specs.Calls.{TellsLayers, TellsLine, TellsNearest, TellsNumbers};
+ghost use Rattle.c_calls.specs.Calls.{TellsPlaces, TellsPositions, TellsVerticesIn};
 ghost use Rattle.c_calls.specs.Words.{TellsWords};
-ghost use Rattle.c_triangulate.specs.Whole.{DrawsFaces};
+ghost use Rattle.c_triangulate.specs.Whole.{Triangulates};
 
 use c_calls::{
-    Handle, RawCircle, RawCounts, RawEdge, RawFace, RawMeeting, RawPlace, RawPoint, RawRectangle,
-    RawSegment,
+    Handle, RawCounts, RawEdge, RawFace, RawMeeting, RawPlace, RawPoint, RawSegment, RawShape,
 };
 use std::alloc::Global;
 
@@ -29,6 +27,12 @@ pub extern "C" fn tevasulim_status_text(status: u32, text: &mut [u8], length: &m
     c_calls::write_words(status, text, length)
 }
 
+// Finds the words of a status, with a final 0 byte, for `tevasulim_status_string` of c/calls.c.
+#[unsafe(no_mangle)]
+pub extern "C" fn tevasulim_find_status_text(status: u32, text: &mut *const u8) {
+    *text = c_calls::ended_words_of(status).as_bytes().as_ptr();
+}
+
 #[unsafe(no_mangle)]
 pub extern "C" fn tevasulim_open(alloc: Global, handle: &mut Handle, kind: u32) -> u32
     ensures { OpensClosed kind result handle.old.kept handle.new.kept }
@@ -36,11 +40,20 @@ pub extern "C" fn tevasulim_open(alloc: Global, handle: &mut Handle, kind: u32) 
     handle.open(alloc, kind)
 }
 
+// `tevasulim_close` of c/calls.c is this for any pointer but NULL.
 #[unsafe(no_mangle)]
-pub extern "C" fn tevasulim_close(alloc: Global, handle: &mut Handle)
+pub extern "C" fn tevasulim_close_handle(alloc: Global, handle: &mut Handle)
     ensures { handle.new.kept ≡ None }
 {
     handle.close(alloc)
+}
+
+#[unsafe(no_mangle)]
+pub extern "C" fn tevasulim_copy(alloc: Global, handle: &mut Handle, copy: &mut Handle) -> u32
+    ensures kept { handle.new.kept ≡ handle.old.kept }
+    ensures copy { CopiesOpen handle.old.kept result copy.old.kept copy.new.kept }
+{
+    handle.copy(alloc, copy)
 }
 
 #[unsafe(no_mangle)]
@@ -106,6 +119,19 @@ pub extern "C" fn tevasulim_faces(
 }
 
 #[unsafe(no_mangle)]
+pub extern "C" fn tevasulim_face_layers(
+    alloc: Global,
+    handle: &mut Handle,
+    layers: &mut [u32],
+    length: &mut usize,
+) -> u32
+    ensures kept { handle.new.kept ≡ handle.old.kept }
+    ensures layers { TellsLayers handle.old.kept result length.old length.new layers.old layers.new }
+{
+    handle.face_layers(alloc, layers, length)
+}
+
+#[unsafe(no_mangle)]
 pub extern "C" fn tevasulim_locate(
     alloc: Global,
     handle: &mut Handle,
@@ -148,83 +174,64 @@ pub extern "C" fn tevasulim_line(
 }
 
 #[unsafe(no_mangle)]
-pub extern "C" fn tevasulim_vertices_in_circle(
+pub extern "C" fn tevasulim_conflicts(
     alloc: Global,
     handle: &mut Handle,
-    center: &RawPoint,
-    radius_2: i64,
+    from: &RawPoint,
+    to: &RawPoint,
+    conflicts: &mut [RawSegment],
+    length: &mut usize,
+) -> u32
+    ensures kept { handle.new.kept ≡ handle.old.kept }
+    ensures conflicts { TellsCrossed handle.old.kept from.now to.now result length.old length.new
+        conflicts.old conflicts.new }
+{
+    handle.conflicts(alloc, from, to, conflicts, length)
+}
+
+#[unsafe(no_mangle)]
+pub extern "C" fn tevasulim_in_sight(
+    alloc: Global,
+    handle: &mut Handle,
+    from: &RawPoint,
+    to: &RawPoint,
+    bytes: &[u8],
+    seen: &mut u32,
+) -> u32
+    ensures kept { handle.new.kept ≡ handle.old.kept }
+    ensures seen { TellsInSight handle.old.kept from.now to.now bytes.now result seen.new }
+{
+    handle.in_sight(alloc, from, to, bytes, seen)
+}
+
+#[unsafe(no_mangle)]
+pub extern "C" fn tevasulim_vertices_in(
+    alloc: Global,
+    handle: &mut Handle,
+    shape: &RawShape,
     vertices: &mut [u32],
     length: &mut usize,
 ) -> u32
     ensures kept { handle.new.kept ≡ handle.old.kept }
-    ensures vertices { TellsVerticesInCircle handle.old.kept (raw_circle center.now radius_2)
-        result length.old length.new vertices.old vertices.new }
+    ensures vertices { TellsVerticesIn handle.old.kept shape.now result length.old length.new
+        vertices.old vertices.new }
 {
-    let circle = RawCircle {
-        center: *center,
-        radius_2,
-    };
-    handle.vertices_in_circle(alloc, circle, vertices, length)
+    handle.vertices_in(alloc, shape, vertices, length)
 }
 
 #[unsafe(no_mangle)]
-pub extern "C" fn tevasulim_edges_in_circle(
+pub extern "C" fn tevasulim_edges_in(
     alloc: Global,
     handle: &mut Handle,
-    center: &RawPoint,
-    radius_2: i64,
+    shape: &RawShape,
     edges: &mut [u32],
     length: &mut usize,
 ) -> u32
     ensures kept { handle.new.kept ≡ handle.old.kept }
-    ensures edges { TellsEdgesInCircle handle.old.kept (raw_circle center.now radius_2)
-        result length.old length.new edges.old edges.new }
+    ensures edges { TellsEdgesIn handle.old.kept shape.now result length.old length.new edges.old
+        edges.new }
 {
-    let circle = RawCircle {
-        center: *center,
-        radius_2,
-    };
-    handle.edges_in_circle(alloc, circle, edges, length)
-}
-
-#[unsafe(no_mangle)]
-pub extern "C" fn tevasulim_vertices_in_rectangle(
-    alloc: Global,
-    handle: &mut Handle,
-    lower: &RawPoint,
-    upper: &RawPoint,
-    vertices: &mut [u32],
-    length: &mut usize,
-) -> u32
-    ensures kept { handle.new.kept ≡ handle.old.kept }
-    ensures vertices { TellsVerticesInRectangle handle.old.kept (raw_rectangle lower.now upper.now)
-        result length.old length.new vertices.old vertices.new }
-{
-    let rectangle = RawRectangle {
-        lower: *lower,
-        upper: *upper,
-    };
-    handle.vertices_in_rectangle(alloc, rectangle, vertices, length)
-}
-
-#[unsafe(no_mangle)]
-pub extern "C" fn tevasulim_edges_in_rectangle(
-    alloc: Global,
-    handle: &mut Handle,
-    lower: &RawPoint,
-    upper: &RawPoint,
-    edges: &mut [u32],
-    length: &mut usize,
-) -> u32
-    ensures kept { handle.new.kept ≡ handle.old.kept }
-    ensures edges { TellsEdgesInRectangle handle.old.kept (raw_rectangle lower.now upper.now)
-        result length.old length.new edges.old edges.new }
-{
-    let rectangle = RawRectangle {
-        lower: *lower,
-        upper: *upper,
-    };
-    handle.edges_in_rectangle(alloc, rectangle, edges, length)
+    handle.edges_in(alloc, shape, edges, length)
 }
 
 #[unsafe(no_mangle)]
@@ -236,7 +243,7 @@ pub extern "C" fn tevasulim_triangulate(
     length: &mut usize,
     at: &mut usize,
 ) -> u32
-    ensures { DrawsFaces points.now segments.now result at.new length.old length.new faces.old
+    ensures { Triangulates points.now segments.now result at.new length.old length.new faces.old
         faces.new }
 {
     c_triangulate::triangulate(points, segments, faces, length, at, alloc)

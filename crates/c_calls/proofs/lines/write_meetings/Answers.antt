@@ -1,11 +1,13 @@
 use Rattle.std.proofs.Common.{◌≡◌, ◌∙◌, ◌+◌, List, length, set, sym, ap, subst, arith}
+use Rattle.std.specs.List.{AllZip}
 use Rattle.delaunay_edit.specs.delaunay_legalization.Constraints.{constraints_by}
 use Rattle.delaunay_edit.specs.delaunay_legalization.State.{state_of}
+use Rattle.delaunay_edit.specs.delaunay_lines.Items.{item_in}
 use Rattle.c_calls.specs.declared.raw.RawMeeting.{RawMeeting}
 use Rattle.c_calls.specs.Queries.{IsMeeting}
 use Rattle.c_calls.proofs.Telling.{all_told}
-use Rattle.c_calls.proofs.Walked.{IsToldOf, item_mesh, item_more, meeting_of, walk_begins}
-use Rattle.c_calls.proofs.Walked.{walk_ends, walk_goes_on}
+use Rattle.c_calls.proofs.Walked.{IsToldOf, each_more, item_mesh, item_more, meeting_of, no_more}
+use Rattle.c_calls.proofs.Walked.{walk_begins, walk_ends, walk_goes_on}
 use Rattle.c_calls.proofs.lines.write_meetings.Goals as goal
 
 pub loop-item-init : goal.loop-item-init
@@ -15,7 +17,8 @@ loop-item-init g c =
     let line = c.args.line.now in
     let R = IsMeeting (constraints_by g.M.ConstraintMarker.constraints
     (state_of line.dcel.now)) in
-    record { ready = c.requires.ready; so_far = walk_begins at whole R line c.args.meetings.now }
+    let Each = AllZip R in
+    record { ready = c.requires.ready; so_far = walk_begins at whole Each line c.args.meetings.now tt }
 
 pub overflow_add-count : goal.overflow_add-count
 overflow_add-count g c =
@@ -24,9 +27,11 @@ overflow_add-count g c =
     let line = c.args.line.now in
     let R = IsMeeting (constraints_by g.M.ConstraintMarker.constraints
     (state_of line.dcel.now)) in
-    let more = item_more at whole R line c.loop-item.line c.loop-item.count
+    let Each = AllZip R in
+    let more = item_more at whole Each line c.loop-item.line c.loop-item.count
     c.args.meetings.now c.loop-item.meetings c.loop-item.invariant.so_far c.next.new.self
-    c.in-Some.item c.in-Some.ensures.steps c.requires.ready.items c.requires.ready.are_left in
+    c.in-Some.item c.in-Some.ensures.steps c.requires.ready.items c.requires.ready.are_left
+    (no_more R) in
     let few = c.requires.ready.few in
     omega (arith, more, few)
 
@@ -37,19 +42,21 @@ loop-item-preserved g c =
     let line = c.args.line.now in
     let R = IsMeeting (constraints_by g.M.ConstraintMarker.constraints
     (state_of line.dcel.now)) in
-    let mesh = item_mesh at whole R line c.loop-item.line c.loop-item.count
+    let Each = AllZip R in
+    let mesh = item_mesh at whole Each line c.loop-item.line c.loop-item.count
     c.args.meetings.now c.loop-item.meetings c.loop-item.invariant.so_far c.next.new.self
     c.in-Some.item c.in-Some.ensures.steps c.requires.ready.items c.requires.ready.are_left in
     record {
       ready = c.in-Some.ensures.goes.keeps;
-      so_far = subst (λ (now : List RawMeeting). IsToldOf at whole R line c.next.new.self
+      so_far = subst (λ (now : List RawMeeting). IsToldOf at whole Each line c.next.new.self
           (c.loop-item.count + 1) c.args.meetings.now now) (sym c.put.ensures)
-          (walk_goes_on at whole R line c.loop-item.line c.loop-item.count
+          (walk_goes_on at whole Each line c.loop-item.line c.loop-item.count
           c.args.meetings.now c.loop-item.meetings c.loop-item.invariant.so_far c.next.new.self
           c.in-Some.item c.in-Some.ensures.steps c.raw_meeting.result
+          (λ ms bs e. each_more R ms bs (item_in c.in-Some.item) c.raw_meeting.result e
           (meeting_of at g.M.ConstraintMarker.marks g.M.ConstraintMarker.constraints
           g.met.M.ConstraintMarker.constraints_are_marked line.dcel c.requires.kept c.in-Some.item
-          c.raw_meeting.result mesh c.raw_meeting.ensures));
+          c.raw_meeting.result mesh c.raw_meeting.ensures)));
     }
 
 pub returns : goal.returns
@@ -59,7 +66,8 @@ returns g c = λ items left.
     let line = c.args.line.now in
     let R = IsMeeting (constraints_by g.M.ConstraintMarker.constraints
     (state_of line.dcel.now)) in
-    let all = walk_ends at whole R line c.loop-item.line c.loop-item.count
+    let Each = AllZip R in
+    let all = walk_ends at whole Each line c.loop-item.line c.loop-item.count
     c.args.meetings.now c.loop-item.meetings c.loop-item.invariant.so_far c.next.new.self
     c.in_default.ensures.steps items left in (
       all.0,

@@ -1,3 +1,4 @@
+use Rattle.std.specs.List.{AllZip}
 use Rattle.delaunay_edit.specs.delaunay_legalization.Constraints.{constraints_by}
 use Rattle.delaunay_edit.specs.delaunay_legalization.State.{state_of}
 use Rattle.delaunay_edit.specs.delaunay_lines.Walk.{IsReady}
@@ -10,7 +11,8 @@ invariant-loop-item g l = record {
   ready : IsReady g.V.HasPosition.place g.V.Scalar.SpadeNum.whole g.P.PlaneTests.sites
       g.P.PlaneTests.covered l.line;
   so_far : IsToldOf g.V.HasPosition.place g.V.Scalar.SpadeNum.whole
-      (IsMeeting (constraints_by g.M.ConstraintMarker.constraints (state_of l.fn.line.dcel.now)))
+      (AllZip (IsMeeting (constraints_by g.M.ConstraintMarker.constraints
+      (state_of l.fn.line.dcel.now))))
       l.fn.line l.line l.count l.fn.meetings l.meetings;
 }
 

@@ -2,7 +2,7 @@ use Rattle.std.proofs.Common.{List, length, Bool, refl, subst, arith}
 use Rattle.std.specs.Prelude.{IsTrue}
 use Rattle.c_triangulate.specs.Whole.{FirstAre, IsFirstNot, segment_crossing, segment_of_none}
 use Rattle.c_triangulate.proofs.Drawings.{whole_is_drawn}
-use Rattle.c_triangulate.proofs.whole.triangulate.Goals as goal
+use Rattle.c_triangulate.proofs.whole.draw.Goals as goal
 
 pub returns-in-Some-first_untaken : goal.returns-in-Some-first_untaken
 returns-in-Some-first_untaken c =

@@ -1,10 +1,10 @@
-use Rattle.std.proofs.Common.{◌≡◌, ◌++◌, ℕ, List, length, drop, refl, sym, subst}
+use Rattle.std.proofs.Common.{◌≡◌, ◌++◌, ℕ, List, length, drop, refl, subst}
 use Rattle.delaunay_bulk.specs.Bulk.{InsertsAll, StopsAt}
 use Rattle.c_calls.specs.declared.raw.NumberedPoint.{NumberedPoint}
 use Rattle.c_calls.specs.Kept.{kept_place}
-use Rattle.c_calls.specs.Lists.{ListInsertion, unnumbered_points}
-use Rattle.c_calls.proofs.Listed.{is_all_inserted, is_refused, is_stopped}
-use Rattle.c_calls.proofs.list_edits.insert_all.Goals as goal
+use Rattle.c_calls.specs.Lists.{insertion_refused, unnumbered_points}
+use Rattle.c_calls.proofs.Listed.{is_all_inserted, is_stopped}
+use Rattle.c_calls.proofs.list_edits.insert_in_range.Goals as goal
 
 pub returns-in-Ok-insert_all : goal.returns-in-Ok-insert_all
 returns-in-Ok-insert_all g c =
@@ -12,7 +12,8 @@ returns-in-Ok-insert_all g c =
     let old = g.T.Triangulation.state c.args.points.now in
     let new = g.T.Triangulation.state c.insert_all.new.self in
     is_all_inserted kept_place constraints (unnumbered_points c.args.positions.now)
-    c.args.indexes.now c.write_indexes.new.indexes old new c.in-Ok-insert_all.handles.items
+    c.args.indexes.now c.write_indexes.new.indexes old new c.requires
+    c.in-Ok-insert_all.handles.items
     (subst (λ (list : List NumberedPoint).
     InsertsAll kept_place constraints list c.in-Ok-insert_all.handles.items old new) c.in-Ok.ensures
     c.in-Ok-insert_all.ensures.inserts)
@@ -25,17 +26,11 @@ returns-in-Err g c =
     let constraints = g.T.Constraints.ConstraintMarker.constraints in
     let old = g.T.Triangulation.state c.args.points.now in
     let new = g.T.Triangulation.state c.insert_all.new.self in
-    subst (λ (status : ℕ). ListInsertion kept_place constraints
-    (unnumbered_points c.args.positions.now) status c.args.indexes.now c.args.indexes.now old new)
-    (sym c.status_of_list_error.ensures)
-    (is_stopped kept_place constraints (unnumbered_points c.args.positions.now) c.args.indexes.now
-    c.args.indexes.now old new refl c.in-Err.error
+    is_stopped kept_place constraints (unnumbered_points c.args.positions.now) c.args.indexes.now
+    c.args.indexes.now old new c.requires refl c.in-Err.error
     (subst (λ (list : List NumberedPoint).
     StopsAt kept_place constraints list c.in-Err.error old new) c.in-Ok.ensures
-    c.in-Err.ensures.stops))
+    c.in-Err.ensures.stops)
 
 pub returns-in_default : goal.returns-in_default
-returns-in_default g c =
-    is_refused kept_place g.T.Constraints.ConstraintMarker.constraints
-    (unnumbered_points c.args.positions.now) c.args.indexes.now
-    (g.T.Triangulation.state c.args.points.now)
+returns-in_default g c = insertion_refused refl c.requires refl refl

@@ -1,0 +1,103 @@
+//! The constraints that a segment crosses.
+ghost use Rattle.std.specs.Prelude.{◌≡◌, List, MatchOption};
+ghost use Rattle.delaunay_edit.specs.plane.Line.{Item};
+ghost use Rattle.delaunay_edit.specs.delaunay_legalization.Constraints.{constraints_by};
+ghost use Rattle.delaunay_edit.specs.delaunay_legalization.Shape.{IsTriangulated};
+ghost use Rattle.delaunay_edit.specs.delaunay_legalization.State.{state_of, triangulation_of};
+ghost use Rattle.delaunay_edit.specs.delaunay_lines.Walk.{AreLeft, IsReady};
+ghost use Rattle.c_calls.specs.Conflicts.{FindsConflicts, IsConflictMet, TellsConflicts};
+ghost use Rattle.c_calls.specs.Kept.{kept_drawing, kept_place, kept_state};
+
+use crate::kept::KeptPoints;
+use crate::lines::{ACROSS_EDGE, may_ask_line, raw_meeting};
+use crate::queries::point_of;
+use crate::raw::{NumberedPoint, RawMeeting, RawPoint, RawSegment};
+use crate::statuses::TOO_LARGE;
+use crate::told::{put, status_by_room};
+use delaunay_interface::delaunay_core::math::PlaneTests;
+use delaunay_interface::delaunay_core::point::HasPosition;
+use delaunay_interface::delaunay_legalization::ConstraintMarker;
+use delaunay_interface::{LineIntersectionIterator, Triangulation};
+use exact_predicates::ExactTests;
+
+// The constraint that a line crosses where it meets this, if it does.
+fn conflict_in(meeting: &RawMeeting) -> Option<RawSegment>
+    ensures { IsConflictMet meeting.now result }
+{
+    if meeting.kind != ACROSS_EDGE || meeting.constrained == 0 {
+        return None;
+    }
+    Some(RawSegment {
+        from: meeting.from,
+        to: meeting.to,
+    })
+}
+
+// Writes the constraints that a line crosses, as far as there is room, and how many they are.
+fn write_crossed<M: ConstraintMarker<UE>, V: HasPosition, DE, UE, F, P: PlaneTests<V::Scalar>>(
+    line: &mut LineIntersectionIterator<'_, V, DE, UE, F, P>,
+    conflicts: &mut [RawSegment],
+    length: &mut usize,
+) -> u32
+    requires kept { IsTriangulated V.place (state_of line.old.dcel.now) }
+    requires ready { IsReady V.place V.Scalar.whole P.sites P.covered line.old }
+    ensures { (items : List Item) → AreLeft V.place V.Scalar.whole line.old items
+        → TellsConflicts (constraints_by M.constraints (state_of line.old.dcel.now)) items result
+        length.new conflicts.old conflicts.new }
+{
+    // No more items come than these.
+    let _most = line.left;
+    let mut count = 0usize;
+    while let Some(item) = line.next() {
+        let meeting = raw_meeting::<M, _, _, _, _>(item);
+        if let Some(conflict) = conflict_in(&meeting) {
+            put(conflicts, count, conflict);
+            count += 1;
+        }
+    }
+    *length = count;
+    status_by_room(conflicts.len(), count)
+}
+
+// Writes the constraints that a segment crosses, as far as there is room, and how many they are.
+fn write_conflicts<T: Triangulation<Vertex = NumberedPoint>>(
+    points: &T,
+    from: &RawPoint,
+    to: &RawPoint,
+    conflicts: &mut [RawSegment],
+    length: &mut usize,
+) -> u32
+    ensures { FindsConflicts (triangulation_of kept_place (T.state points.now))
+        (constraints_by T.Constraints.constraints (T.state points.now)) from.now to.now result
+        length.old length.new conflicts.old conflicts.new }
+{
+    if !may_ask_line(from, to) {
+        return TOO_LARGE;
+    }
+    points.recall_invariant();
+    let (start, end) = (point_of(from), point_of(to));
+    let mut line = LineIntersectionIterator::new(points, start, end, &ExactTests);
+    write_crossed::<T::Constraints, _, _, _, _, _>(&mut line, conflicts, length)
+}
+
+impl KeptPoints {
+    /// Writes the constraints that a segment crosses, as far as there is room, and how many they
+    /// are.
+    pub fn write_conflicts(
+        &self,
+        from: &RawPoint,
+        to: &RawPoint,
+        conflicts: &mut [RawSegment],
+        length: &mut usize,
+    ) -> u32
+        ensures { FindsConflicts (kept_drawing self.now) (kept_state self.now).constraints from.now
+            to.now result length.old length.new conflicts.old conflicts.new }
+    {
+        match self {
+            KeptPoints::Plain(points) => write_conflicts(points, from, to, conflicts, length),
+            KeptPoints::Constrained(points) => {
+                write_conflicts(points, from, to, conflicts, length)
+            }
+        }
+    }
+}
