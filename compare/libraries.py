@@ -1,4 +1,5 @@
-"""The proved libraries of a checkout, crates/NAME/out/rlib, as the Rattle kit names and stamps them.
+"""The proved libraries of a checkout, crates/NAME/out/rlib, as the Rattle kit names and stamps
+them.
 
 `rt ci` proves every library and leaves it in out/ with no stamp, so `rt check` in a crate above
 would prove each of them once more. `lay` writes beside each library the stamp that `rt check` looks
