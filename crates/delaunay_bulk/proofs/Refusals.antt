@@ -67,13 +67,12 @@ module _ {V : Type 0} (place : V → Point) (list : List V) where
         → result ≡ Err (Vertex i TooLarge) → RefusesWhere place list count result
     refused_outside i first is = record {
       too_large = λ j. (
-        λ e. let errors : Err {T = R} (Vertex i TooLarge) ≡ Err (Vertex j TooLarge) = sym is ∙ e in
+        λ e. let errors = sym is ∙ e in
             let places : i ≡ j = cc in subst (IsFirstOutside place list) places first,
         λ other. is ∙ ap (λ (k : ℕ). Err (Vertex k TooLarge)) (first_is_one i j first other),
       );
       full = (
-        λ e. let errors : Err {T = R} (Vertex i TooLarge) ≡ Err (NoRoom OutOfIndexes) =
-            sym is ∙ e in absurd (cc),
+        λ e. let errors = sym is ∙ e in absurd (cc),
         λ h. absurd (none_outside h.0 i first),
       );
     }
@@ -86,12 +85,12 @@ module _ {V : Type 0} (place : V → Point) (list : List V) where
         → RefusesWhere place list count result
     refused_for_room why all is full = record {
       too_large = λ j. (
-        λ e. let errors : Err {T = R} (NoRoom why) ≡ Err (Vertex j TooLarge) = sym is ∙ e in
+        λ e. let errors = sym is ∙ e in
             absurd (cc),
         λ first. absurd (none_outside all j first),
       );
       full = (
-        λ e. let errors : Err {T = R} (NoRoom why) ≡ Err (NoRoom OutOfIndexes) = sym is ∙ e in
+        λ e. let errors = sym is ∙ e in
             let same : why ≡ OutOfIndexes = cc in (all, full.0 same),
         λ h. is ∙ ap (λ (w : InsertionError). Err (NoRoom w)) (full.1 h.1),
       );
@@ -118,5 +117,5 @@ pub why_later : {V D U F : Type 0} (place : V → Point) (constraints : List U �
 why_later place constraints v TooLarge old new done inside few =
     absurd (done.too_large.0 refl inside)
 why_later place constraints v OutOfIndexes old new done inside few =
-    absurd (few (done.full.0 refl).2.1)
+    absurd (few (done.full.0 refl).2)
 why_later place constraints v OutOfMemory old new done inside few = refl

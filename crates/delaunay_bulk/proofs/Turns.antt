@@ -274,7 +274,5 @@ module _ {V D U F : Type 0} {place : V → Point} {constraints : List U → List
         let told : result ≡ Err (Vertex ended.entry.0 OutOfMemory) =
         is ∙ ap (λ (e : BulkInsertionError). Err e) inserting_refused in
         refused_for_nothing place list (length old.vertices) result in_range few
-        (λ j e. let errors : Err {T = R} (Vertex ended.entry.0 OutOfMemory)
-            ≡ Err (Vertex j TooLarge) = sym told ∙ e in cc)
-        (λ e. let errors : Err {T = R} (Vertex ended.entry.0 OutOfMemory)
-            ≡ Err (NoRoom OutOfIndexes) = sym told ∙ e in cc)
+        (λ j e. let errors = sym told ∙ e in absurd (cc))
+        (λ e. let errors = sym told ∙ e in absurd (cc))
