@@ -1,2 +1,4 @@
 pub mod Splits
 pub mod Powers
+pub mod Spellings
+pub mod Reaches

@@ -1,8 +1,9 @@
 -- A number's text has its parts in one way only.
--- Lemmas: digit_is_low, digits_end, sign_ends, point_ends, parts_are, integer_is, sign_of,
--- integer_of, point_of, number_of, if_none, no_power_behind, is_none, is_some.
+-- Lemmas: digit_is_low, digits_end, sign_ends, digits_no_sign, power_first, point_first, point_ends,
+-- unsigned_first, parts_are, integer_is, sign_of, integer_of, point_of, number_of, if_none,
+-- no_power_behind, is_none, is_some.
 use Rattle.std.proofs.Common.{◌≡◌, ◌≢◌, ◌+◌, ◌<◌, ◌≤◌, ◌⊎◌, [], ◌∷◌, ◌++◌, ◌∙◌}
-use Rattle.std.proofs.Common.{ℕ, Bool, true, false, eqb, List, length, drop, inl, inr, refl, sym, ap, subst, arith}
+use Rattle.std.proofs.Common.{ℕ, Bool, true, false, eqb, List, length, get_or, drop, inl, inr, refl, sym, ap, subst, arith}
 use Rattle.std.proofs.Common.{append-nil}
 use Rattle.std.specs.Prelude.{Option, None, Some, IfNone}
 use Rattle.std.specs.Char.{digit_value, is_ascii_digit}
@@ -33,28 +34,30 @@ digits_end (x ∷ a) b (y ∷ c) d e all all' first first' =
     let heads : x ≡ y = cc in
     ((let tails = rest.0 in cc), rest.1)
 
--- a sign and what begins with none
+-- a sign, which is one in one way only, and what begins with none
 pub sign_ends : (text : List ℕ) (negative : Bool) (rest sign : List ℕ) (negative' : Bool)
     (rest' : List ℕ) → TakenSign text negative rest → IsSign sign negative' → text ≡ sign ++ rest'
-    → NoSignFirst rest' → rest ≡ rest'
+    → NoSignFirst rest' → (negative ≡ negative') × (rest ≡ rest')
 sign_ends text n r s n' r' (inl (e, _)) (inl (es, _)) t first =
     let at : 45 ∷ r ≡ r' = sym e ∙ t ∙ ap (λ x. x ++ r') es in
     let no : NoSignFirst (45 ∷ r) = subst NoSignFirst (sym at) first in
     absurd (no.1 refl)
 sign_ends text n r s n' r' (inl (e, _)) (inr (inl (es, _))) t first =
-    let at : 45 ∷ r ≡ 43 ∷ r' = sym e ∙ t ∙ ap (λ x. x ++ r') es in cc
-sign_ends text n r s n' r' (inl (e, _)) (inr (inr (es, _))) t first =
-    let at : 45 ∷ r ≡ 45 ∷ r' = sym e ∙ t ∙ ap (λ x. x ++ r') es in cc
+    let at : 45 ∷ r ≡ 43 ∷ r' = sym e ∙ t ∙ ap (λ x. x ++ r') es in
+    let heads = ap (λ (x : List ℕ). get_or x 0 0) at in absurd (omega (arith, heads))
+sign_ends text n r s n' r' (inl (e, is)) (inr (inr (es, is'))) t first =
+    let at : 45 ∷ r ≡ 45 ∷ r' = sym e ∙ t ∙ ap (λ x. x ++ r') es in (is ∙ sym is', cc)
 sign_ends text n r s n' r' (inr (inl (e, _))) (inl (es, _)) t first =
     let at : 43 ∷ r ≡ r' = sym e ∙ t ∙ ap (λ x. x ++ r') es in
     let no : NoSignFirst (43 ∷ r) = subst NoSignFirst (sym at) first in
     absurd (no.0 refl)
-sign_ends text n r s n' r' (inr (inl (e, _))) (inr (inl (es, _))) t first =
-    let at : 43 ∷ r ≡ 43 ∷ r' = sym e ∙ t ∙ ap (λ x. x ++ r') es in cc
+sign_ends text n r s n' r' (inr (inl (e, is))) (inr (inl (es, is'))) t first =
+    let at : 43 ∷ r ≡ 43 ∷ r' = sym e ∙ t ∙ ap (λ x. x ++ r') es in (is ∙ sym is', cc)
 sign_ends text n r s n' r' (inr (inl (e, _))) (inr (inr (es, _))) t first =
-    let at : 43 ∷ r ≡ 45 ∷ r' = sym e ∙ t ∙ ap (λ x. x ++ r') es in cc
-sign_ends text n r s n' r' (inr (inr (e, _, clear))) (inl (es, _)) t first =
-    sym e ∙ t ∙ ap (λ x. x ++ r') es
+    let at : 43 ∷ r ≡ 45 ∷ r' = sym e ∙ t ∙ ap (λ x. x ++ r') es in
+    let heads = ap (λ (x : List ℕ). get_or x 0 0) at in absurd (omega (arith, heads))
+sign_ends text n r s n' r' (inr (inr (e, is, clear))) (inl (es, is')) t first =
+    (is ∙ sym is', sym e ∙ t ∙ ap (λ x. x ++ r') es)
 sign_ends text n r s n' r' (inr (inr (e, _, clear))) (inr (inl (es, _))) t first =
     let at : r ≡ 43 ∷ r' = sym e ∙ t ∙ ap (λ x. x ++ r') es in
     let no' : NoSignFirst (43 ∷ r') = subst NoSignFirst at clear in
@@ -73,19 +76,23 @@ digit_no_sign c low = (
       absurd (omega arith)),
 )
 
+pub digits_no_sign : (xs : List ℕ) → AllDigits 10 xs → 0 < length xs → NoSignFirst xs
+digits_no_sign [] all some = absurd (omega (arith, some))
+digits_no_sign (x ∷ xs) all some = digit_no_sign x all.0
+
 -- a letter is no digit and no point
 letter_first : (c : ℕ) → (c ≡ 69) ⊎ (c ≡ 101) → (10 ≤ digit_value c) × (c ≢ 46)
 letter_first c (inl e) = (grind (arith, nat_tests), λ f. absurd (omega arith))
 letter_first c (inr e) = (grind (arith, nat_tests), λ f. absurd (omega arith))
 
-power_first : (text : List ℕ) (lowers : Bool) (power : List ℕ) → IsPower text lowers power
+pub power_first : (text : List ℕ) (lowers : Bool) (power : List ℕ) → IsPower text lowers power
     → NoDigitFirst text × NoPointFirst text
 power_first text l p (inl (e, _, _)) =
     (subst NoDigitFirst (sym e) tt, subst NoPointFirst (sym e) tt)
 power_first text l p (inr s) = let f = letter_first s.letter s.is_letter in
     (subst NoDigitFirst (sym s.spelled) f.0, subst NoPointFirst (sym s.spelled) f.1)
 
-point_first : (point fraction text : List ℕ) (lowers : Bool) (power : List ℕ)
+pub point_first : (point fraction text : List ℕ) (lowers : Bool) (power : List ℕ)
     → IsPoint point fraction → IsPower text lowers power → NoDigitFirst (point ++ text)
 point_first point f text l p (inl (e, _)) h =
     subst (λ x. NoDigitFirst (x ++ text)) (sym e) (power_first text l p h).0
@@ -117,7 +124,7 @@ point_no_sign : (c : ℕ) → c ≡ 46 → (c ≢ 43) × (c ≢ 45)
 point_no_sign c e = ((λ f. absurd (omega arith)), (λ f. absurd (omega arith)))
 
 -- what stands behind a sign begins with none
-unsigned_first : (whole point fraction text : List ℕ) (lowers : Bool) (power : List ℕ)
+pub unsigned_first : (whole point fraction text : List ℕ) (lowers : Bool) (power : List ℕ)
     → AllDigits 10 whole → IsPoint point fraction → 0 < length whole + length fraction
     → NoSignFirst (whole ++ (point ++ text))
 unsigned_first (c ∷ whole) point f t l w all h some = digit_no_sign c all.0
@@ -135,7 +142,7 @@ parts_are text n u whole behind f r p signs split all first point s =
     let e = sign_ends text n u s.sign p.negative (p.whole ++ (s.point ++ s.power)) signs s.is_sign
     s.spelled (unsigned_first p.whole s.point p.fraction s.power p.lowers p.power s.whole s.is_point
     s.some) in
-    let d = digits_end whole behind p.whole (s.point ++ s.power) (sym split ∙ e) all s.whole first
+    let d = digits_end whole behind p.whole (s.point ++ s.power) (sym split ∙ e.1) all s.whole first
     (point_first s.point p.fraction s.power p.lowers p.power s.is_point s.is_power) in
     let q = point_ends behind f r s.point p.fraction s.power p.lowers p.power point s.is_point
     s.is_power s.fraction d.1 in
@@ -149,14 +156,10 @@ pub integer_is : (text : List ℕ) (negative : Bool) (unsigned digits behind : L
     → (digits ≡ digits') × (behind ≡ []) × (0 < length digits')
 integer_is text n u d b n' w signs split all first s =
     let e = sign_ends text n u s.sign n' w signs s.is_sign s.spelled
-    (no_sign w s.all_digits s.some) in
-    let same : d ++ b ≡ w ++ [] = sym split ∙ e ∙ sym (append-nil w) in
+    (digits_no_sign w s.all_digits s.some) in
+    let same : d ++ b ≡ w ++ [] = sym split ∙ e.1 ∙ sym (append-nil w) in
     let q = digits_end d b w [] same all s.all_digits first tt in
     (q.0, q.1, s.some)
-  where
-    no_sign : (xs : List ℕ) → AllDigits 10 xs → 0 < length xs → NoSignFirst xs
-    no_sign [] all some = absurd (omega (arith, some))
-    no_sign (x ∷ xs) all some = digit_no_sign x all.0
 
 -- a sign that was taken off is one
 pub sign_of : (text : List ℕ) (negative : Bool) (rest : List ℕ) → TakenSign text negative rest

@@ -1,11 +1,12 @@
 //! Decimal numbers: a sign, a whole number, and how many of its digits are behind the point.
 ghost use Rattle.std.specs.Prelude.{◌≡◌, ◌+◌, ◌*◌, ◌^◌, ◌<◌, ◌≤◌, ◌++◌, ◌↔◌, length};
-ghost use Rattle.std.specs.Prelude.{IfOk, IfSome, IfNone, IsErrOf, ◌%◌};
+ghost use Rattle.std.specs.Prelude.{IfOk, IfSome, IfNone, IsNone, IsErrOf, ◌%◌};
 ghost use Rattle.std.specs.Str.Parse.{AllDigits, digits_value, digits_value_after};
 ghost use Rattle.decimal_numbers.specs.Grammar.{SpellsNoNumber};
 ghost use Rattle.decimal_numbers.specs.Reading.{parts_of};
 ghost use Rattle.decimal_numbers.specs.Value.{IsMagnitude, IsShortest, SpellsValue};
-ghost use Rattle.decimal_numbers.specs.declared.decimal.DecimalError.TheVariants.{Malformed};
+ghost use Rattle.decimal_numbers.specs.Value.{IsTooLong, SpellsTooLong};
+ghost use Rattle.decimal_numbers.specs.declared.decimal.DecimalError.TheVariants.{Malformed, TooLong};
 
 use crate::parts::{Written, written_of};
 use itoa::Buffer;
@@ -35,7 +36,8 @@ const MAX_DIGITS: u64 = 400;
 /// The number that digits write behind those of another number, if it fits.
 fn append_digits(number: u64, digits: &[u8]) -> Option<u64>
     requires { AllDigits 10 digits.now }
-    ensures { IfSome result (λ n. n ≡ digits_value_after 10 number digits.now) }
+    ensures some { IfSome result (λ n. n ≡ digits_value_after 10 number digits.now) }
+    ensures none { IfNone result (2 ^ 64 ≤ digits_value_after 10 number digits.now) }
 {
     let mut value = number;
     for digit in digits {
@@ -66,6 +68,7 @@ fn value_of(written: &Written<'_>) -> Option<Decimal>
     ensures sign { IfSome result (λ d. d.negative ≡ written.now.negative) }
     ensures value { IfSome result
         (λ d. IsMagnitude (parts_of written.now) d.magnitude d.digits) }
+    ensures none { IsNone result ↔ IsTooLong (parts_of written.now) }
 {
     let whole = append_digits(0, written.whole)?;
     let number = append_digits(whole, written.fraction)?;
@@ -91,11 +94,14 @@ fn value_of(written: &Written<'_>) -> Option<Decimal>
 
 impl Decimal {
     /// Reads a number: a sign, digits with a point among them, and a power of ten behind an `e`,
-    /// of which only a digit has to be there. It gives `Malformed` where the text is none, and
-    /// `TooLong` where its digits pass 2^64 or one of its powers of ten is above 400.
+    /// of which only a digit has to be there. It gives `Malformed` exactly where the text is no such
+    /// number. It gives `TooLong` exactly where all digits as one whole number, times the power of
+    /// ten if that raises it, are 2^64 or more, where more than 400 digits are behind the point, or
+    /// where the power of ten is above 400 or below -400.
     pub fn parse(text: &[u8]) -> Result<Decimal, DecimalError>
         ensures ok { IfOk result (λ d. SpellsValue text.now d.negative d.magnitude d.digits) }
         ensures malformed { IsErrOf result Malformed ↔ SpellsNoNumber text.now }
+        ensures too_long { IsErrOf result TooLong ↔ SpellsTooLong text.now }
     {
         let Some(written) = written_of(text) else {
             return Err(DecimalError::Malformed);

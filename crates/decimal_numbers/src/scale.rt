@@ -3,7 +3,8 @@ ghost use Rattle.std.specs.Prelude.{◌≡◌, ◌+◌, ◌*◌, ◌<◌, ◌≤
 ghost use Rattle.std.specs.Prelude.{◌+ℤ◌, ◌-ℤ◌, ◌≤ℤ◌, ℤ, pos, neg_ℤ};
 ghost use Rattle.std.specs.Prelude.{IfOk, IsErrOf};
 ghost use Rattle.decimal_numbers.specs.Value.{IsTimesPower, IsRounded, IsWithin};
-ghost use Rattle.decimal_numbers.specs.declared.scale.ScaleError.TheVariants.{TooFine};
+ghost use Rattle.decimal_numbers.specs.Value.{IsOutOfReach, units_at};
+ghost use Rattle.decimal_numbers.specs.declared.scale.ScaleError.TheVariants.{TooFine, TooFar};
 
 use crate::decimal::{Decimal, raise};
 use thiserror::Error;
@@ -31,13 +32,15 @@ pub enum ScaleError {
 }
 
 impl Decimal {
-    /// This number times 10^`digits`. It gives `TooFine` where the number has more digits behind
-    /// the point, and `TooFar` where the product is further than 2^62 from 0.
+    /// This number times 10^`digits`. It gives `TooFine` exactly where the number has more digits
+    /// behind the point, and else `TooFar` exactly where the product is further than 2^62 from 0.
     pub fn times_power(&self, digits: u32) -> Result<i64, ScaleError>
         ensures ok { IfOk result (λ z. IsTimesPower self.now.negative self.now.magnitude
             self.now.digits digits z) }
         ensures within { IfOk result (IsWithin (2 ^ 62)) }
         ensures too_fine { IsErrOf result TooFine ↔ (digits < self.now.digits) }
+        ensures too_far { IsErrOf result TooFar ↔ ((self.now.digits ≤ digits)
+            × (2 ^ 62 < units_at digits self.now.magnitude self.now.digits)) }
     {
         if digits < self.digits {
             return Err(ScaleError::TooFine);
@@ -106,13 +109,17 @@ impl Scale {
         }
     }
 
-    /// The coordinate of a number. It gives `TooFine` where the number has more digits behind the
-    /// point than the scale, and `TooFar` where the coordinate would be out of range.
+    /// The coordinate of a number. It gives `TooFine` exactly where the number has more digits
+    /// behind the point than the scale, and else `TooFar` exactly where the coordinate would be out
+    /// of range, or where the number is further from 0 than 2^62 units of the scale.
     pub fn coordinate(&self, number: &Decimal) -> Result<i32, ScaleError>
         ensures ok { IfOk result (λ c. IsTimesPower number.now.negative number.now.magnitude
             number.now.digits self.now.digits (c +ℤ self.now.origin)) }
         ensures within { IfOk result (IsWithin (2 ^ 29)) }
         ensures too_fine { IsErrOf result TooFine ↔ (self.now.digits < number.now.digits) }
+        ensures too_far { IsErrOf result TooFar ↔ ((number.now.digits ≤ self.now.digits)
+            × IsOutOfReach number.now.negative
+            (units_at self.now.digits number.now.magnitude number.now.digits) self.now.origin) }
     {
         let units = number.times_power(self.digits)?;
         match units.checked_sub(self.origin) {

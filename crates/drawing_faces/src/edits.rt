@@ -9,8 +9,10 @@ ghost use Rattle.drawing_faces.specs.Drawing.{IsDecided, ends_of, is_taken, join
 use crate::error::DrawingError;
 use delaunay_journal::{Edit, Outcome, Refusal, Replayable, replay};
 use exact_predicates::ExactTests;
-use spade_delaunay::handles::FixedVertexHandle;
-use spade_delaunay::{InsertAll, Point2, Triangulation};
+use delaunay_interface::half_edge_mesh::FixedVertexHandle;
+use delaunay_bulk::InsertAll;
+use delaunay_interface::Triangulation;
+use delaunay_interface::delaunay_core::point::Point2;
 use std::alloc::{AllocError, Global};
 
 /// The ends of a segment, by the places of its points in a list.

@@ -1,6 +1,7 @@
 //! Why a drawing was not triangulated.
 
-use spade_delaunay::{BulkInsertionError, InsertionError};
+use delaunay_bulk::BulkInsertionError;
+use delaunay_interface::delaunay_core::math::InsertionError;
 use std::alloc::{AllocError, AllocFailed};
 use thiserror::Error;
 

@@ -8,8 +8,10 @@ ghost use Rattle.drawing_faces.specs.Names.{position};
 ghost use Rattle.drawing_faces.specs.Drawing.{face_of, faces_inside, indexes_at};
 
 use crate::flood::reach_faces;
-use spade_delaunay::handles::{FaceHandle, FixedFaceHandle};
-use spade_delaunay::{Point2, Triangulation, face_layers};
+use delaunay_interface::half_edge_mesh::{FaceHandle, FixedFaceHandle};
+use delaunay_interface::Triangulation;
+use delaunay_interface::delaunay_core::point::Point2;
+use delaunay_layers::face_layers;
 use std::alloc::{AllocError, Global};
 
 /// The vertices of a face, by index, against the clock.

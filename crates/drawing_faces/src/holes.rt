@@ -5,8 +5,10 @@ ghost use Rattle.drawing_faces.specs.Holes.{AddsFacesAt, AreIn};
 use crate::error::DrawingError;
 use delaunay_interface::delaunay_legalization::is_constraint_edge;
 use exact_predicates::ExactTests;
-use spade_delaunay::handles::FixedFaceHandle;
-use spade_delaunay::{Point2, PositionInTriangulation, Triangulation, validate_vertex};
+use delaunay_interface::half_edge_mesh::FixedFaceHandle;
+use delaunay_interface::{PositionInTriangulation, Triangulation};
+use delaunay_interface::delaunay_core::math::validate_vertex;
+use delaunay_interface::delaunay_core::point::Point2;
 use std::alloc::Global;
 
 // Adds the faces that a point is in: behind an edge those on both sides, unless it is a constraint.

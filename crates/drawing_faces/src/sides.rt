@@ -12,7 +12,9 @@ use crate::edits::DrawnSegment;
 use crate::error::DrawingError;
 use delaunay_interface::half_edge_mesh::{FixedFaceHandle, FixedVertexHandle};
 use exact_predicates::ExactTests;
-use spade_delaunay::{HasMesh, Intersection, LineIntersectionIterator, PlaneTests, Point2};
+use delaunay_interface::{HasMesh, Intersection, LineIntersectionIterator};
+use delaunay_interface::delaunay_core::math::PlaneTests;
+use delaunay_interface::delaunay_core::point::Point2;
 use std::alloc::AllocError;
 
 // Adds the face on the left of what a way meets, if that is an edge along which it goes.

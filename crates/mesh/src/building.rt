@@ -4,8 +4,10 @@ use anyhow::{anyhow, bail};
 use drawing_faces::{DrawingError, DrawnMesh, DrawnSegment, Kept, triangulate_drawing};
 use mesh_files::{Drawing, FilePlace, MeshText, hole_sides};
 use mesh_io::{Scene, Task, input_name, write_mesh};
-use spade_delaunay::handles::UndirectedEdgeHandle;
-use spade_delaunay::{ConstraintMarker, Point2, Triangulation};
+use delaunay_interface::half_edge_mesh::UndirectedEdgeHandle;
+use delaunay_interface::Triangulation;
+use delaunay_interface::delaunay_core::point::Point2;
+use delaunay_interface::delaunay_legalization::ConstraintMarker;
 use std::alloc::{AllocError, Global};
 use std::fmt;
 

@@ -2,7 +2,9 @@
 use crate::areas::turned_area;
 use exact_predicates::ExactTests;
 use mesh_io::Scene;
-use spade_delaunay::{Point2, PositionInTriangulation, Triangulation, validate_vertex};
+use delaunay_interface::{PositionInTriangulation, Triangulation};
+use delaunay_interface::delaunay_core::math::validate_vertex;
+use delaunay_interface::delaunay_core::point::Point2;
 
 /// The ends of a segment.
 #[derive(Clone, Copy)]

@@ -15,7 +15,8 @@ use crate::nearest::tell_nearest;
 use crate::places::tell_places;
 use crate::way::tell_way;
 use mesh_io::{Question, Scene, Task, command, read_scene, task_of, tell_step};
-use spade_delaunay::{Point2, Triangulation};
+use delaunay_interface::Triangulation;
+use delaunay_interface::delaunay_core::point::Point2;
 use std::process::ExitCode;
 
 /// Answers a question of the triangulation with its constraints.

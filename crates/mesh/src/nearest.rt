@@ -7,9 +7,10 @@ use drawing_faces::place_points;
 use exact_predicates::ExactTests;
 use mesh_files::Spot;
 use mesh_io::Scene;
-use spade_delaunay::{
-    DelaunayTriangulation, HintGenerator, Point2, Triangulation, validate_vertex,
-};
+use delaunay_interface::{DelaunayTriangulation, Triangulation};
+use delaunay_interface::delaunay_core::HintGenerator;
+use delaunay_interface::delaunay_core::math::validate_vertex;
+use delaunay_interface::delaunay_core::point::Point2;
 use std::alloc::{AllocError, Global};
 use std::io;
 use std::io::{BufWriter, Write};

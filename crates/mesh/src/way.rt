@@ -3,10 +3,10 @@ use crate::building::point_place;
 use anyhow::{Context, bail};
 use exact_predicates::ExactTests;
 use mesh_io::Scene;
-use spade_delaunay::handles::{DirectedEdgeHandle, FixedVertexHandle};
-use spade_delaunay::{
-    Intersection, LineIntersectionIterator, Point2, Triangulation, validate_vertex,
-};
+use delaunay_interface::half_edge_mesh::{DirectedEdgeHandle, FixedVertexHandle};
+use delaunay_interface::{Intersection, LineIntersectionIterator, Triangulation};
+use delaunay_interface::delaunay_core::math::validate_vertex;
+use delaunay_interface::delaunay_core::point::Point2;
 use std::alloc::{AllocError, Global};
 use std::io;
 use std::io::{BufWriter, Write};

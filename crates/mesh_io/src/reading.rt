@@ -156,6 +156,15 @@ fn fine_fault(scaled: &Scaled, spot: &Spot) -> Option<FileFault> {
     Some(FileFault::at(spot.line, Reason::TooFine(name)))
 }
 
+/// Why points that are asked about were not scaled, by what was told: where it is that one has no
+/// place on the scale of a drawing, the first that has none.
+fn scaling_fault(told: FileFault, scaled: &Scaled, asked: &[Spot]) -> FileFault {
+    match told.reason {
+        Reason::TooFine(_) | Reason::TooFar(_, _) => first_fault(scaled, asked),
+        _ => told,
+    }
+}
+
 /// The fault of points that have no place on the scale of a drawing: the first that is too far, or
 /// the first that has more digits behind the point than the drawing.
 fn first_fault(scaled: &Scaled, asked: &[Spot]) -> FileFault {
@@ -189,7 +198,7 @@ fn scale_asked(
     scene.drawing.holes.extend_from_slice(asked)?;
     match scale(&mut scene.drawing, task.rounding, rt.alloc()) {
         Ok(scaled) => scene.scaled = scaled,
-        Err(_) => return Err(first_fault(&scene.scaled, asked)),
+        Err(fault) => return Err(scaling_fault(fault, &scene.scaled, asked)),
     }
     scene.asked = copies_from(scene.drawing.holes.as_slice(), holes, rt.alloc())?;
     scene.asked_points = copies_from(scene.scaled.holes.as_slice(), holes, rt.alloc())?;

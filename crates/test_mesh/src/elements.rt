@@ -112,6 +112,9 @@ fn corners<DE, UE, F>(face: &FaceHandle<'_, u8, DE, UE, F>) -> Option<([u32; 3],
         return None;
     }
     let [ab, bc, ca] = face.adjacent_edges();
+    if face.adjacent_edge().index() != ab.index() {
+        return None;
+    }
     let [a, b, c] = face.vertices();
     Some((
         [ab.index(), bc.index(), ca.index()],

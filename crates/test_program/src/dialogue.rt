@@ -1,8 +1,7 @@
 //! Dialogues with the program.
 
-use spade_delaunay::{
-    HierarchyHintGeneratorWithBranchFactor as Hierarchy, HintGenerator, LastUsedVertexHintGenerator,
-};
+use delaunay_core::{HintGenerator, LastUsedVertexHintGenerator};
+use hint_hierarchy::HierarchyHintGeneratorWithBranchFactor as Hierarchy;
 use std::alloc::{AllocError, Global};
 use test_hints::{Always1000, EachInTurn};
 use triangulate_run::session::run;

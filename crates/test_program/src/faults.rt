@@ -1,6 +1,6 @@
 //! Runs with readers and writers that fail at a call.
 
-use spade_delaunay::LastUsedVertexHintGenerator;
+use delaunay_core::LastUsedVertexHintGenerator;
 use std::alloc::Global;
 use std::cell::Cell;
 use std::io;

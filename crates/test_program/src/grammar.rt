@@ -1,7 +1,7 @@
 //! The commands of the grammar, whether they are answered yet or not.
 
 use crate::dialogue::written;
-use spade_delaunay::LastUsedVertexHintGenerator;
+use delaunay_core::LastUsedVertexHintGenerator;
 use std::alloc::Global;
 use triangulate_grammar::command::{Command, Coordinates};
 use triangulate_grammar::parse;

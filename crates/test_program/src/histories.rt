@@ -1,7 +1,8 @@
 //! The faces of five points, whatever led to them.
 
 use crate::dialogue::written;
-use spade_delaunay::{LastUsedVertexHintGenerator, Point2};
+use delaunay_core::LastUsedVertexHintGenerator;
+use delaunay_core::point::Point2;
 use std::alloc::{AllocError, Global};
 use triangulate_run::sheet::Sheet;
 

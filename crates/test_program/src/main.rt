@@ -44,5 +44,5 @@ fn main(rt: HostRuntime) -> io::Result<()> {
     print_checks(&rt, &grammar::checks(rt.alloc()))?;
     print_checks(&rt, &orders::checks(rt.alloc()))?;
     print_checks(&rt, &histories::checks(rt.alloc()))?;
-    print_checks(&rt, &sheets::checks())
+    print_checks(&rt, &sheets::checks(rt.alloc()))
 }

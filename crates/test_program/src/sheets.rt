@@ -4,9 +4,10 @@ ghost use Rattle.triangulate_run.specs.Points.{place};
 
 use delaunay_core::math::PlaneTests;
 use delaunay_core::point::Point2;
-use triangulate_run::fault::{RunError, USAGE, fault_text};
+use std::alloc::{AllocError, Global};
+use triangulate_run::fault::{RunError, USAGE, fault_text, status_of};
 use triangulate_run::points::{SheetPoint, index_of, site_index_of};
-use triangulate_run::sheet::{Sheet, letter_named};
+use triangulate_run::sheet::{Sheet, sheet_named};
 
 /// The number of left-turning triples of the points, and, over these, of sites inside their
 /// circles.
@@ -100,41 +101,66 @@ fn a_row_has_a_hundred_sites() -> bool {
     found == (100, Some(0), Some(99), None, None)
 }
 
-fn a_sheet_is_named_by_one_letter() -> bool {
-    for (word, sheet) in [
-        ("G", Some(Sheet::G)),
-        ("B", Some(Sheet::B)),
-        ("R", Some(Sheet::R)),
-        ("L", Some(Sheet::L)),
-        ("X", Some(Sheet::X)),
-        ("", None),
-        ("g", None),
-        ("Q", None),
-        ("GG", None),
+/// The words as a program has them after its name.
+fn owned(alloc: Global, words: &[&str]) -> Result<Vec<String>, AllocError> {
+    let mut owned = Vec::new(alloc);
+    for word in words {
+        owned.push(String::from_str(alloc, word)?)?;
+    }
+    Ok(owned)
+}
+
+/// Whether the words after the program's name ask for just this sheet.
+fn is_named(alloc: Global, words: &[&str], sheet: Option<Sheet>) -> bool {
+    match owned(alloc, words) {
+        Ok(owned) => sheet_named(&owned) == sheet,
+        Err(_) => false,
+    }
+}
+
+fn a_sheet_is_named_by_one_letter(alloc: Global) -> bool {
+    for (words, sheet) in [
+        (["G"].as_slice(), Some(Sheet::G)),
+        (["B"].as_slice(), Some(Sheet::B)),
+        (["R"].as_slice(), Some(Sheet::R)),
+        (["L"].as_slice(), Some(Sheet::L)),
+        (["X"].as_slice(), Some(Sheet::X)),
+        ([].as_slice(), None),
+        ([""].as_slice(), None),
+        (["g"].as_slice(), None),
+        (["Q"].as_slice(), None),
+        (["GG"].as_slice(), None),
+        (["G", "G"].as_slice(), None),
     ] {
-        if letter_named(word) != sheet {
+        if !is_named(alloc, words, sheet) {
             return false;
         }
     }
     true
 }
 
-fn a_fault_has_a_text() -> bool {
+fn a_run_has_a_status_and_a_fault_a_text() -> bool {
+    let statuses = (
+        status_of(&Ok(())),
+        status_of(&Err(RunError::Read)),
+        status_of(&Err(RunError::Write)),
+    );
     let texts = (
         fault_text(&RunError::Read),
         fault_text(&RunError::Write),
         USAGE,
     );
-    texts
-        == (
-            "triangulate: read failed",
-            "triangulate: write failed",
-            "usage: triangulate G|B|R|L|X",
-        )
+    statuses == (0, 1, 1)
+        && texts
+            == (
+                "triangulate: read failed",
+                "triangulate: write failed",
+                "usage: triangulate G|B|R|L|X",
+            )
 }
 
 /// What is to hold of the sheets, their names and the faults, and whether it does.
-pub(crate) fn checks() -> [(&'static str, bool); 8] {
+pub(crate) fn checks(alloc: Global) -> [(&'static str, bool); 8] {
     [
         (
             "each rotation of a listed triple of G turns left",
@@ -156,8 +182,11 @@ pub(crate) fn checks() -> [(&'static str, bool); 8] {
         ("a row has a hundred sites", a_row_has_a_hundred_sites()),
         (
             "a sheet is named by one letter",
-            a_sheet_is_named_by_one_letter(),
+            a_sheet_is_named_by_one_letter(alloc),
         ),
-        ("a fault has a text", a_fault_has_a_text()),
+        (
+            "a run has a status, and a fault a text",
+            a_run_has_a_status_and_a_fault_a_text(),
+        ),
     ]
 }

@@ -1,13 +1,13 @@
 //! The program over standard input and output.
 #![tactic(auto)]
 
-use spade_delaunay::LastUsedVertexHintGenerator;
+use delaunay_interface::delaunay_core::LastUsedVertexHintGenerator;
 use std::env::FillError;
 use std::io;
 use std::io::{BufReader, Input, Read};
 use std::process::ExitCode;
 use std::rt::Env;
-use triangulate_run::fault::{RunError, USAGE, fault_text};
+use triangulate_run::fault::{RunError, USAGE, fault_text, status_of};
 use triangulate_run::session::run;
 use triangulate_run::sheet::{Sheet, letter_named};
 use triangulate_watched::Watched;
@@ -54,11 +54,8 @@ fn main(rt: HostRuntime) -> ExitCode {
         Ok(reader) => answer_all(&rt, sheet, reader),
         Err(_) => answer_all(&rt, sheet, rt.reader()),
     };
-    match outcome {
-        Ok(()) => ExitCode::SUCCESS,
-        Err(fault) => {
-            let _ = rt.eprintln(fault_text(&fault));
-            ExitCode::FAILURE
-        }
+    if let Err(fault) = &outcome {
+        let _ = rt.eprintln(fault_text(fault));
     }
+    ExitCode::from(status_of(&outcome))
 }

@@ -21,7 +21,7 @@ use Rattle.delaunay_edit.proofs.delaunay_paths_lemmas.AddingPieces.{half_ends}
 use Rattle.delaunay_edit.proofs.delaunay_paths_lemmas.JoinedPairs as joined
 use Rattle.delaunay_edit.specs.Constrained.{constrained, constraints_of, constraint_edges}
 use Rattle.delaunay_edit.specs.ConstraintEdits.{ReleasesConstraint}
-use Rattle.spade_delaunay.specs.Views.{AreNotJoined}
+use Rattle.delaunay_interface.specs.Views.{AreNotJoined}
 use Rattle.triangulate_run.specs.declared.reply.Reply.TheVariants.{NotConstrained, Refused}
 use Rattle.triangulate_run.specs.declared.reply.Reply.TheVariants.{Released}
 use Rattle.triangulate_run.specs.Answer.{MayRelease}

@@ -12,8 +12,10 @@ use crate::line::put_ends;
 use crate::output::Piece::Text;
 use crate::output::{Held, Written, put_pieces};
 use crate::reply::{Reply, put_reply};
-use spade_delaunay::handles::{FixedDirectedEdgeHandle, FixedVertexHandle};
-use spade_delaunay::{HintGenerator, InsertionError, PlaneTests, Triangulation};
+use delaunay_interface::half_edge_mesh::{FixedDirectedEdgeHandle, FixedVertexHandle};
+use delaunay_interface::Triangulation;
+use delaunay_interface::delaunay_core::HintGenerator;
+use delaunay_interface::delaunay_core::math::{InsertionError, PlaneTests};
 use std::io::Write;
 use triangulate_watched::Watched;
 

@@ -15,11 +15,11 @@ use crate::output::{Held, Written};
 use crate::points::{SheetPoint, index_of};
 use crate::reply::{Reply, put_reply};
 use crate::shared::{count_reply, faces, insert, locate, remove, vertices_at};
-use spade_delaunay::handles::FixedVertexHandle;
-use spade_delaunay::{
-    ConstrainedDelaunayTriangulation, DelaunayTriangulation, HintGenerator, InsertionError,
-    PlaneTests, Point2, Triangulation,
-};
+use delaunay_interface::half_edge_mesh::FixedVertexHandle;
+use delaunay_interface::{ConstrainedDelaunayTriangulation, DelaunayTriangulation, Triangulation};
+use delaunay_interface::delaunay_core::HintGenerator;
+use delaunay_interface::delaunay_core::math::{InsertionError, PlaneTests};
+use delaunay_interface::delaunay_core::point::Point2;
 use std::alloc::Global;
 use std::io::Write;
 use std::mem::replace;

@@ -1,5 +1,5 @@
-//! How a run ends, for the program's standard error.
-ghost use Rattle.std.specs.Prelude.{◌≡◌};
+//! How a run ends, for the program's status and standard error.
+ghost use Rattle.std.specs.Prelude.{◌≡◌, MatchResult};
 ghost use Rattle.triangulate_run.specs.Fault.{fault_text_of};
 
 /// Why a run ended before the end of its input.
@@ -13,6 +13,13 @@ pub enum RunError {
 
 /// What stands on standard error where the arguments name no sheet.
 pub const USAGE: &str = "usage: triangulate G|B|R|L|X";
+
+/// The exit status of a run: 0 where it came to the end of its input, and 1 after a fault.
+pub fn status_of(outcome: &Result<(), RunError>) -> u8
+    ensures { MatchResult outcome.now (λ _. result ≡ 0) (λ _. result ≡ 1) }
+{
+    u8::from(outcome.is_err())
+}
 
 /// What stands on standard error after a fault.
 pub fn fault_text(fault: &RunError) -> &'static str

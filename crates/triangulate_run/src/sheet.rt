@@ -1,5 +1,6 @@
 //! The sheets of points that the program knows, with their answers.
-ghost use Rattle.std.specs.Prelude.{◌≡◌, ◌↔◌, true, All, IfSome, IfNone, IsTrue};
+ghost use Rattle.std.specs.Prelude.{◌≡◌, ◌↔◌, [], ◌∷◌};
+ghost use Rattle.std.specs.Prelude.{true, All, IfSome, IfNone, IsTrue, map, string_bytes};
 ghost use Rattle.delaunay_edit.specs.plane.Fraction.{whole};
 ghost use Rattle.delaunay_edit.specs.plane.Side.{side, TurnsLeft};
 ghost use Rattle.delaunay_edit.specs.plane.Circle.{InsideCircle};
@@ -32,6 +33,19 @@ pub enum Sheet {
     L,
     /// Five sites on two lines that cross, and four points on the lines that are none.
     X,
+}
+
+/// The sheet that the words after the program's name ask for: there is one word, and it is the
+/// sheet's capital letter. For all other words it gives `None`.
+pub fn sheet_named(words: &[String]) -> Option<Sheet>
+    ensures found { IfSome result (λ sheet. map string_bytes words.now ≡ letter_of sheet ∷ []) }
+    ensures none { IfNone result ((sheet : Sheet) →
+        ¬ (map string_bytes words.now ≡ letter_of sheet ∷ [])) }
+{
+    let [word] = words else {
+        return None;
+    };
+    letter_named(word.as_str())
 }
 
 /// The sheet whose letter is the word.

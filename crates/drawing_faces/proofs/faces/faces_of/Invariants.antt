@@ -3,7 +3,7 @@ use Rattle.std.specs.Borrow.{Bor}
 use Rattle.std.specs.List.{range_with_len}
 use Rattle.delaunay_interface.specs.half_edge_mesh.Contents.{Contents}
 use Rattle.delaunay_interface.specs.half_edge_mesh.Left.{each_in}
-use Rattle.spade_delaunay.specs.InnerFaces.{inner_faces_left}
+use Rattle.delaunay_interface.specs.InnerFaces.{inner_faces_left}
 use Rattle.delaunay_interface.specs.delaunay_legalization.State.{state_of}
 use Rattle.drawing_faces.specs.Drawing.{indexes_at}
 use Rattle.drawing_faces.proofs.faces.faces_of.Given as goal

@@ -4,7 +4,7 @@ use Rattle.std.proofs.Common.{List, ◌≢◌, ◌≡◌, ◌++◌, length, map,
 use Rattle.std.specs.List.{range_with_len}
 use Rattle.std.proofs.lemmas.List.{length-map}
 use Rattle.delaunay_edit.specs.half_edge_mesh.Triangles.{triangles, triangle_at}
-use Rattle.spade_delaunay.specs.InnerFaces.{inner_faces_left}
+use Rattle.delaunay_interface.specs.InnerFaces.{inner_faces_left}
 use Rattle.triangulate_run.specs.Stage.{position}
 use Rattle.delaunay_edit.specs.mesh_embedding.Drawn.{corners_of}
 use Rattle.triangulate_run.specs.MeshFaces.{row_at}
