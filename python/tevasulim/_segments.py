@@ -57,6 +57,53 @@ def common_points(segments: NDArray[Any], one: NDArray[Any]) -> NDArray[Any]:
     return np.array(sorted(set(found)), np.int64).reshape(-1, 2)
 
 
+# How many segments, the longest, may hide points from a face, and of how many these are chosen.
+HIDERS, AMONG = 4, 200
+
+
+def hiders_of(
+    segments: NDArray[Any], corners: NDArray[Any], boxes: NDArray[Any]
+) -> NDArray[Any]:
+    """For faces, corners of shape (3, f, 2), and boxes round their disks: segments that may hide
+    points of the disks from them, of shape (HIDERS, f, 4): the ends of each, with the face on its
+    left or on it. Where there are fewer, both ends are 0."""
+    lengths = np.hypot(*(segments[:, 2:4] - segments[:, 0:2]).T)
+    ends = segments[np.argsort(-lengths, kind="stable")[:AMONG], ENDS]
+    ax, ay, bx, by = ends.T
+    at_x, at_y = corners[..., 0, None], corners[..., 1, None]
+    places = side(ax, ay, bx, by, at_x, at_y)
+    is_left = (places >= 0).all(0) & (places > 0).any(0)
+    is_right = (places <= 0).all(0) & (places < 0).any(0)
+    low, high = np.minimum(ends[:, 0:2], ends[:, 2:4]), np.maximum(ends[:, 0:2], ends[:, 2:4])
+    is_near = (low[None] <= boxes[:, None, 2:4]) & (high[None] >= boxes[:, None, 0:2])
+    may_hide = is_near.all(2) & (is_left | is_right)
+    found = np.zeros((HIDERS, corners.shape[1], 4), np.int64)
+    # The longest come first.
+    chosen = np.argsort(~may_hide, axis=1, kind="stable")[:, :HIDERS]
+    for number, of_face in enumerate(chosen.T):
+        rows = np.flatnonzero(may_hide[np.arange(len(boxes)), of_face])
+        some = ends[of_face[rows]]
+        swapped = is_right[rows, of_face[rows]]
+        some[swapped] = some[swapped][:, [2, 3, 0, 1]]
+        found[number, rows] = some
+    return found
+
+
+def are_hidden(
+    ends: NDArray[Any], corners: NDArray[Any], x: NDArray[Any], y: NDArray[Any]
+) -> NDArray[Any]:
+    """Which points, rows of them for each face, a segment on whose left or line the face is hides
+    from it: they are beyond it, and the ways to them from all three corners cross it, and so those
+    from each point of the face. These points are a convex set."""
+    ux, uy, vx, vy = (it[:, None] for it in ends.T)
+    is_hidden = side(ux, uy, vx, vy, x, y) < 0
+    for corner in corners:
+        cx, cy = (it[:, None] for it in corner.T)
+        is_hidden &= (side(cx, cy, x, y, ux, uy) <= 0) & (side(cx, cy, x, y, vx, vy) >= 0)
+    given: NDArray[Any] = is_hidden
+    return given
+
+
 def split(plan: Any, bounds: NDArray[Any], rows: NDArray[Any]) -> List[NDArray[Any]]:
     """For each tile of a plan the rows of the bounds that reach it."""
     if plan is None:

@@ -3,14 +3,15 @@ it, until each cell at a point of its own is sure."""
 from __future__ import annotations
 
 import time
-from typing import Any, Dict, List, NamedTuple, Optional, Tuple
+from typing import Any, Dict, Iterator, List, NamedTuple, Optional, Tuple
 
 import numpy as np
 from numpy.typing import NDArray
 
 from ._circles import Faces, cells, circle_test, disks
 from ._mesh import Mesh
-from ._segments import ENDS, NONE, NUMBERS, ROW, bounds_of, common_points, crossing, meet, side
+from ._segments import ENDS, NONE, NUMBERS, ROW, are_hidden, bounds_of, common_points, crossing
+from ._segments import hiders_of, meet, side
 from ._tile_files import Neighbour, TileFiles, save
 from .errors import CrossingError
 
@@ -85,7 +86,8 @@ def are_within(found: NDArray[Any], region: NDArray[Any]) -> NDArray[Any]:
 
 
 class Disks:
-    """The closed disks of some faces, corners of shape (3, f), whose circles `disks` found."""
+    """The closed disks of some faces, corners of shape (3, f), whose circles `disks` found, and what
+    constraints hide of them."""
 
     def __init__(
         self,
@@ -93,41 +95,65 @@ class Disks:
         corners: NDArray[Any],
         found: NDArray[Any],
         is_constraint: NDArray[Any],
+        segments: NDArray[Any],
     ):
         self.corners = points[corners]
         self.is_constraint = is_constraint
         self.centers, self.radii = found[:, :2], found[:, 3]
         # So that no box which a disk reaches is passed over.
         self.reaches_2 = self.radii * self.radii * (1 + 1e-12)
+        self.hiders = np.zeros((0, len(found), 4), np.int64)
+        if len(segments):
+            wide = self.radii[:, None]
+            boxes = np.hstack([self.centers - wide, self.centers + wide])
+            self.hiders = hiders_of(segments, self.corners, boxes)
 
     def __len__(self) -> int:
         return len(self.radii)
 
     def ranks(self, rows: NDArray[Any], bounds: NDArray[Any]) -> NDArray[Any]:
-        """For some of them and each box: below 0 where the box may be reached, and lower the nearer
-        it is to the centre."""
+        """For some of them and each box: below 0 where something of the box may be in the disk and
+        not be hidden, and lower the nearer it is to the centre."""
         x, y = self.centers[rows].T[:, :, None]
         dx = np.maximum(np.maximum(bounds[:, 0] - x, x - bounds[:, 2]), 0)
         dy = np.maximum(np.maximum(bounds[:, 1] - y, y - bounds[:, 3]), 0)
-        given: NDArray[Any] = dx * dx + dy * dy - self.reaches_2[rows, None]
-        return given
+        ranks: NDArray[Any] = dx * dx + dy * dy - self.reaches_2[rows, None]
+        # What hides the four corners of a box hides all of it.
+        is_hidden = [np.ones(ranks.shape, bool) for _ in range(3 + len(self.hiders))]
+        for k, m in ((0, 1), (2, 1), (2, 3), (0, 3)) if len(self.hiders) else ():
+            at_x, at_y = (np.broadcast_to(bounds[:, it], ranks.shape) for it in (k, m))
+            for number, hidden in enumerate(self.hidden(rows, at_x, at_y)):
+                is_hidden[number] &= hidden
+        if len(self.hiders):
+            ranks[np.logical_or.reduce(is_hidden)] = np.inf
+        return ranks
+
+    def hidden(
+        self, rows: NDArray[Any], x: NDArray[Any], y: NDArray[Any]
+    ) -> Iterator[NDArray[Any]]:
+        """For some of them, and rows of points of the disk each, which of these points each side
+        that is a constraint, and each segment that may hide some, hides."""
+        corners = self.corners[:, rows]
+        for k in range(3):
+            # All of a disk that is beyond a side is seen from the face through that side.
+            start, end = corners[(k + 1) % 3], corners[(k + 2) % 3]
+            ax, ay, bx, by = (it[:, None] for it in (*start.T, *end.T))
+            yield self.is_constraint[k, rows, None] & (side(ax, ay, bx, by, x, y) < 0)
+        for ends_of_hider in self.hiders[:, rows]:
+            yield are_hidden(ends_of_hider, corners, x, y)
 
     def depths(self, rows: NDArray[Any], points: NDArray[Any]) -> Tuple[NDArray[Any], NDArray[Any]]:
         """For some of them and some points each: 1 for points inside, 0 for those on the circle, -1
-        for others; and how deep."""
+        for others and those that are hidden; and how deep."""
         x, y = (points[..., k] - self.centers[rows, k, None] for k in (0, 1))
         near = np.nonzero(x * x + y * y <= self.reaches_2[rows, None])
-        corners, of_near = self.corners[:, rows[near[0]]], points[near].astype(np.int64)
+        a, b, c = self.corners[:, rows[near[0]]]
         signs, depths = np.full(points.shape[:2], -1, np.int8), np.zeros(points.shape[:2])
-        a, b, c = corners
-        signs[near], depths[near] = circle_test(a, b, c, of_near)
-        for k in range(3):
-            # What is in a disk beyond a side that is a constraint is hidden by it.
-            is_side = self.is_constraint[k, rows[near[0]]]
-            ends = (*corners[(k + 1) % 3][is_side].T, *corners[(k + 2) % 3][is_side].T)
-            is_hidden = side(*ends, *of_near[is_side].T) < 0
-            of_side = near[0][is_side][is_hidden], near[1][is_side][is_hidden]
-            signs[of_side] = -1
+        signs[near], depths[near] = circle_test(a, b, c, points[near].astype(np.int64))
+        if len(self.hiders):
+            whole = points.astype(np.int64)
+            for is_hidden in self.hidden(rows, whole[..., 0], whole[..., 1]):
+                signs[is_hidden] = -1
         return signs, depths
 
 
@@ -174,7 +200,7 @@ class Part:
 
     def disks_of(self, faces: NDArray[Any]) -> Disks:
         words = self.corners[:, faces], self.found[faces], self.is_constraint[:, faces]
-        return Disks(self.points, *words)
+        return Disks(self.points, *words, self.segments)
 
     def boxes_of(self, faces: NDArray[Any]) -> NDArray[Any]:
         """The bounds of some faces, as rows of x and y from, x and y to."""
