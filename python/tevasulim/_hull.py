@@ -4,7 +4,8 @@ from __future__ import annotations
 from typing import Any, List, Tuple
 
 import numpy as np
-from numpy.typing import NDArray
+
+from ._types import NDArray
 
 # The directions in which extreme points are looked for first, counterclockwise.
 DIRECTIONS = ((-1, 0), (-1, -1), (0, -1), (1, -1), (1, 0), (1, 1), (0, 1), (-1, 1))

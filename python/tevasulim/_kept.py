@@ -17,11 +17,11 @@ from ctypes import byref, c_size_t, c_uint32
 from typing import Any, Callable, Dict, List, NamedTuple, Optional, Tuple, Type, TypeVar, Union
 
 import numpy as np
-from numpy.typing import NDArray
 
 from . import _library as library
 from ._grid import WHOLE, Grid, chosen
 from ._order import near_order, rounds
+from ._types import NDArray
 from .errors import (
     IsConstrainedError,
     NoSuchVertexError,

@@ -5,10 +5,10 @@ import time
 from typing import Any, NamedTuple, Set, Tuple
 
 import numpy as np
-from numpy.typing import NDArray
 
 from ._circles import cells, circle_test, disks
 from ._tile_files import Box, Neighbour, TileFiles, save
+from ._types import NDArray
 from .triangulation import Triangulation
 
 # How wide a halo is at first, in mean distances of the tile's points.

@@ -7,11 +7,11 @@ import os
 from typing import Any, Dict, List, NamedTuple, Tuple
 
 import numpy as np
-from numpy.typing import NDArray
 
 from ._hull import hull_rows
 from ._library import MOST
 from ._numbers import point_list
+from ._types import NDArray
 from .errors import TevasulimError
 
 # How many points a block has.

@@ -9,8 +9,8 @@ from __future__ import annotations
 from typing import Any, Optional, Tuple
 
 import numpy as np
-from numpy.typing import NDArray
 
+from ._types import NDArray
 from .triangulation import Triangulation
 
 SAME = "transform vertex_to_simplex vertex_neighbor_vertices convex_hull min_bound max_bound".split()

@@ -15,10 +15,10 @@ import warnings
 from typing import Any, Iterator, List, NamedTuple, Optional, Tuple
 
 import numpy as np
-from numpy.typing import NDArray
 
 from ._arrays import Floats
 from ._needs import needed
+from ._types import NDArray
 from ._values import Raster
 from .errors import CrossingError
 from .triangulation import Triangulation

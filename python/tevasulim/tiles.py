@@ -27,11 +27,11 @@ from functools import partial
 from typing import Any, Callable, List, NamedTuple, Optional, Sequence, Tuple
 
 import numpy as np
-from numpy.typing import NDArray
 
 from ._hull import hull_rows
 from ._tile import Plan, TileReport, cells_of_tile
 from ._tile_files import TileFiles, boxes_in, plan_of, survey
+from ._types import NDArray
 from .errors import TevasulimError
 
 __all__ = ["triangulate_tiles", "TiledCells", "TileReport"]
