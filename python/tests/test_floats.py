@@ -168,9 +168,11 @@ class Questions(unittest.TestCase):
                 p, q = DRAW.random((2, 2)) * 9
                 radius_2 = DRAW.random() * 9
                 ways = ((tri.points[vertices] - p) ** 2).sum(1)
-                self.assertEqual(tri.in_circle(p, radius_2).tolist(), vertices[ways <= radius_2].tolist())
+                found = tri.in_circle(p, radius_2)
+                self.assertEqual(found.tolist(), vertices[ways <= radius_2].tolist())
                 wanted = [way_2(*it, p) <= radius_2 for it in ends]
-                self.assertEqual(tri.edges_in_circle(p, radius_2).tolist(), np.flatnonzero(wanted).tolist())
+                found = tri.edges_in_circle(p, radius_2)
+                self.assertEqual(found.tolist(), np.flatnonzero(wanted).tolist())
                 low, high = np.minimum(p, q), np.maximum(p, q)
                 inside = ((tri.points[vertices] >= low) & (tri.points[vertices] <= high)).all(1)
                 self.assertEqual(tri.in_rectangle(low, high).tolist(), vertices[inside].tolist())

@@ -87,7 +87,9 @@ def joined(points: NDArray[Any], simplices: NDArray[Any], neighbors: NDArray[Any
     return is_joined
 
 
-def least_of_joined(values: NDArray[Any], neighbors: NDArray[Any], is_joined: NDArray[Any]) -> NDArray[Any]:
+def least_of_joined(
+    values: NDArray[Any], neighbors: NDArray[Any], is_joined: NDArray[Any]
+) -> NDArray[Any]:
     """For each face the least value of all faces that it is joined with, over others too."""
     faces, corners = np.nonzero(is_joined)
     others = neighbors[faces, corners]

@@ -146,7 +146,8 @@ def triangulate_tiles(
         What runs the tasks; without one, this process. A task that failed is run again.
     folder : str, optional
         A folder that each worker reaches, which has no cells of another run. Files of the tiles are
-        made in it, and those with cells are left there. Without one, a folder of this machine is used, and arrays are given.
+        made in it, and those with cells are left there. Without one, a folder of this machine is
+        used, and arrays are given.
 
     Returns
     -------
