@@ -55,6 +55,27 @@ def beside_scipy(draw, reach, count):
     return len(theirs.simplices)
 
 
+def floats_beside_scipy(draw):
+    """Random floats of every magnitude: all faces are scipy's of the points as they are rounded,
+    brought to one size. Qhull gives up far from 1."""
+    count = 0
+    for power in range(-270, 301, 30):
+        points = (draw.random((300, 2)) - draw.random(2)) * 10.0**power
+        with Triangulation(points) as ours:
+            assert np.abs(ours.points - points).max() <= ours.rounding <= 10.0**power * 2**-28
+            theirs = Delaunay((ours.points - ours.origin) * ours.scale)
+            assert np.array_equal(triples(ours.simplices), triples(theirs.simplices)), power
+            check_neighbors(ours.simplices, ours.neighbors)
+            count += len(theirs.simplices)
+            questions = ours.points[draw.integers(0, 300, (100, 3))].mean(1)
+            # On an edge either face may be given.
+            questions = questions[ours.locate(questions).kind != Place.ON_EDGE]
+            found = ours.find_simplex(questions)
+            wanted = theirs.find_simplex((questions - ours.origin) * ours.scale)
+            assert np.array_equal(triples(ours.simplices[found]), triples(theirs.simplices[wanted]))
+    return count
+
+
 def check_neighbors(simplices, neighbors):
     """The face opposite a corner has the other two corners, and only sides of the hull have
     none."""
@@ -170,12 +191,11 @@ class Round:
         ours, points = self.ours, self.state.points
         p, q = self.point(), self.point()
         self.check_place(p)
-        if not self.has_constraints:
-            near = ours.nearest(p)
-            assert (near < 0) == (not points)
-            if points:
-                way = min(distance_2(it, p) for it in points)
-                assert distance_2(tuple(ours.points[near].tolist()), p) == way
+        near = ours.nearest(p)
+        assert (near < 0) == (not points)
+        if points:
+            way = min(distance_2(it, p) for it in points)
+            assert distance_2(tuple(ours.points[near].tolist()), p) == way
         if p != q:
             self.check_line(p, q)
         radius_2 = self.draw.choice([0, 1, 2, 5, 8, 2**40])
@@ -249,6 +269,7 @@ def main():
         [(2**29, 40), (2**29, 1000), (10**6, 3000), (2**29, 20000)]
     ):
         count += beside_scipy(np.random.default_rng(SEED + seed), reach, many)
+    count += floats_beside_scipy(np.random.default_rng(SEED))
     print(f"{count} faces as scipy has them")
     for number in range(ROUNDS):
         draw = random.Random(SEED + number)

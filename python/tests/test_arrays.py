@@ -110,8 +110,9 @@ class Shapes(unittest.TestCase):
 
     def test_no_array_can_be_written_to(self):
         with Triangulation(SQUARE, [(0, 2)]) as tri:
-            names = "points representatives coplanar simplices neighbors constraint_sides edges hull"
-            names += " constraints convex_hull transform vertex_to_simplex min_bound max_bound layers"
+            names = "points representatives coplanar simplices neighbors constraint_sides edges"
+            names += " hull constraints convex_hull transform vertex_to_simplex layers"
+            names += " min_bound max_bound"
             for name in names.split():
                 array = getattr(tri, name)
                 self.assertFalse(array.flags.writeable, name)
@@ -196,8 +197,10 @@ class Types(unittest.TestCase):
                 for far in 2.0**40, 1e12:
                     self.assertEqual(tri.nearest([(far, far), (-far, -far)]).tolist(), [2, 0])
                     self.assertEqual(tri.nearest([(far, 0), (0, far)], k=2)[:, 0].tolist(), [2, 2])
-                    self.assertEqual(len(tri.line((-far, 1), (far, 1))), len(tri.line((-9, 1), (9, 1))))
-                    self.assertEqual(tri.in_rectangle((-far, -far), (far, far)).tolist(), [0, 1, 2, 3])
+                    met = tri.line((-far, 1), (far, 1))
+                    self.assertEqual(len(met), len(tri.line((-9, 1), (9, 1))))
+                    found = tri.in_rectangle((-far, -far), (far, far))
+                    self.assertEqual(found.tolist(), [0, 1, 2, 3])
                     self.assertEqual(len(tri.edges_in_rectangle((-far, -far), (far, far))), 5)
                     self.assertEqual(tri.in_circle((far, 0), 2 * far * far).tolist(), [0, 1, 2, 3])
                 self.assertEqual(tri.find_simplex([np.nan, 1]), -1)

@@ -101,7 +101,8 @@ class BrokenOff(unittest.TestCase):
         # It goes on: an edit after the broken one is made, and all are right then.
         number = tri.insert((77, 88) if tri.scale == 1 else (7.7, 8.8))
         self.assertEqual(tri.representatives[number], number)
-        self.assertEqual(tri.num_vertices, len(np.unique(tri.points[tri.representatives >= 0], axis=0)))
+        there = np.unique(tri.points[tri.representatives >= 0], axis=0)
+        self.assertEqual(tri.num_vertices, len(there))
         with Triangulation(tri.points[np.unique(tri.simplices)]) as other:
             if not len(tri.constraints):
                 self.assertEqual(len(other), len(tri))

@@ -33,7 +33,7 @@ class Grids(unittest.TestCase):
 
     def test_others_are_rounded_to_the_nearest(self):
         for size in 1e-300, 1e-30, 1e-7, 1.0, 1e7, 1e30, 1e300:
-            for middle in 0, 3 * size, 1e9 * size:
+            for middle in 0, 3 * size, min(1e9, 1e305 / size) * size:
                 points = UNIT * size + middle
                 with Triangulation(points) as tri:
                     move = np.abs(tri.points - points).max()
@@ -96,13 +96,13 @@ class Grids(unittest.TestCase):
     def test_each_corner_is_on_the_right_side(self):
         for points in UNIT, UNIT**9, UNIT * (1, 1e-9), np.round(UNIT, 1), UNIT * 1e-200:
             with Triangulation(points) as tri:
-                for a, b, c in tri.points[tri.simplices[:300]]:
+                for a, b, c in tri.points[tri.simplices[:100]]:
                     self.assertGreater(orientation(a, b, c), 0)
 
 
 class Questions(unittest.TestCase):
     def test_a_face_has_the_point(self):
-        questions = DRAW.random((2000, 2)) * 1.2 - 0.1
+        questions = DRAW.random((150, 2)) * 1.2 - 0.1
         for points, asked in (
             (UNIT, questions),
             (np.round(UNIT * 9).astype(int), questions * 9),
@@ -146,16 +146,16 @@ class Questions(unittest.TestCase):
 
     def test_nearest_is_not_rounded(self):
         for points in np.unique(DRAW.integers(0, 9, (30, 2)), axis=0), UNIT[:60]:
-            asked = DRAW.random((500, 2)) * points.max()
+            asked = DRAW.random((200, 2)) * points.max()
             ways = ((asked[:, None] - points) ** 2).sum(2)
             for segments in None, [(0, 1)]:
                 with Triangulation(points, segments) as tri:
                     found = tri.nearest(asked)
-                    least = ways[np.arange(500), found]
+                    least = ways[np.arange(200), found]
                     self.assertTrue((least <= ways.min(1) * (1 + 1e-6) + 1e-12).all())
                     few = tri.nearest(asked, k=5)
                     wanted = np.sort(ways, axis=1)[:, :5]
-                    got = ways[np.arange(500)[:, None], few]
+                    got = ways[np.arange(200)[:, None], few]
                     self.assertTrue(np.allclose(got, wanted, rtol=1e-6))
                     self.assertEqual(tri.nearest(asked[0], k=99)[-1], -1)
 
@@ -164,13 +164,15 @@ class Questions(unittest.TestCase):
         with Triangulation(points) as tri:
             vertices = np.unique(tri.representatives)
             ends = tri.points[tri.edges].astype(float)
-            for _ in range(300):
+            for _ in range(100):
                 p, q = DRAW.random((2, 2)) * 9
                 radius_2 = DRAW.random() * 9
                 ways = ((tri.points[vertices] - p) ** 2).sum(1)
-                self.assertEqual(tri.in_circle(p, radius_2).tolist(), vertices[ways <= radius_2].tolist())
+                found = tri.in_circle(p, radius_2)
+                self.assertEqual(found.tolist(), vertices[ways <= radius_2].tolist())
                 wanted = [way_2(*it, p) <= radius_2 for it in ends]
-                self.assertEqual(tri.edges_in_circle(p, radius_2).tolist(), np.flatnonzero(wanted).tolist())
+                found = tri.edges_in_circle(p, radius_2)
+                self.assertEqual(found.tolist(), np.flatnonzero(wanted).tolist())
                 low, high = np.minimum(p, q), np.maximum(p, q)
                 inside = ((tri.points[vertices] >= low) & (tri.points[vertices] <= high)).all(1)
                 self.assertEqual(tri.in_rectangle(low, high).tolist(), vertices[inside].tolist())

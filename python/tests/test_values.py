@@ -71,7 +71,8 @@ class Copies(unittest.TestCase):
                 self.same(tri, other)
                 before = tri.npoints
                 point = other.points.max(0) - 1 if before else (2, 1)
-                self.assertTrue(0 <= other.insert(np.array(point) / (4 if tri.scale == 4 else 1)) <= before)
+                number = other.insert(np.array(point) / (4 if tri.scale == 4 else 1))
+                self.assertTrue(0 <= number <= before)
                 self.assertEqual(other.npoints, before + 1)
                 self.assertEqual(tri.npoints, before)
                 other.close()
@@ -132,11 +133,13 @@ class Values(unittest.TestCase):
             found = tri.interpolate(z, asked)
             self.assertEqual(found.shape, (50, 4, 2))
             inside = tri.find_simplex(asked) >= 0
-            self.assertTrue(np.allclose(found[inside], (asked @ [[3, 1], [-2, 1]] + (7, 0))[inside]))
+            wanted = asked @ [[3, 1], [-2, 1]] + (7, 0)
+            self.assertTrue(np.allclose(found[inside], wanted[inside]))
             self.assertTrue(np.isnan(found[~inside]).all())
             self.assertTrue(np.allclose(tri.gradient(z[:, 0]), (3, -2)))
             mean = tri.interpolate(z[:, 0], asked[inside], "mean")
-            self.assertTrue(np.allclose(mean, z[tri.simplices[tri.find_simplex(asked[inside])], 0].mean(1)))
+            corners = tri.simplices[tri.find_simplex(asked[inside])]
+            self.assertTrue(np.allclose(mean, z[corners, 0].mean(1)))
             near = tri.interpolate(z[:, 0], asked, "nearest")
             self.assertTrue((near == z[tri.nearest(asked), 0]).all())
             raster = tri.grid(z[:, 0], 0.03)
@@ -171,7 +174,10 @@ class Values(unittest.TestCase):
             ours, theirs = tri.interpolate(z, asked), LinearNDInterpolator(UNIT, z)(asked)
             self.assertTrue(np.allclose(ours, theirs, atol=1e-5, equal_nan=True))
             ours, theirs = tri.voronoi(), Voronoi(UNIT)
-            names = {k: int(np.argmin(((ours.vertices - it) ** 2).sum(1))) for k, it in enumerate(theirs.vertices)}
+            names = {
+                k: int(np.argmin(((ours.vertices - it) ** 2).sum(1)))
+                for k, it in enumerate(theirs.vertices)
+            }
             names[-1] = -1
             self.assertEqual(len(set(names.values())), len(ours.vertices) + 1)
             pairs = zip(theirs.ridge_points.tolist(), theirs.ridge_vertices)
@@ -202,7 +208,8 @@ class Values(unittest.TestCase):
                     cell = cells[int(tri.nearest(asked))]
                     self.assertLess(cell.distance(geometry.Point(*asked)), 1e-6)
                 window = geometry.Point(0.5, 0.5).buffer(0.4)
-                self.assertAlmostEqual(sum(it.area for it in tri.cells(window).values()), window.area)
+                area = sum(it.area for it in tri.cells(window).values())
+                self.assertAlmostEqual(area, window.area)
 
 
 class Regions(unittest.TestCase):

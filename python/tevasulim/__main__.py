@@ -43,7 +43,8 @@ def add_input(it: argparse.ArgumentParser) -> None:
 def parser() -> argparse.ArgumentParser:
     """What the command takes."""
     form = argparse.RawDescriptionHelpFormatter
-    it = argparse.ArgumentParser("tevasulim", description=ABOUT, epilog=STATUS, formatter_class=form)
+    texts: Any = {"description": ABOUT, "epilog": STATUS}
+    it = argparse.ArgumentParser("tevasulim", formatter_class=form, **texts)
     proved = "proved" if library.is_proved() else "not proved: a trial build"
     words = f"tevasulim {__version__}, library {library.LIBRARY.tevasulim_version()} ({proved})"
     it.add_argument("--version", action="version", version=words)
@@ -74,7 +75,8 @@ def parser() -> argparse.ArgumentParser:
     command("plot", plot, "Draws the triangulation.", "a picture: .png, .svg, .pdf")
     command("voronoi", voronoi, "Writes the Voronoi cells.", "a layer (.gpkg, .geojson, ..)")
     part = command("tiles", tiles, "Triangulates more points than one process holds.", "a folder")
-    part.add_argument("inputs", metavar="IN", nargs="+", help="a .npy of whole numbers, shape (n, 2)")
+    about = "a .npy of whole numbers, of the shape (n, 2)"
+    part.add_argument("inputs", metavar="IN", nargs="+", help=about)
     part.add_argument("--tile-size", type=int, default=1_000_000, help="points a tile, about")
     part.add_argument("--workers", type=int, default=1, help="how many processes")
     return it

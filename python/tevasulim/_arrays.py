@@ -5,10 +5,10 @@ from __future__ import annotations
 from typing import Any, Iterator, NamedTuple, Optional, Tuple
 
 import numpy as np
-from numpy.typing import NDArray
 
 from ._faces import outline, vertex_faces, vertex_neighbors
 from ._kept import Ints, Kept
+from ._types import NDArray
 
 Floats = NDArray[np.float64]
 

@@ -4,7 +4,8 @@ from __future__ import annotations
 from typing import Tuple
 
 import numpy as np
-from numpy.typing import NDArray
+
+from ._types import NDArray
 
 Ints = NDArray[np.int32]
 

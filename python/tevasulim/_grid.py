@@ -8,10 +8,10 @@ from __future__ import annotations
 from typing import Any, NamedTuple, Optional, Tuple, Union
 
 import numpy as np
-from numpy.typing import NDArray
 
 from ._library import MOST
 from ._numbers import coordinates, finite, in_range, index_text, number, row_of
+from ._types import NDArray
 from .errors import NotWholeError, TooLargeError
 
 # Floats up to here are multiplied by a power of ten and divided again without loss.

@@ -4,7 +4,8 @@ from __future__ import annotations
 from typing import Any, List, Tuple
 
 import numpy as np
-from numpy.typing import NDArray
+
+from ._types import NDArray
 
 # Fewer points are taken as they are.
 FEW = 1000

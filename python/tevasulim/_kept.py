@@ -17,12 +17,13 @@ from ctypes import byref, c_size_t, c_uint32
 from typing import Any, Callable, Dict, List, NamedTuple, Optional, Tuple, Type, TypeVar, Union
 
 import numpy as np
-from numpy.typing import NDArray
 
 from . import _library as library
 from ._grid import WHOLE, Grid, chosen
 from ._order import near_order, rounds
+from ._types import NDArray
 from .errors import (
+    ClosedError,
     IsConstrainedError,
     NoSuchVertexError,
     OutOfIndexesError,
@@ -123,7 +124,7 @@ class Kept:
         """Each method begins with this: a closed triangulation is refused, and what an exception
         broke off is brought in order."""
         if not self._mesh.is_open:
-            raise library.error_of(1)
+            raise ClosedError("the triangulation is closed")
         if self._edit is not None:
             self._settle(self._edit)
             self._edit = None

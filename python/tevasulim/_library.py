@@ -17,8 +17,8 @@ from ctypes import (
 from typing import Any, Callable, Optional, Tuple
 
 import numpy as np
-from numpy.typing import NDArray
 
+from ._types import NDArray
 from .errors import OF_STATUS, NoLibraryError, TevasulimError, TooShortError
 
 NAME = "libtevasulim.so"

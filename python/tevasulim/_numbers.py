@@ -5,9 +5,9 @@ import operator
 from typing import Any, Optional
 
 import numpy as np
-from numpy.typing import NDArray
 
 from ._library import MOST
+from ._types import NDArray
 from .errors import NotFiniteError, NotWholeError, TooLargeError
 
 # Each whole number up to this is a float.

@@ -4,9 +4,9 @@ from __future__ import annotations
 from typing import Any, List
 
 import numpy as np
-from numpy.typing import NDArray
 
 from ._library import MOST
+from ._types import NDArray
 
 # Fewer points are taken in their own order.
 FEW = 32

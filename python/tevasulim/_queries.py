@@ -7,7 +7,6 @@ from enum import IntEnum
 from typing import Any, List, NamedTuple, Optional, Tuple
 
 import numpy as np
-from numpy.typing import NDArray
 
 from . import _library as library
 from ._arrays import Arrays, Floats
@@ -15,6 +14,7 @@ from ._faces import faces_of_edges, keys_of
 from ._grid import WHOLE, Asked, Grid
 from ._kept import Ints, Kept
 from ._numbers import numbers_of, single
+from ._types import NDArray
 from ._walk import distances_to_segments_2, meets_box, nearer, turns, walk
 
 MOST = library.MOST

@@ -5,13 +5,13 @@ from ctypes import byref, c_uint32
 from typing import Any, Iterable, Iterator, List
 
 import numpy as np
-from numpy.typing import NDArray
 
 from . import _library as library
 from ._arrays import Floats
 from ._kept import Ints
 from ._numbers import numbers_of, single, unmasked
 from ._queries import Queries
+from ._types import NDArray
 
 
 class Regions(Queries):

@@ -8,7 +8,8 @@ from itertools import islice
 from typing import Any, List, Optional, Union
 
 import numpy as np
-from numpy.typing import NDArray
+
+from ._types import NDArray
 
 TABLES = (".csv", ".txt", ".xyz", ".tsv", ".npy")
 # A table's first bytes may say that it is Unicode.

@@ -4,12 +4,12 @@ from __future__ import annotations
 from typing import Any, List, NamedTuple, Optional, Tuple
 
 import numpy as np
-from numpy.typing import NDArray
 
 from ._arrays import Floats
 from ._needs import needed
 from ._numbers import numbers_of, unmasked
 from ._queries import Queries
+from ._types import NDArray
 from ._walk import turns
 
 # So many points are looked up at once.

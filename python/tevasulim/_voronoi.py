@@ -4,13 +4,13 @@ from __future__ import annotations
 from typing import Any, Dict, List, NamedTuple, Optional, Tuple
 
 import numpy as np
-from numpy.typing import NDArray
 
 from ._arrays import Floats
 from ._circles import Faces, disks, joined, spread_over
 from ._kept import Ints
 from ._needs import needed
 from ._queries import Queries
+from ._types import NDArray
 
 
 class Voronoi(NamedTuple):

@@ -6,7 +6,8 @@ from __future__ import annotations
 from typing import Optional, Tuple
 
 import numpy as np
-from numpy.typing import NDArray
+
+from ._types import NDArray
 
 Ints = NDArray[np.int32]
 Wide = NDArray[np.int64]

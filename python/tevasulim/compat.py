@@ -9,11 +9,11 @@ from __future__ import annotations
 from typing import Any, Optional, Tuple
 
 import numpy as np
-from numpy.typing import NDArray
 
+from ._types import NDArray
 from .triangulation import Triangulation
 
-SAME = "transform vertex_to_simplex vertex_neighbor_vertices convex_hull min_bound max_bound".split()
+SAME = "transform vertex_to_simplex vertex_neighbor_vertices convex_hull min_bound max_bound"
 
 class Delaunay:
     """What `scipy.spatial.Delaunay` has, of points of the plane. Arrays may be written to.
@@ -49,7 +49,7 @@ class Delaunay:
         return self._tri.find_simplex(xi)
 
     def __getattr__(self, name: str) -> Any:
-        if name in SAME:
+        if name in SAME.split():
             return getattr(self._tri, name)
         raise AttributeError(f"{type(self).__name__!r} object has no attribute {name!r}")
 

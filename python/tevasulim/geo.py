@@ -15,10 +15,10 @@ import warnings
 from typing import Any, Iterator, List, NamedTuple, Optional, Tuple
 
 import numpy as np
-from numpy.typing import NDArray
 
 from ._arrays import Floats
 from ._needs import needed
+from ._types import NDArray
 from ._values import Raster
 from .errors import CrossingError
 from .triangulation import Triangulation
@@ -216,8 +216,8 @@ def warn_of_degrees(crs: Any) -> None:
     # GeoPackage's name for none is that of a system in degrees.
     if crs is not None and crs.is_geographic and "Undefined" not in str(crs):
         warnings.warn(
-            "coordinates are degrees, so circles and distances are not those on the ground: project "
-            "first, as by frame.to_crs(frame.estimate_utm_crs())",
+            "coordinates are degrees, so circles and distances are not those on the ground: "
+            "project first, as by frame.to_crs(frame.estimate_utm_crs())",
             stacklevel=3,
         )
 

@@ -5,7 +5,6 @@ from ctypes import byref
 from typing import Any, Dict, Optional, Tuple, Type, TypeVar
 
 import numpy as np
-from numpy.typing import NDArray
 
 from . import _library as library
 from ._grid import Grid, checked_bounds, chosen
@@ -14,6 +13,7 @@ from ._numbers import checked_scale, index_array, listed, numbers_of, single
 from ._plot import Pictures
 from ._queries import Meeting, Met, Place, Places
 from ._regions import Regions
+from ._types import NDArray
 from ._values import Contour, Raster
 from ._voronoi import Voronoi, VoronoiCells
 from .errors import NoSuchPointError, NoSuchVertexError
