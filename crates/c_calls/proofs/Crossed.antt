@@ -1,14 +1,20 @@
 -- The constraints that are crossed among the items that a segment meets.
--- Lemmas: crossed_more, crossed_skip, crossed_few, conflict_is, conflict_none.
-use Rattle.std.proofs.Common.{◌≡◌, ◌≢◌, ◌∙◌, ◌≤◌, ◌++◌, ℕ, List, [], ◌∷◌, length}
-use Rattle.std.proofs.Common.{refl, sym, ap, inl, inr, arith}
-use Rattle.std.specs.Prelude.{◌⊎◌}
+-- Lemmas: crossed_more, crossed_skip, crossed_few, conflict_is, conflict_none, conflict_told.
+use Rattle.std.proofs.Common.{◌≡◌, ◌≢◌, ◌∙◌, ◌≤◌, ◌+◌, ◌++◌, ℕ, List, [], ◌∷◌, length}
+use Rattle.std.proofs.Common.{refl, sym, ap, subst, inl, inr, arith}
+use Rattle.std.specs.Prelude.{◌⊎◌, ℤ, Option, None, Some}
+use Rattle.delaunay_edit.specs.plane.Fraction.{Point}
 use Rattle.delaunay_edit.specs.plane.Line.{Item, at_vertex, across, along}
+use Rattle.delaunay_edit.specs.delaunay_lines.declared.intersection.Intersection.{Intersection}
+use Rattle.delaunay_edit.specs.delaunay_lines.declared.iterator.LineIntersectionIterator.{LineIntersectionIterator}
+use Rattle.delaunay_edit.specs.delaunay_lines.Items.{item_in}
+use Rattle.delaunay_edit.specs.delaunay_lines.Walk.{GivesNext}
 use Rattle.c_calls.specs.declared.lines.TheConstants.{AT_VERTEX, ACROSS_EDGE, ALONG_EDGE}
 use Rattle.c_calls.specs.declared.raw.RawMeeting.{RawMeeting}
 use Rattle.c_calls.specs.declared.raw.RawSegment.{RawSegment}
-use Rattle.c_calls.specs.Conflicts.{AreCrossed, IsCrossed}
+use Rattle.c_calls.specs.Conflicts.{AreCrossed, IsConflictMet, IsCrossed, PutsConflict}
 use Rattle.c_calls.specs.Queries.{IsMeeting}
+use Rattle.c_calls.proofs.Walked.{IsToldOf, walk_goes_on, walk_skips}
 
 -- one more item, which is a constraint that is crossed
 pub crossed_more : (constraints : List (ℕ × ℕ)) (m : Item) (s : RawSegment)
@@ -88,3 +94,30 @@ conflict_none constraints (across i j) m met (inr zero) s h = elim met.3 [
   | inr free ↦ free.1 h.1
 ]
 conflict_none constraints (along i j) m met why s h = h
+
+-- a walk whose constraints are told goes on by one item
+module _ {V D U F P S : Type 0} (at : V → Point) (number : S → ℤ) (constraints : List (ℕ × ℕ))
+    (start now after : LineIntersectionIterator V D U F P S) (was count : ℕ)
+    (old mid new : List RawSegment)
+    (told : IsToldOf at number (AreCrossed constraints) start now was old mid)
+    (x : Intersection V D U F) (gives : GivesNext at number now (Some x) after)
+    (m : RawMeeting) (met : IsMeeting constraints (item_in x) m) where
+  pub conflict_told : (found : Option RawSegment) → IsConflictMet m found
+      → PutsConflict found was count mid new
+      → IsToldOf at number (AreCrossed constraints) start after count old new
+  conflict_told None why stays =
+      subst (λ (n : ℕ). IsToldOf at number (AreCrossed constraints) start after n old new)
+      (sym stays.0)
+      (subst (λ (l : List RawSegment). IsToldOf at number (AreCrossed constraints) start after was
+      old l) (sym stays.1)
+      (walk_skips at number (AreCrossed constraints) start now was old mid told after x gives
+      (crossed_skip constraints (item_in x)
+      (conflict_none constraints (item_in x) m met why))))
+  conflict_told (Some s) is put =
+      subst (λ (n : ℕ). IsToldOf at number (AreCrossed constraints) start after n old new)
+      (sym put.0)
+      (subst (λ (l : List RawSegment). IsToldOf at number (AreCrossed constraints) start after
+      (was + 1) old l) (sym put.1)
+      (walk_goes_on at number (AreCrossed constraints) start now was old mid told after x gives s
+      (crossed_more constraints (item_in x) s
+      (conflict_is constraints (item_in x) m s met is.0 is.1.0 is.1.1))))

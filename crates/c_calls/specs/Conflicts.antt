@@ -1,5 +1,6 @@
 -- What C is told of the constraints that a segment crosses.
-use Rattle.std.specs.Prelude.{◌≡◌, ◌≢◌, ◌⊎◌, [], ◌∷◌, ℕ, List, Option, MatchOption}
+use Rattle.std.specs.Prelude.{◌≡◌, ◌≢◌, ◌⊎◌, ◌+◌, [], ◌∷◌, ℕ, List, Option, MatchOption}
+use Rattle.std.specs.Prelude.{slice_set}
 use Rattle.delaunay_edit.specs.plane.Fraction.{whole}
 use Rattle.delaunay_edit.specs.plane.Line.{Item, at_vertex, across, along, IsLineList}
 use Rattle.delaunay_edit.specs.plane.Pairs.{Joins}
@@ -32,6 +33,11 @@ abbrev pub IsConflictMet : RawMeeting → Option RawSegment → Type 0
 IsConflictMet m found = MatchOption found ((m.kind ≢ ACROSS_EDGE) ⊎ (m.constrained ≡ 0))
     (λ s. (m.kind ≡ ACROSS_EDGE) × ((m.constrained ≢ 0)
     × (s ≡ record { from = m.from; to = m.to })))
+
+-- one more constraint was written at its place, if it was one
+abbrev pub PutsConflict : Option RawSegment → ℕ → ℕ → List RawSegment → List RawSegment → Type 0
+PutsConflict found was count old new = MatchOption found ((count ≡ was) × (new ≡ old))
+    (λ s. (count ≡ was + 1) × (new ≡ slice_set old was s))
 
 -- a call tells of the constraints that are crossed among these items
 abbrev pub TellsConflicts : List (ℕ × ℕ) → List Item → ℕ → ℕ → List RawSegment → List RawSegment

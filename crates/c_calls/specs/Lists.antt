@@ -25,7 +25,7 @@ use Rattle.c_calls.specs.Kept.{kept_place, unnumbered_at}
 abbrev pub unnumbered_points : List RawPoint → List NumberedPoint
 unnumbered_points ps = map (λ p. unnumbered_at p.x p.y) ps
 
-module _ {V D U F : Type 0} (place : V → Point) (constraints : List U → List ℕ) where
+module _ {V D U F : Type 0} (place : V → Point) where
   -- a list may be inserted: there is room for its indexes, all is in range, and there are few
   -- enough vertices
   pub record MayInsert (list : List V) (before : List ℕ) (old : State V D U F) : Type 0 where
@@ -33,11 +33,12 @@ module _ {V D U F : Type 0} (place : V → Point) (constraints : List U → List
     pub in_range : All (λ v. InRange (place v)) list
     pub few : ¬ (MAX_ELEMENTS < 6 * (length old.vertices + length list))
 
+module _ {V D U F : Type 0} (place : V → Point) (constraints : List U → List ℕ) where
   -- how the insertion of all vertices of a list ended. Their indexes are written to the front of
   -- another list where all are there, and else that stays
   pub data ListInsertion (list : List V) (status : ℕ) (before after : List ℕ)
       (old new : State V D U F) : Type 0 where
-    all_inserted : (handles : List ℕ) → status ≡ WELL → MayInsert list before old
+    all_inserted : (handles : List ℕ) → status ≡ WELL → MayInsert place list before old
         → InsertsAll place constraints list handles old new
         → after ≡ handles ++ drop (length handles) before
         → ListInsertion list status before after old new
@@ -50,10 +51,10 @@ module _ {V D U F : Type 0} (place : V → Point) (constraints : List U → List
         → All (λ v. InRange (place v)) list
         → MAX_ELEMENTS < 6 * (length old.vertices + length list) → new ≡ old → after ≡ before
         → ListInsertion list status before after old new
-    insertion_refused : status ≡ OUT_OF_MEMORY → MayInsert list before old → new ≡ old
+    insertion_refused : status ≡ OUT_OF_MEMORY → MayInsert place list before old → new ≡ old
         → after ≡ before → ListInsertion list status before after old new
     insertion_stopped : (error : BulkInsertionError) → status ≡ OUT_OF_MEMORY
-        → MayInsert list before old → StopsLater place constraints list error old new
+        → MayInsert place list before old → StopsLater place constraints list error old new
         → after ≡ before → ListInsertion list status before after old new
 
 -- an insertion of a list into either type, which stays

@@ -1,11 +1,12 @@
 //! The constraints that a segment crosses.
-ghost use Rattle.std.specs.Prelude.{◌≡◌, List, MatchOption};
+ghost use Rattle.std.specs.Prelude.{◌≡◌, ◌<◌, List};
 ghost use Rattle.delaunay_edit.specs.plane.Line.{Item};
 ghost use Rattle.delaunay_edit.specs.delaunay_legalization.Constraints.{constraints_by};
 ghost use Rattle.delaunay_edit.specs.delaunay_legalization.Shape.{IsTriangulated};
 ghost use Rattle.delaunay_edit.specs.delaunay_legalization.State.{state_of, triangulation_of};
 ghost use Rattle.delaunay_edit.specs.delaunay_lines.Walk.{AreLeft, IsReady};
-ghost use Rattle.c_calls.specs.Conflicts.{FindsConflicts, IsConflictMet, TellsConflicts};
+ghost use Rattle.c_calls.specs.Conflicts.{FindsConflicts, IsConflictMet, PutsConflict};
+ghost use Rattle.c_calls.specs.Conflicts.{TellsConflicts};
 ghost use Rattle.c_calls.specs.Kept.{kept_drawing, kept_place, kept_state};
 
 use crate::kept::KeptPoints;
@@ -33,6 +34,18 @@ fn conflict_in(meeting: &RawMeeting) -> Option<RawSegment>
     })
 }
 
+// Writes a constraint at its place, if there is one and room for it, and counts it.
+fn put_conflict(conflicts: &mut [RawSegment], count: usize, found: Option<RawSegment>) -> usize
+    requires { count < usize.MAX }
+    ensures { PutsConflict found count result conflicts.old conflicts.new }
+{
+    let Some(conflict) = found else {
+        return count;
+    };
+    put(conflicts, count, conflict);
+    count + 1
+}
+
 // Writes the constraints that a line crosses, as far as there is room, and how many they are.
 fn write_crossed<M: ConstraintMarker<UE>, V: HasPosition, DE, UE, F, P: PlaneTests<V::Scalar>>(
     line: &mut LineIntersectionIterator<'_, V, DE, UE, F, P>,
@@ -50,10 +63,7 @@ fn write_crossed<M: ConstraintMarker<UE>, V: HasPosition, DE, UE, F, P: PlaneTes
     let mut count = 0usize;
     while let Some(item) = line.next() {
         let meeting = raw_meeting::<M, _, _, _, _>(item);
-        if let Some(conflict) = conflict_in(&meeting) {
-            put(conflicts, count, conflict);
-            count += 1;
-        }
+        count = put_conflict(conflicts, count, conflict_in(&meeting));
     }
     *length = count;
     status_by_room(conflicts.len(), count)

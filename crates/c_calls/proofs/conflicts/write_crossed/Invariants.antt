@@ -1,0 +1,18 @@
+use Rattle.delaunay_edit.specs.delaunay_legalization.Constraints.{constraints_by}
+use Rattle.delaunay_edit.specs.delaunay_legalization.State.{state_of}
+use Rattle.delaunay_edit.specs.delaunay_lines.Walk.{IsReady}
+use Rattle.c_calls.specs.Conflicts.{AreCrossed}
+use Rattle.c_calls.proofs.Walked.{IsToldOf}
+use Rattle.c_calls.proofs.conflicts.write_crossed.Given as goal
+
+abbrev pub invariant-loop-item : goal.invariant-loop-item
+invariant-loop-item g l = record {
+  ready : IsReady g.V.HasPosition.place g.V.Scalar.SpadeNum.whole g.P.PlaneTests.sites
+      g.P.PlaneTests.covered l.line;
+  so_far : IsToldOf g.V.HasPosition.place g.V.Scalar.SpadeNum.whole
+      (AreCrossed (constraints_by g.M.ConstraintMarker.constraints (state_of l.fn.line.dcel.now)))
+      l.fn.line l.line l.count l.fn.conflicts l.conflicts;
+}
+
+abbrev pub decreases-loop-item : goal.decreases-loop-item
+decreases-loop-item g l = l.line.left
