@@ -160,9 +160,11 @@ class Command(unittest.TestCase):
         status, names, said = self.run_command(*words)
         self.assertEqual((status, said), (0, ""))
         self.assertGreater(sum(len(np.load(it)) for it in names.split()), 9900)
-        status, _, said = self.run_command(*words)
-        self.assertEqual(status, 1)
-        self.assertIn("another run", said)
+        # Another run leaves the files of the first.
+        status, again, _ = self.run_command(*words)
+        self.assertEqual(status, 0)
+        self.assertFalse(set(names.split()) & set(again.split()))
+        self.assertTrue(all(map(os.path.exists, names.split())))
 
 
 if __name__ == "__main__":

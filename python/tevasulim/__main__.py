@@ -79,6 +79,10 @@ def parser() -> argparse.ArgumentParser:
     part.add_argument("inputs", metavar="IN", nargs="+", help=about)
     part.add_argument("--tile-size", type=int, default=1_000_000, help="points a tile, about")
     part.add_argument("--workers", type=int, default=1, help="how many processes")
+    part.add_argument("--scheduler", help="the address of a Dask scheduler, in place of these")
+    part.add_argument(
+        "--segments", nargs="+", default=[], help="a .npy of pairs of numbers of points, shape (m, 2)"
+    )
     return it
 
 
@@ -178,11 +182,18 @@ def tiles(given: Any) -> None:
     os.makedirs(out, exist_ok=True)
     if given.workers < 1:
         raise ValueError(f"--workers is to be 1 or more, not {given.workers}")
-    if given.workers == 1:
-        found = triangulate_tiles(given.inputs, given.tile_size, None, out)
+    words, segments = (given.inputs, given.tile_size), given.segments
+    if given.scheduler:
+        from distributed import Client
+
+        with Client(given.scheduler) as client:
+            shows = not given.quiet
+            found = triangulate_tiles(*words, client, out, segments=segments, progress=shows)
+    elif given.workers == 1:
+        found = triangulate_tiles(*words, None, out, segments=segments)
     else:
         with ProcessPoolExecutor(given.workers) as pool:
-            found = triangulate_tiles(given.inputs, given.tile_size, pool, out)
+            found = triangulate_tiles(*words, pool, out, segments=segments)
     for name in found.cells:
         print(name)
 
