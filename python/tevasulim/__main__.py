@@ -186,7 +186,8 @@ def tiles(given: Any) -> None:
     if given.scheduler:
         from distributed import Client
 
-        with Client(given.scheduler) as client:
+        connect: Any = Client
+        with connect(given.scheduler) as client:
             shows = not given.quiet
             found = triangulate_tiles(*words, client, out, segments=segments, progress=shows)
     elif given.workers == 1:
