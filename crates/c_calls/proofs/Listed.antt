@@ -4,7 +4,7 @@
 use Rattle.std.proofs.Common.{◌≡◌, ◌<◌, ◌≤◌, ◌+◌, ◌*◌, ◌∙◌, [], ◌∷◌, ◌++◌, ℕ, List, length}
 use Rattle.std.proofs.Common.{take, drop, set, get_or, refl, sym, ap, subst, inl, inr, arith}
 use Rattle.std.proofs.Common.{append_assoc}
-use Rattle.std.specs.Prelude.{All}
+use Rattle.std.specs.Prelude.{◌↔◌, All, Err}
 use Rattle.std.proofs.lemmas.List.Elements.{All-map}
 use Rattle.std.proofs.lemmas.List.{drop_more, get_or-map, length-map, length-take-le, set_at}
 use Rattle.std.proofs.lemmas.List.{take_all, take_more}
@@ -24,7 +24,12 @@ use Rattle.c_calls.specs.declared.kept.KeptPoints.TheVariants.{Plain, Constraine
 use Rattle.c_calls.specs.declared.raw.RawPoint.{RawPoint}
 use Rattle.c_calls.specs.declared.statuses.TheConstants.{WELL, OUT_OF_MEMORY}
 use Rattle.c_calls.specs.Lists.{InsertsListKept, ListInsertion, MayInsert, unnumbered_points}
-use Rattle.c_calls.specs.Lists.{all_inserted, insertion_refused, insertion_stopped}
+use Rattle.c_calls.specs.Answers.{status_of_error}
+use Rattle.c_calls.specs.Lists.{all_inserted, insertion_full, insertion_refused, insertion_stopped}
+use Rattle.delaunay_edit.specs.delaunay_core.declared.math.InsertionError.{InsertionError}
+use Rattle.delaunay_edit.specs.delaunay_core.declared.math.InsertionError.TheVariants.{TooLarge}
+use Rattle.delaunay_edit.specs.delaunay_core.declared.math.InsertionError.TheVariants.{OutOfIndexes}
+use Rattle.delaunay_edit.specs.delaunay_core.declared.math.InsertionError.TheVariants.{OutOfMemory}
 use Rattle.c_calls.specs.Kept.{kept_place, unnumbered_at}
 use Rattle.c_calls.specs.Written.{IsRawInRange}
 
@@ -98,6 +103,25 @@ module _ {V D U F : Type 0} (place : V → Point) (constraints : List U → List
   is_stopped same (Vertex i why) (inr stops) =
       insertion_stopped (Vertex i why) refl may stops same
   is_stopped same (NoRoom why) (inr stops) = insertion_stopped (NoRoom why) refl may stops same
+
+-- room was refused for points in range
+pub reserve_refused : {D U F T : Type 0} (constraints : List U → List ℕ) (points : List RawPoint)
+    (before : List ℕ) (old now : State NumberedPoint D U F) → length points ≤ length before
+    → All IsRawInRange points → now ≡ old → (e : InsertionError)
+    → ¬ (Err {T = T} e ≡ Err TooLarge)
+    → (Err {T = T} e ≡ Err OutOfIndexes)
+    ↔ (MAX_ELEMENTS < 6 * (length old.vertices + length points))
+    → ListInsertion kept_place constraints (unnumbered_points points) (status_of_error e) before
+    before old now
+reserve_refused constraints points before old now fits range same TooLarge big full =
+    absurd (big refl)
+reserve_refused constraints points before old now fits range same OutOfIndexes big full =
+    insertion_full refl (subst (λ (n : ℕ). n ≤ length before) (sym (count_same points)) fits)
+    (vertices_in_range points range) (subst (λ (n : ℕ). MAX_ELEMENTS
+    < 6 * (length old.vertices + n)) (sym (count_same points)) (full.0 refl)) same refl
+reserve_refused constraints points before old now fits range same OutOfMemory big full =
+    insertion_refused refl (may_insert points before old old fits range refl
+    (λ more. let clash = full.1 more in absurd (cc))) same refl
 
 -- into a plain triangulation
 pub listed_in_plain : (list : List NumberedPoint) (status : ℕ) (before after : List ℕ)

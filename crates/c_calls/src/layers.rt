@@ -27,6 +27,7 @@ fn write_layers<T: Triangulation<Vertex = NumberedPoint>>(
     if layers.len() < count {
         return TOO_SHORT;
     }
+    points.recall_invariant();
     let Ok(found) = face_layers(points, alloc) else {
         return OUT_OF_MEMORY;
     };

@@ -12,12 +12,10 @@ use crate::kept::{ConstrainedPoints, KeptPoints};
 use crate::queries::are_in_range;
 use crate::raw::{NumberedPoint, RawPoint};
 use crate::statuses::{
-    IS_PLAIN, NO_SUCH_VERTEX, OUT_OF_INDEXES, OUT_OF_MEMORY, TOO_LARGE, TOO_SHORT, UNEQUAL_LENGTHS,
-    WELL,
+    IS_PLAIN, NO_SUCH_VERTEX, OUT_OF_MEMORY, TOO_LARGE, TOO_SHORT, UNEQUAL_LENGTHS, WELL, status_of,
 };
 use delaunay_bulk::InsertAll;
 use delaunay_interface::Triangulation;
-use delaunay_interface::delaunay_core::math::InsertionError;
 use delaunay_interface::delaunay_core::point::Point2;
 use delaunay_interface::half_edge_mesh::FixedVertexHandle;
 use exact_predicates::ExactTests;
@@ -92,8 +90,7 @@ fn insert_all<T: Triangulation<Vertex = NumberedPoint>>(
     }
     match points.reserve(positions.len()) {
         Ok(()) => insert_in_range(points, alloc, positions, indexes),
-        Err(InsertionError::OutOfIndexes) => OUT_OF_INDEXES,
-        Err(_) => OUT_OF_MEMORY,
+        Err(error) => status_of(error),
     }
 }
 

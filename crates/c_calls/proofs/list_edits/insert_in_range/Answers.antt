@@ -27,9 +27,9 @@ returns-in-Err g c =
     let old = g.T.Triangulation.state c.args.points.now in
     let new = g.T.Triangulation.state c.insert_all.new.self in
     is_stopped kept_place constraints (unnumbered_points c.args.positions.now) c.args.indexes.now
-    c.args.indexes.now old new c.requires refl c.in-Err.error
+    c.args.indexes.now old new c.requires refl c.in-Err.field-0
     (subst (λ (list : List NumberedPoint).
-    StopsAt kept_place constraints list c.in-Err.error old new) c.in-Ok.ensures
+    StopsAt kept_place constraints list c.in-Err.field-0 old new) c.in-Ok.ensures
     c.in-Err.ensures.stops)
 
 pub returns-in_default : goal.returns-in_default
