@@ -11,9 +11,9 @@ use crate::faces::{Kept, kept_faces};
 use crate::holes::hole_faces;
 use crate::names::{first_places, name_corners};
 use crate::sides::add_side_faces;
+use delaunay_interface::delaunay_core::point::Point2;
 use delaunay_interface::half_edge_mesh::FixedVertexHandle;
 use delaunay_interface::{ConstrainedDelaunayTriangulation, DelaunayTriangulation, Triangulation};
-use delaunay_interface::delaunay_core::point::Point2;
 use std::alloc::Global;
 
 /// The triangulation of points.

@@ -7,12 +7,12 @@ ghost use Rattle.drawing_faces.specs.Segments.{AddsSegments};
 ghost use Rattle.drawing_faces.specs.Drawing.{IsDecided, ends_of, is_taken, joining_of};
 
 use crate::error::DrawingError;
-use delaunay_journal::{Edit, Outcome, Refusal, Replayable, replay};
-use exact_predicates::ExactTests;
-use delaunay_interface::half_edge_mesh::FixedVertexHandle;
 use delaunay_bulk::InsertAll;
 use delaunay_interface::Triangulation;
 use delaunay_interface::delaunay_core::point::Point2;
+use delaunay_interface::half_edge_mesh::FixedVertexHandle;
+use delaunay_journal::{Edit, Outcome, Refusal, Replayable, replay};
+use exact_predicates::ExactTests;
 use std::alloc::{AllocError, Global};
 
 /// The ends of a segment, by the places of its points in a list.

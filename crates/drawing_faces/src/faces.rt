@@ -8,9 +8,9 @@ ghost use Rattle.drawing_faces.specs.Names.{position};
 ghost use Rattle.drawing_faces.specs.Drawing.{face_of, faces_inside, indexes_at};
 
 use crate::flood::reach_faces;
-use delaunay_interface::half_edge_mesh::{FaceHandle, FixedFaceHandle};
 use delaunay_interface::Triangulation;
 use delaunay_interface::delaunay_core::point::Point2;
+use delaunay_interface::half_edge_mesh::{FaceHandle, FixedFaceHandle};
 use delaunay_layers::face_layers;
 use std::alloc::{AllocError, Global};
 

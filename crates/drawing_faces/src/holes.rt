@@ -3,12 +3,12 @@ ghost use Rattle.std.specs.Prelude.{◌≡◌, ◌≤◌, ◌++◌, All, length,
 ghost use Rattle.drawing_faces.specs.Holes.{AddsFacesAt, AreIn};
 
 use crate::error::DrawingError;
-use delaunay_interface::delaunay_legalization::is_constraint_edge;
-use exact_predicates::ExactTests;
-use delaunay_interface::half_edge_mesh::FixedFaceHandle;
-use delaunay_interface::{PositionInTriangulation, Triangulation};
 use delaunay_interface::delaunay_core::math::validate_vertex;
 use delaunay_interface::delaunay_core::point::Point2;
+use delaunay_interface::delaunay_legalization::is_constraint_edge;
+use delaunay_interface::half_edge_mesh::FixedFaceHandle;
+use delaunay_interface::{PositionInTriangulation, Triangulation};
+use exact_predicates::ExactTests;
 use std::alloc::Global;
 
 // Adds the faces that a point is in: behind an edge those on both sides, unless it is a constraint.

@@ -5,8 +5,7 @@ ghost use Rattle.drawing_faces.specs.Drawing.{face_of};
 
 use crate::error::DrawingError;
 use crate::faces::FaceCorners;
-use delaunay_interface::half_edge_mesh::MAX_ELEMENTS;
-use delaunay_interface::half_edge_mesh::FixedVertexHandle;
+use delaunay_interface::half_edge_mesh::{FixedVertexHandle, MAX_ELEMENTS};
 use std::alloc::{AllocError, Global};
 
 /// Of each of so many vertices the first place where it stands in a list.

@@ -10,11 +10,11 @@ ghost use Rattle.drawing_faces.specs.Sides.{AddsBeside, AddsOnLeft};
 
 use crate::edits::DrawnSegment;
 use crate::error::DrawingError;
-use delaunay_interface::half_edge_mesh::{FixedFaceHandle, FixedVertexHandle};
-use exact_predicates::ExactTests;
-use delaunay_interface::{HasMesh, Intersection, LineIntersectionIterator};
 use delaunay_interface::delaunay_core::math::PlaneTests;
 use delaunay_interface::delaunay_core::point::Point2;
+use delaunay_interface::half_edge_mesh::{FixedFaceHandle, FixedVertexHandle};
+use delaunay_interface::{HasMesh, Intersection, LineIntersectionIterator};
+use exact_predicates::ExactTests;
 use std::alloc::AllocError;
 
 // Adds the face on the left of what a way meets, if that is an edge along which it goes.

@@ -1,13 +1,13 @@
 //! The triangulation of a drawing, and what is told of it.
 use crate::crossings::first_crossed;
 use anyhow::{anyhow, bail};
-use drawing_faces::{DrawingError, DrawnMesh, DrawnSegment, Kept, triangulate_drawing};
-use mesh_files::{Drawing, FilePlace, MeshText, hole_sides};
-use mesh_io::{Scene, Task, input_name, write_mesh};
-use delaunay_interface::half_edge_mesh::UndirectedEdgeHandle;
 use delaunay_interface::Triangulation;
 use delaunay_interface::delaunay_core::point::Point2;
 use delaunay_interface::delaunay_legalization::ConstraintMarker;
+use delaunay_interface::half_edge_mesh::UndirectedEdgeHandle;
+use drawing_faces::{DrawingError, DrawnMesh, DrawnSegment, Kept, triangulate_drawing};
+use mesh_files::{Drawing, FilePlace, MeshText, hole_sides};
+use mesh_io::{Scene, Task, input_name, write_mesh};
 use std::alloc::{AllocError, Global};
 use std::fmt;
 

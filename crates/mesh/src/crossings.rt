@@ -1,10 +1,10 @@
 //! Which segment of a drawing is in the way of another.
 use crate::areas::turned_area;
-use exact_predicates::ExactTests;
-use mesh_io::Scene;
-use delaunay_interface::{PositionInTriangulation, Triangulation};
 use delaunay_interface::delaunay_core::math::validate_vertex;
 use delaunay_interface::delaunay_core::point::Point2;
+use delaunay_interface::{PositionInTriangulation, Triangulation};
+use exact_predicates::ExactTests;
+use mesh_io::Scene;
 
 /// The ends of a segment.
 #[derive(Clone, Copy)]

@@ -14,9 +14,9 @@ use crate::building::{DrawnLists, tell_drawn, triangulate_scene, write_triangula
 use crate::nearest::tell_nearest;
 use crate::places::tell_places;
 use crate::way::tell_way;
-use mesh_io::{Question, Scene, Task, command, read_scene, task_of, tell_step};
 use delaunay_interface::Triangulation;
 use delaunay_interface::delaunay_core::point::Point2;
+use mesh_io::{Question, Scene, Task, command, read_scene, task_of, tell_step};
 use std::process::ExitCode;
 
 /// Answers a question of the triangulation with its constraints.

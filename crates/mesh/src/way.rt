@@ -1,12 +1,12 @@
 //! What the way from one point to another meets.
 use crate::building::point_place;
 use anyhow::{Context, bail};
-use exact_predicates::ExactTests;
-use mesh_io::Scene;
-use delaunay_interface::half_edge_mesh::{DirectedEdgeHandle, FixedVertexHandle};
-use delaunay_interface::{Intersection, LineIntersectionIterator, Triangulation};
 use delaunay_interface::delaunay_core::math::validate_vertex;
 use delaunay_interface::delaunay_core::point::Point2;
+use delaunay_interface::half_edge_mesh::{DirectedEdgeHandle, FixedVertexHandle};
+use delaunay_interface::{Intersection, LineIntersectionIterator, Triangulation};
+use exact_predicates::ExactTests;
+use mesh_io::Scene;
 use std::alloc::{AllocError, Global};
 use std::io;
 use std::io::{BufWriter, Write};

@@ -12,10 +12,10 @@ use crate::line::put_ends;
 use crate::output::Piece::Text;
 use crate::output::{Held, Written, put_pieces};
 use crate::reply::{Reply, put_reply};
-use delaunay_interface::half_edge_mesh::{FixedDirectedEdgeHandle, FixedVertexHandle};
 use delaunay_interface::Triangulation;
 use delaunay_interface::delaunay_core::HintGenerator;
 use delaunay_interface::delaunay_core::math::{InsertionError, PlaneTests};
+use delaunay_interface::half_edge_mesh::{FixedDirectedEdgeHandle, FixedVertexHandle};
 use std::io::Write;
 use triangulate_watched::Watched;
 

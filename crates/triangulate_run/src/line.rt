@@ -17,11 +17,11 @@ use crate::output::Piece::{Index, Text};
 use crate::output::{Held, Written, put_pieces};
 use crate::points::{SheetPoint, index_of};
 use crate::reply::{Reply, put_reply};
-use delaunay_interface::half_edge_mesh::DirectedEdgeHandle;
-use delaunay_interface::{EdgeData, Intersection, LineIntersectionIterator, TriangulationCore};
 use delaunay_interface::delaunay_core::HintGenerator;
 use delaunay_interface::delaunay_core::math::PlaneTests;
 use delaunay_interface::delaunay_core::point::Point2;
+use delaunay_interface::half_edge_mesh::DirectedEdgeHandle;
+use delaunay_interface::{EdgeData, Intersection, LineIntersectionIterator, TriangulationCore};
 use std::io::Write;
 use triangulate_watched::Watched;
 

@@ -10,11 +10,11 @@ ghost use Rattle.triangulate_run.specs.declared.reply.Reply.TheVariants.{Distanc
 
 use crate::engine::Plain;
 use crate::reply::Reply;
-use delaunay_interface::half_edge_mesh::FixedVertexHandle;
 use delaunay_interface::Triangulation;
 use delaunay_interface::delaunay_core::HintGenerator;
 use delaunay_interface::delaunay_core::math::PlaneTests;
 use delaunay_interface::delaunay_core::point::Point2;
+use delaunay_interface::half_edge_mesh::FixedVertexHandle;
 
 /// The least squared distance to a vertex, by the search of a triangulation without constraints.
 pub(crate) fn nearest_of_plain<L: HintGenerator<i64>, P: PlaneTests<i64>>(

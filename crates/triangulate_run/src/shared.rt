@@ -17,10 +17,10 @@ ghost use Rattle.triangulate_run.specs.declared.reply.Reply.TheVariants.{Edge};
 use crate::corners::{Corners, from_least};
 use crate::points::{SheetPoint, index_of, site_index_of};
 use crate::reply::Reply;
-use delaunay_interface::half_edge_mesh::{FaceHandle, FixedVertexHandle};
-use delaunay_interface::{PositionInTriangulation, Triangulation};
 use delaunay_interface::delaunay_core::math::{InsertionError, PlaneTests, validate_vertex};
 use delaunay_interface::delaunay_core::point::Point2;
+use delaunay_interface::half_edge_mesh::{FaceHandle, FixedVertexHandle};
+use delaunay_interface::{PositionInTriangulation, Triangulation};
 use std::alloc::{AllocError, Global};
 
 /// Inserts a point, if it is a site of the list.
