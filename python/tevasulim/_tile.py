@@ -17,8 +17,9 @@ from .errors import CrossingError
 
 # How wide a halo is at first, in mean distances of the tile's points.
 HALO = 6.0
-# How many points are taken at once for one circle: those deepest inside.
-DEEPEST = 8
+# How many points are taken at first for one circle, those deepest inside. Each time that something
+# was given twice as many are taken: many points may be inside and hidden.
+DEEPEST, MOST_AT_ONCE = 8, 4096
 # How many circles are looked at together.
 AT_ONCE = 1024
 
@@ -313,7 +314,7 @@ class Tile:
         self.bounds = plan.bounds.astype(np.int64)
         self.is_there = plan.bounds[:, 0] <= plan.bounds[:, 2]
         self.region = self.widened(plan.boxes[tile])
-        self.asked = 0
+        self.asked, self.deepest = 0, DEEPEST
         self._segments: Dict[int, Any] = {}
 
     def widened(self, box: NDArray[Any]) -> NDArray[Any]:
@@ -437,11 +438,19 @@ class Tile:
                 self.asked += len(asking)
                 for begin in range(0, len(asking), AT_ONCE):
                     some = asking[begin : begin + AT_ONCE]
-                    ask_tile(self.tiles[tile], part, asked, some, given)
+                    ask_tile(self.tiles[tile], part, asked, some, given, self.deepest)
+        self.deepest = min(2 * self.deepest, MOST_AT_ONCE)
         return given
 
 
-def ask_tile(tile: Neighbour, part: Part, asked: Disks, rows: NDArray[Any], given: Given) -> None:
+def ask_tile(
+    tile: Neighbour,
+    part: Part,
+    asked: Disks,
+    rows: NDArray[Any],
+    given: Given,
+    deepest: int,
+) -> None:
     """The same of one tile, block by block."""
     ranks = asked.ranks(rows, tile.boxes())
     order, reached = np.argsort(ranks, axis=1, kind="stable"), (ranks < 0).sum(1)
@@ -455,7 +464,7 @@ def ask_tile(tile: Neighbour, part: Part, asked: Disks, rows: NDArray[Any], give
         maybe = np.nonzero(signs >= 0 if len(part.segments) else signs == 0)
         is_known = part.is_known(points[maybe])
         signs[maybe[0][is_known], maybe[1][is_known]] = -1
-        take_inside(points, numbers, signs, depths, rows[asking], given)
+        take_inside(points, numbers, signs, depths, rows[asking], given, deepest)
         take_border(points, numbers, signs, rows[asking], given)
 
 
@@ -466,9 +475,10 @@ def take_inside(
     depths: NDArray[Any],
     rows: NDArray[Any],
     given: Given,
+    most: int,
 ) -> None:
     """Takes the deepest points of each row that are inside of its disk."""
-    count = min(DEEPEST, points.shape[1])
+    count = min(most, points.shape[1])
     ranks = np.where(signs > 0, -depths, np.inf)
     deepest = np.argpartition(ranks, count - 1, axis=1)[:, :count]
     row, column = np.nonzero(np.take_along_axis(signs, deepest, 1) > 0)
