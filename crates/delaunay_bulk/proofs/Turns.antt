@@ -226,10 +226,10 @@ module _ {V D U F : Type 0} {place : V → Point} {constraints : List U → List
             (ap (λ (es : List (ℕ × V)). length (map (λ (e : ℕ × V). e.0) es)) was.0));
       }
 
-  module _ {error : BulkInsertionError} (in_range : All (λ v. InRange (place v)) list)
+  module _ (error : BulkInsertionError) (in_range : All (λ v. InRange (place v)) list)
       (few : MAX_ELEMENTS < 6 * (length old.vertices + length list) → ⊥)
       (next : InsertsNext place constraints (Err error) left rest now new) where
-    ended : RefusedWas place constraints left error now new
+    pub ended : RefusedWas place constraints left error now new
     ended = refused_was place constraints left rest error now new next
 
     inside : InRange (place ended.entry.1)
