@@ -1,11 +1,12 @@
 -- Which refusal of a list comes where.
--- Lemmas: refused_outside, refused_for_room, refused_for_nothing, why_later, grows_by_one.
-use Rattle.std.proofs.Common.{◌≡◌, ◌≢◌, ◌+◌, ◌*◌, ◌<◌, ◌≤◌, ◌⊎◌, ◌∷◌, [], ◌∙◌}
-use Rattle.std.proofs.Common.{ℕ, List, length, Result, Ok, Err, take, map, inl, inr, refl, sym, ap}
+-- Lemmas: grows_by_one, few_by_reserve, refused_outside, refused_for_room, refused_for_nothing,
+-- refused_for_memory, not_refused, why_later.
+use Rattle.std.proofs.Common.{◌≡◌, ◌+◌, ◌*◌, ◌<◌, ◌≤◌, ◌∙◌}
+use Rattle.std.proofs.Common.{ℕ, List, length, Result, Ok, Err, take, inl, inr, refl, sym, ap}
 use Rattle.std.proofs.Common.{subst, arith}
-use Rattle.std.specs.Prelude.{All, slice_get}
+use Rattle.std.specs.Prelude.{◌↔◌, All, IsErrOf, slice_get}
 use Rattle.std.proofs.lemmas.Bool.{cases_lt}
-use Rattle.std.proofs.lemmas.List.{get_or-take, length-map, length-set, length-take-le, length_push}
+use Rattle.std.proofs.lemmas.List.{get_or-take, length-set, length-take-le, length_push}
 use Rattle.std.proofs.lemmas.Option.{get_or_from_slice_get, slice_get_within}
 use Rattle.delaunay_interface.specs.half_edge_links.declared.room.TheConstants.{MAX_ELEMENTS}
 use Rattle.delaunay_interface.specs.plane.Fraction.{Point}
@@ -32,6 +33,15 @@ grows_by_one place old new v h (inl kept) =
 grows_by_one place old new v h (inr (last, more)) =
     omega (arith, ap length more.vertices, length_push old.vertices v)
 
+-- a reservation that was made says that there are indexes for so many more
+pub few_by_reserve : {R : Type 0} (result : Result R InsertionError) (r : R)
+    (count more size : ℕ) → result ≡ Ok r
+    → (IsErrOf result OutOfIndexes ↔ (MAX_ELEMENTS < 6 * (count + more))) → more ≡ size
+    → MAX_ELEMENTS < 6 * (count + size) → ⊥
+few_by_reserve {R} result r count more size is full same many =
+    let passes : MAX_ELEMENTS < 6 * (count + more) = omega (arith, many, same) in
+    let errors : Ok r ≡ Err OutOfIndexes = sym is ∙ full.1 passes in cc
+
 module _ {V : Type 0} (place : V → Point) (list : List V) where
   -- a vertex that is out of range is not before the first one
   not_before : (i j : ℕ) → i < j → IsFirstOutside place list i → IsFirstOutside place list j → ⊥
@@ -50,9 +60,9 @@ module _ {V : Type 0} (place : V → Point) (list : List V) where
   first_is_one i j a b = elim (cases_lt i j) [
     | inl less ↦ absurd (not_before i j less a b)
     | inr le ↦ elim (cases_lt j i) [
-        | inl less ↦ absurd (not_before j i less b a)
-        | inr ge ↦ omega (arith, le, ge)
-      ]
+      | inl less ↦ absurd (not_before j i less b a)
+      | inr ge ↦ omega (arith, le, ge)
+    ]
   ]
 
   -- and none is where all are in range
@@ -108,6 +118,22 @@ module _ {V : Type 0} (place : V → Point) (list : List V) where
       );
       full = (λ e. absurd (no_room e), λ h. absurd (few h.1));
     }
+
+    -- it has none, and there are indexes, but memory was refused
+    pub refused_for_memory : All (λ v. InRange (place v)) list
+        → (MAX_ELEMENTS < 6 * (count + length list) → ⊥)
+        → result ≡ Err (NoRoom OutOfMemory) → RefusesWhere place list count result
+    refused_for_memory all few is = refused_for_nothing all few
+        (λ j e. let errors = sym is ∙ e in absurd (cc))
+        (λ e. let errors = sym is ∙ e in absurd (cc))
+
+    -- it has none, and all was inserted
+    pub not_refused : (r : R) → All (λ v. InRange (place v)) list
+        → (MAX_ELEMENTS < 6 * (count + length list) → ⊥)
+        → result ≡ Ok r → RefusesWhere place list count result
+    not_refused r all few is = refused_for_nothing all few
+        (λ j e. let errors = sym is ∙ e in absurd (cc))
+        (λ e. let errors = sym is ∙ e in absurd (cc))
 
 -- a vertex in range is refused for memory, where the mesh has an index more
 pub why_later : {V D U F : Type 0} (place : V → Point) (constraints : List U → List ℕ) (v : V)

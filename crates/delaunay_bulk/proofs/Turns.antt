@@ -17,13 +17,9 @@ use Rattle.delaunay_interface.specs.delaunay_legalization.Constraints.{points_an
 use Rattle.delaunay_interface.specs.delaunay_legalization.State.{State}
 use Rattle.delaunay_interface.specs.Headline.{AreSites}
 use Rattle.delaunay_interface.proofs.Stepping.{inserted_grows, inserted_here}
-use Rattle.delaunay_interface.specs.delaunay_core.declared.math.InsertionError.TheVariants.{
-  TooLarge,
-  OutOfIndexes,
-  OutOfMemory,
-}
+use Rattle.delaunay_interface.specs.delaunay_core.declared.math.InsertionError.TheVariants.{OutOfMemory}
 use Rattle.delaunay_bulk.specs.declared.error.BulkInsertionError.{BulkInsertionError}
-use Rattle.delaunay_bulk.specs.declared.error.BulkInsertionError.TheVariants.{NoRoom, Vertex}
+use Rattle.delaunay_bulk.specs.declared.error.BulkInsertionError.TheVariants.{Vertex}
 use Rattle.delaunay_bulk.specs.Order.{IsListed}
 use Rattle.delaunay_bulk.specs.Bulk.{InsertsAll, InsertsInTurn, InsertsNext, InsertsOne}
 use Rattle.delaunay_bulk.specs.Bulk.{HaveHandles, RefusesOne, RefusesWhere, StopsAt}
