@@ -1,5 +1,6 @@
 pub mod Orders
 pub mod Placing
 pub mod Handled
+pub mod Refusals
 pub mod Turns
 pub mod Written

@@ -1,14 +1,15 @@
 -- Vertices that are inserted one after another.
 -- Notions: plain_of, NextWas, RefusedWas, IsInserting; one_of_all, next_site, next_was, none_was,
 -- refused_was, inserting_begins, inserting_has_place, inserting_goes_on, inserting_ends,
--- inserting_stops.
-use Rattle.std.proofs.Common.{◌≡◌, ◌<◌, [], ◌∷◌, ◌++◌, ◌∙◌}
-use Rattle.std.proofs.Common.{ℕ, List, length, map, None, Some, Ok, Err}
+-- inserting_refused, inserting_stops, inserting_refuses.
+use Rattle.std.proofs.Common.{◌≡◌, ◌+◌, ◌*◌, ◌<◌, ◌≤◌, [], ◌∷◌, ◌++◌, ◌∙◌}
+use Rattle.std.proofs.Common.{ℕ, List, length, map, None, Some, Result, Ok, Err, length-append}
 use Rattle.std.proofs.Common.{sym, ap, subst, refl, arith, inl, inr, append_assoc, append-nil}
 use Rattle.std.specs.Prelude.{All, slice_get, slice_set}
-use Rattle.std.proofs.lemmas.List.{length-map}
+use Rattle.std.proofs.lemmas.List.{length-map, length_push}
 use Rattle.std.proofs.lemmas.List.Elements.{All-head, All-rest}
 use Rattle.std.proofs.lemmas.Option.{slice_get_within, get_or_from_slice_get}
+use Rattle.delaunay_interface.specs.half_edge_links.declared.room.TheConstants.{MAX_ELEMENTS}
 use Rattle.delaunay_interface.specs.plane.Fraction.{Point}
 use Rattle.delaunay_interface.specs.plane.Plain.{IsSameState, Plain, Run, insert}
 use Rattle.delaunay_interface.specs.plane.Tests.{InRange}
@@ -16,10 +17,13 @@ use Rattle.delaunay_interface.specs.delaunay_legalization.Constraints.{points_an
 use Rattle.delaunay_interface.specs.delaunay_legalization.State.{State}
 use Rattle.delaunay_interface.specs.Headline.{AreSites}
 use Rattle.delaunay_interface.proofs.Stepping.{inserted_grows, inserted_here}
+use Rattle.delaunay_interface.specs.delaunay_core.declared.math.InsertionError.TheVariants.{OutOfMemory}
 use Rattle.delaunay_bulk.specs.declared.error.BulkInsertionError.{BulkInsertionError}
+use Rattle.delaunay_bulk.specs.declared.error.BulkInsertionError.TheVariants.{Vertex}
 use Rattle.delaunay_bulk.specs.Order.{IsListed}
 use Rattle.delaunay_bulk.specs.Bulk.{InsertsAll, InsertsInTurn, InsertsNext, InsertsOne}
-use Rattle.delaunay_bulk.specs.Bulk.{HaveHandles, RefusesOne, StopsAt}
+use Rattle.delaunay_bulk.specs.Bulk.{HaveHandles, RefusesOne, RefusesWhere, StopsAt}
+use Rattle.delaunay_bulk.proofs.Refusals.{grows_by_one, refused_for_nothing, why_later}
 use Rattle.delaunay_bulk.proofs.Handled.{AreHandled, all_handled, one_handled}
 
 -- what all of a list have, the one at an index has
@@ -122,6 +126,7 @@ pub record IsInserting {V D U F : Type 0} (place : V → Point) (constraints : L
   pub handled : AreHandled place list (map (λ e. e.0) left) handles now.vertices
   pub sites : AreSites place IsSite now.vertices
   pub left_sites : All (λ e. InRange (place e.1) → IsSite (place e.1)) left
+  pub grown : length now.vertices ≤ length old.vertices + length made
 
 pub inserting_begins : {V D U F : Type 0} {place : V → Point} {constraints : List U → List ℕ}
     {IsSite : Point → Type 0} {list : List V} {order : List (ℕ × V)} {handles : List ℕ}
@@ -145,6 +150,7 @@ inserting_begins {V = V} {D = D} {U = U} {F = F} {place = place} {constraints = 
       sites = sites;
       left_sites = λ k d b. one_of_all (λ (v : V). InRange (place v) → IsSite (place v)) list _ _
           list_sites (listed.there k d b);
+      grown = omega arith;
     })
 
 module _ {V D U F : Type 0} {place : V → Point} {constraints : List U → List ℕ}
@@ -191,6 +197,10 @@ module _ {V D U F : Type 0} {place : V → Point} {constraints : List U → List
       sites = sites;
       left_sites = All-rest (λ (f : ℕ × V). InRange (place f.1) → IsSite (place f.1)) e rest left
           was.is u.left_sites;
+      grown =
+          let one = grows_by_one place (plain_of place constraints now)
+          (plain_of place constraints new) was.vertex entry.1 was.one.inserts.ok in
+          let before = u.grown in omega (arith, one, before, length_push u.made e);
     }
 
   -- where none is left, each vertex of the list was inserted, and these are the handles
@@ -212,22 +222,53 @@ module _ {V D U F : Type 0} {place : V → Point} {constraints : List U → List
             (ap (λ (es : List (ℕ × V)). length (map (λ (e : ℕ × V). e.0) es)) was.0));
       }
 
-  pub inserting_stops : {error : BulkInsertionError} → All (λ v. InRange (place v)) list
-      → InsertsNext place constraints (Err error) left rest now new
-      → StopsAt place constraints list error old new
-  inserting_stops {error = error} in_range next =
-      let was = refused_was place constraints left rest error now new next in
-      let same : new ≡ now = was.refused.refused.err in inr (record {
-        made = u.made;
-        entry = was.entry;
-        left = was.rest;
-        listed = subst (IsListed place list)
-            (u.split ∙ ap (λ (es : List (ℕ × V)). u.made ++ es) was.is) u.listed;
-        turns = subst (λ (s : State V D U F). InsertsInTurn place constraints u.made old s)
-            (sym same) u.turns;
-        refused = subst
-            (λ (s : State V D U F). RefusesOne place constraints was.entry error s new) (sym same)
-            was.refused;
-        in_range = one_of_all (λ v. InRange (place v)) list was.entry.0 was.entry.1 in_range
-            (read was.entry was.rest was.is);
-      })
+  module _ (error : BulkInsertionError) (in_range : All (λ v. InRange (place v)) list)
+      (few : MAX_ELEMENTS < 6 * (length old.vertices + length list) → ⊥)
+      (next : InsertsNext place constraints (Err error) left rest now new) where
+    pub ended : RefusedWas place constraints left error now new
+    ended = refused_was place constraints left rest error now new next
+
+    inside : InRange (place ended.entry.1)
+    inside = one_of_all (λ v. InRange (place v)) list ended.entry.0 ended.entry.1 in_range
+        (read ended.entry ended.rest ended.is)
+
+    -- the vertices that were inserted and the one that comes next are of the list
+    has_index : MAX_ELEMENTS < 6 * (length now.vertices + 1) → ⊥
+    has_index full =
+        let split = ap (λ (es : List (ℕ × V)). length es)
+        (u.split ∙ ap (λ (es : List (ℕ × V)). u.made ++ es) ended.is) in
+        let parts = length-append u.made (ended.entry ∷ ended.rest) in
+        let whole = sym (length-map order (λ (e : ℕ × V). e.0)) ∙ u.listed.places.once in
+        let grown = u.grown in few (omega (arith, full, split, parts, whole, grown))
+
+    pub inserting_refused : error ≡ Vertex ended.entry.0 OutOfMemory
+    inserting_refused = ended.refused.told ∙ ap (Vertex ended.entry.0)
+        (why_later place constraints ended.entry.1 ended.refused.why now new ended.refused.refused
+        inside has_index)
+
+    pub inserting_stops : StopsAt place constraints list error old new
+    inserting_stops =
+        let same : new ≡ now = ended.refused.refused.err in inr (record {
+          made = u.made;
+          entry = ended.entry;
+          left = ended.rest;
+          listed = subst (IsListed place list)
+              (u.split ∙ ap (λ (es : List (ℕ × V)). u.made ++ es) ended.is) u.listed;
+          turns = subst (λ (s : State V D U F). InsertsInTurn place constraints u.made old s)
+              (sym same) u.turns;
+          refused = subst
+              (λ (s : State V D U F). RefusesOne place constraints ended.entry error s new)
+              (sym same) ended.refused;
+          in_range = inside;
+          out_of_memory = inserting_refused;
+        })
+
+    -- this refusal is none of a vertex out of range, or for want of indexes
+    pub inserting_refuses : {R : Type 0} (result : Result R BulkInsertionError)
+        → result ≡ Err error → RefusesWhere place list (length old.vertices) result
+    inserting_refuses {R} result is =
+        let told : result ≡ Err (Vertex ended.entry.0 OutOfMemory) =
+        is ∙ ap (λ (e : BulkInsertionError). Err e) inserting_refused in
+        refused_for_nothing place list (length old.vertices) result in_range few
+        (λ j e. let errors = sym told ∙ e in absurd (cc))
+        (λ e. let errors = sym told ∙ e in absurd (cc))

@@ -1,11 +1,13 @@
 -- What insertions of many vertices make of a triangulation.
-use Rattle.std.specs.Prelude.{◌≡◌, ◌≢◌, ◌⊎◌, ◌<◌, [], ◌∷◌, ◌++◌, ℕ, List, length, map}
-use Rattle.std.specs.Prelude.{Option, None, Some, Result, Ok, Err, IfOk, IfErr, All, slice_get}
+use Rattle.std.specs.Prelude.{◌≡◌, ◌≢◌, ◌⊎◌, ◌↔◌, ◌+◌, ◌*◌, ◌<◌, [], ◌∷◌, ◌++◌, ℕ, List, length}
+use Rattle.std.specs.Prelude.{map, Option, None, Some, Result, Ok, Err, IfOk, IfErr, IsErrOf, All}
+use Rattle.std.specs.Prelude.{slice_get}
+use Rattle.delaunay_interface.specs.half_edge_links.declared.room.TheConstants.{MAX_ELEMENTS}
 use Rattle.delaunay_interface.specs.plane.Fraction.{Point}
 use Rattle.delaunay_interface.specs.plane.Plain.{Run, insert}
 use Rattle.delaunay_interface.specs.plane.Tests.{InRange}
 use Rattle.delaunay_interface.specs.delaunay_core.declared.math.InsertionError.{InsertionError}
-use Rattle.delaunay_interface.specs.delaunay_core.declared.math.InsertionError.TheVariants.{TooLarge}
+use Rattle.delaunay_interface.specs.delaunay_core.declared.math.InsertionError.TheVariants.{TooLarge, OutOfIndexes, OutOfMemory}
 use Rattle.delaunay_interface.specs.delaunay_legalization.Constraints.{points_and_constraints_by}
 use Rattle.delaunay_interface.specs.delaunay_legalization.Known.{point_at}
 use Rattle.delaunay_interface.specs.delaunay_legalization.State.{State}
@@ -21,6 +23,15 @@ module _ {V : Type 0} (place : V → Point) where
   RefusesList vertices (Vertex i why) = (why ≡ TooLarge) × IsFirstOutside place vertices i
   RefusesList vertices (NoRoom why) =
       (why ≢ TooLarge) × All (λ v. InRange (place v)) vertices
+
+  -- a list comes to a mesh with so many vertices, and this is the answer. It is refused for a vertex
+  -- out of range exactly where it has one, for the first of them; and for want of indexes exactly
+  -- where it has none, and six times the vertices with those of the list are too many
+  pub record RefusesWhere {R : Type 0} (vertices : List V) (count : ℕ)
+      (result : Result R BulkInsertionError) : Type 0 where
+    pub too_large : (i : ℕ) → IsErrOf result (Vertex i TooLarge) ↔ IsFirstOutside place vertices i
+    pub full : IsErrOf result (NoRoom OutOfIndexes) ↔ (All (λ v. InRange (place v)) vertices
+        × (MAX_ELEMENTS < 6 * (count + length vertices)))
 
   -- the handle at a place is that of a vertex at the position of v
   pub record IsAt (handles : List ℕ) (vertices : List V) (i : ℕ) (v : V) : Type 0 where
@@ -87,6 +98,7 @@ module _ {V D U F : Type 0} (place : V → Point) (constraints : List U → List
     pub turns : InsertsInTurn made old new
     pub refused : RefusesOne entry error new new
     pub in_range : InRange (place entry.1)
+    pub out_of_memory : error ≡ Vertex entry.0 OutOfMemory
 
   -- the insertions of a list ended with this error: before the first of them, or later
   abbrev pub StopsAt : List V → BulkInsertionError → State V D U F → State V D U F → Type 0

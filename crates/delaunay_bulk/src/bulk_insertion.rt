@@ -1,7 +1,9 @@
 //! Vertices that are inserted one after another, as the caller asks.
-ghost use Rattle.std.specs.Prelude.{◌≡◌, ◌↔◌, [], length, map, All, IfErr, IfOk, IsTrue, OnOk};
+ghost use Rattle.std.specs.Prelude.{◌≡◌, ◌↔◌, [], length, map, All, IfErr, IfOk, IsErrOf, IsTrue, OnOk};
 ghost use Rattle.delaunay_interface.specs.plane.Tests.{InRange};
 ghost use Rattle.delaunay_interface.specs.Headline.{AreSites, IsDelaunay};
+ghost use Rattle.delaunay_interface.specs.delaunay_core.declared.math.InsertionError.TheVariants.{OutOfIndexes};
+ghost use Rattle.delaunay_bulk.specs.declared.error.BulkInsertionError.TheVariants.{NoRoom};
 ghost use Rattle.delaunay_bulk.specs.Order.{IsListed};
 ghost use Rattle.delaunay_bulk.specs.Bulk.{InsertsNext, RefusesList};
 
@@ -11,6 +13,7 @@ use delaunay_interface::Triangulation;
 use delaunay_interface::delaunay_core::math::{InsertionError, PlaneTests};
 use delaunay_interface::delaunay_core::point::HasPosition;
 use delaunay_interface::half_edge_mesh::FixedVertexHandle;
+use std::alloc::AllocError;
 use std::marker::Model;
 use std::vec::IntoIter;
 
@@ -48,20 +51,29 @@ impl<V: Drop> Model for BulkInsertion<V> {
 impl<V: HasPosition + Drop> BulkInsertion<V> {
     /// All vertices of a list, in an order for their insertion: each is near the one before it, and
     /// of several at one position the last of the list comes last. It gives `Vertex` with
-    /// `TooLarge` for the least place whose vertex is out of range, and else `NoRoom` with
-    /// `OutOfMemory` where memory was refused; then the vertices are dropped.
+    /// `TooLarge` exactly where a vertex is out of range, for the least place of one, and else
+    /// `NoRoom` with `OutOfMemory` where memory was refused; then the vertices are dropped.
     pub fn new(vertices: Vec<V>) -> Result<Self, BulkInsertionError>
         ensures listed { IfOk result (IsListed V.place vertices.items) }
         ensures in_range { OnOk result (All (λ v. InRange (V.place v)) vertices.items) }
         ensures err { IfErr result (RefusesList V.place vertices.items) }
+        ensures not_full { ¬ IsErrOf result (NoRoom OutOfIndexes) }
     {
         if let Some(place) = first_too_large(vertices.as_slice()) {
             let error = InsertionError::TooLarge;
             return Err(BulkInsertionError::Vertex { place, error });
         }
-        let Ok(keyed) = along_curve(vertices) else {
-            return Err(BulkInsertionError::NoRoom(InsertionError::OutOfMemory));
-        };
+        match BulkInsertion::in_order(vertices) {
+            Ok(insertion) => Ok(insertion),
+            Err(_) => Err(BulkInsertionError::NoRoom(InsertionError::OutOfMemory)),
+        }
+    }
+
+    /// The same of vertices that are in range. It gives `AllocError` where memory was refused.
+    pub(crate) fn in_order(vertices: Vec<V>) -> Result<Self, AllocError>
+        ensures { IfOk result (IsListed V.place vertices.items) }
+    {
+        let keyed = along_curve(vertices)?;
         Ok(BulkInsertion {
             left: keyed.into_iter(),
             hint: FixedVertexHandle::from_index(0),

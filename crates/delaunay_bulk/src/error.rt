@@ -15,7 +15,8 @@ use thiserror::Error;
 #[derive(Clone, Copy, Debug, PartialEq, Eq, Drop, Error)]
 pub enum BulkInsertionError {
     /// The vertex at this place of the list was refused, the first place being 0. Where it is
-    /// `TooLarge`, nothing was inserted, and the vertices at lower places are in range.
+    /// `TooLarge`, nothing was inserted, and the vertices at lower places are in range. Where it is
+    /// `OutOfMemory`, the insertions before it stay.
     #[error("vertex {place}: {error}")]
     Vertex { place: usize, error: InsertionError },
     /// There is no room for so many vertices, or no memory for their order and handles. Nothing was

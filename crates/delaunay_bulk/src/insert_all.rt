@@ -2,11 +2,12 @@
 ghost use Rattle.std.specs.Prelude.{◌≡◌, ◌+◌, ◌*◌, ◌<◌, length, slice_set, All, IfErr, IfOk};
 ghost use Rattle.delaunay_interface.specs.plane.Tests.{InRange};
 ghost use Rattle.delaunay_interface.specs.Headline.{AreSites, IsDelaunay};
-ghost use Rattle.delaunay_bulk.specs.Bulk.{InsertsAll, StopsAt};
+ghost use Rattle.delaunay_bulk.specs.Bulk.{InsertsAll, RefusesWhere, StopsAt};
 
 use crate::bulk_insertion::BulkInsertion;
 use crate::by_place::ByPlace;
 use crate::error::BulkInsertionError;
+use crate::order::first_too_large;
 use delaunay_interface::delaunay_core::math::{InsertionError, PlaneTests};
 use delaunay_interface::delaunay_core::point::HasPosition;
 use delaunay_interface::half_edge_mesh::FixedVertexHandle;
@@ -22,12 +23,13 @@ pub trait InsertAll: Triangulation {
     /// that each begin at the vertex before, which takes less time than any order of the list. Of
     /// several vertices at one position the last of the list is kept, and all have its handle.
     ///
-    /// Nothing is inserted where it gives `Vertex` with `TooLarge`, for the least place whose
-    /// vertex is out of range, or `NoRoom`: with `OutOfIndexes` where six times the number of
-    /// vertices with those of the list passes `MAX_ELEMENTS`, and else with `OutOfMemory` where
-    /// memory was refused. All memory that it takes is reserved by then but that of a hint
-    /// generator, which does with less. Where another vertex is refused, those that were inserted
-    /// stay. The vertices that were not inserted are dropped.
+    /// The first of these that applies decides. It gives `Vertex` with `TooLarge` exactly where a
+    /// vertex of the list is out of range, for the least place of one. It gives `NoRoom` with
+    /// `OutOfIndexes` exactly where six times the number of vertices with those of the list passes
+    /// `MAX_ELEMENTS`, and with `OutOfMemory` where memory was refused. Then nothing is inserted.
+    /// By then all memory that it takes is reserved but that of a hint generator, which does with
+    /// less. If a later insertion is refused all the same, it gives `Vertex` with `OutOfMemory`,
+    /// and those before it stay. The vertices that were not inserted are dropped.
     ///
     /// ```
     /// let mut hill: DelaunayTriangulation<Point2<i64>> = DelaunayTriangulation::new(rt.alloc());
@@ -52,19 +54,27 @@ pub trait InsertAll: Triangulation {
         ensures stops { IfErr result (λ error. StopsAt Self.Vertex.place
             Self.Constraints.constraints vertices.items error (Self.state self.old)
             (Self.state self.new)) }
+        ensures refuses { RefusesWhere Self.Vertex.place vertices.items
+            (length (Self.state self.old).vertices) result }
         ensures headline { IsDelaunay Self.Vertex.place Self.Constraints.constraints
             (Self.state self.new) }
     {
         self.recall_invariant();
+        if let Some(place) = first_too_large(vertices.as_slice()) {
+            let error = InsertionError::TooLarge;
+            return Err(BulkInsertionError::Vertex { place, error });
+        }
+        if let Err(error) = self.reserve(vertices.len()) {
+            return Err(BulkInsertionError::NoRoom(error));
+        }
         let alloc = *vertices.allocator();
-        let mut insertion = BulkInsertion::new(vertices)?;
+        let Ok(mut insertion) = BulkInsertion::in_order(vertices) else {
+            return Err(BulkInsertionError::NoRoom(InsertionError::OutOfMemory));
+        };
         let none = FixedVertexHandle::from_index(0);
         let Ok(mut handles) = ByPlace::new(alloc, none, insertion.len()) else {
             return Err(BulkInsertionError::NoRoom(InsertionError::OutOfMemory));
         };
-        if let Err(error) = self.reserve(insertion.len()) {
-            return Err(BulkInsertionError::NoRoom(error));
-        }
         'vertices: while let Some(inserted) = insertion.insert_next(self, tests)? {
             handles.write(inserted);
         }
