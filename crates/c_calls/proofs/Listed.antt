@@ -105,12 +105,10 @@ module _ {V D U F : Type 0} (place : V → Point) (constraints : List U → List
   is_stopped same (NoRoom why) (inr stops) = insertion_stopped (NoRoom why) refl may stops same
 
 -- room was refused for points in range
-pub reserve_refused : {D U F T : Type 0} (constraints : List U → List ℕ) (points : List RawPoint)
+pub reserve_refused : {D U F : Type 0} (constraints : List U → List ℕ) (points : List RawPoint)
     (before : List ℕ) (old now : State NumberedPoint D U F) → length points ≤ length before
-    → All IsRawInRange points → now ≡ old → (e : InsertionError)
-    → ¬ (Err {T = T} e ≡ Err TooLarge)
-    → (Err {T = T} e ≡ Err OutOfIndexes)
-    ↔ (MAX_ELEMENTS < 6 * (length old.vertices + length points))
+    → All IsRawInRange points → now ≡ old → (e : InsertionError) → ¬ (e ≡ TooLarge)
+    → (e ≡ OutOfIndexes) ↔ (MAX_ELEMENTS < 6 * (length old.vertices + length points))
     → ListInsertion kept_place constraints (unnumbered_points points) (status_of_error e) before
     before old now
 reserve_refused constraints points before old now fits range same TooLarge big full =

@@ -1,4 +1,5 @@
-use Rattle.std.proofs.Common.{◌≡◌, ◌∙◌, ◌<◌, ◌+◌, ℕ, List, length, get_or, sym, arith}
+use Rattle.std.proofs.Common.{◌≡◌, ◌∙◌, ◌<◌, ◌+◌, ℕ, List, length, get_or, sym, subst, arith}
+use Rattle.std.proofs.lemmas.List.{get_or_default}
 use Rattle.delaunay_edit.specs.half_edge_mesh.Mesh.{Mesh}
 use Rattle.delaunay_layers.specs.Layers.{AreLayers}
 use Rattle.c_calls.specs.Layers.{IsLayerAt}
@@ -19,8 +20,12 @@ loop-index-preserved g c =
     let count = c.num_inner_faces-count.ensures.values in
     let fit = c.recall_invariant.ensures.kept.fits.faces_fit in
     let below = c.loop-index-test.true in
-    one_more _ c.loop-index.index c.args.layers.now c.loop-index.layers
-    (get_or c.in-Ok.found.items (c.loop-index.index + 1) 0) (omega (arith, room))
-    c.loop-index.invariant
-    (layer_at s.mesh marked c.in-Ok.found.items c.in-Ok.ensures c.loop-index.index
-    (omega (arith, count, fit, below)))
+    let layers = c.in-Ok.found.items in
+    let index = c.loop-index.index in
+    let within : index < length s.mesh.face_edges = omega (arith, count, fit, below) in
+    let value : get_or layers (index + 1) 0 ≡ c.index.result.now =
+        get_or_default layers (index + 1) 0 c.index.result.now (omega (arith, c.in-Ok.ensures.count,
+        count, fit, below)) ∙ sym c.index.ensures in
+    one_more _ index c.args.layers.now c.loop-index.layers c.index.result.now (omega (arith, room))
+    c.loop-index.invariant (subst (λ (n : ℕ). IsLayerAt s.mesh marked index n) value
+    (layer_at s.mesh marked layers c.in-Ok.ensures index within))

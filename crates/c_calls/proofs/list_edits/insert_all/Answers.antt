@@ -1,6 +1,8 @@
-use Rattle.std.proofs.Common.{◌≤◌, ℕ, length, refl, sym, subst}
+use Rattle.std.proofs.Common.{◌≤◌, ℕ, length, refl, sym, ap, subst}
+use Rattle.std.specs.Prelude.{Err}
 use Rattle.delaunay_edit.proofs.delaunay_legalization_lemmas.Questions.{both_ways}
-use Rattle.c_calls.specs.Lists.{insertion_outside}
+use Rattle.c_calls.specs.Kept.{kept_place}
+use Rattle.c_calls.specs.Lists.{ListInsertion, insertion_outside, unnumbered_points}
 use Rattle.c_calls.proofs.Listed.{count_same, may_insert, points_in_range, reserve_refused}
 use Rattle.c_calls.proofs.list_edits.insert_all.Goals as goal
 
@@ -11,6 +13,18 @@ returns-then-not-are_in_range g c =
     (sym (count_same points)) c.if-indexes-positions.false)
     (λ all. both_ways _ (c.are_in_range.ensures.1 (points_in_range points all))
     c.if-not-are_in_range.true) refl refl
+
+pub returns-in-Err : goal.returns-in-Err
+returns-in-Err g c =
+    let range = c.are_in_range.ensures.0 c.if-not-are_in_range.false in
+    subst (λ (n : ℕ). ListInsertion kept_place g.T.Constraints.ConstraintMarker.constraints
+    (unnumbered_points c.args.positions.now) n c.args.indexes.now c.args.indexes.now
+    (g.T.Triangulation.state c.args.points.now) (g.T.Triangulation.state c.reserve.new.self))
+    (sym c.status_of.ensures) (reserve_refused g.T.Constraints.ConstraintMarker.constraints
+    c.args.positions.now c.args.indexes.now (g.T.Triangulation.state c.args.points.now)
+    (g.T.Triangulation.state c.reserve.new.self) c.if-indexes-positions.false range
+    c.in-Err.ensures.same c.in-Err.error (λ e. c.in-Err.ensures.not_too_large (ap Err e))
+    (λ e. c.in-Err.ensures.full.0 (ap Err e), λ more. let same = c.in-Err.ensures.full.1 more in cc))
 
 pub insert_in_range-requires : goal.insert_in_range-requires
 insert_in_range-requires g c =
