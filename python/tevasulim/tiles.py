@@ -62,7 +62,7 @@ def neighbors(cells: Sequence[Any]) -> List[NDArray[np.int64]]:
 
     >>> tiles = triangulate_tiles([[(0, 0), (4, 0)], [(5, 5), (0, 4)]], 2)
     >>> [it.tolist() for it in neighbors(tiles.cells)]
-    [[[1, -1, -1], [-1, 0, -1]], []]
+    [[[-1, -1, 1], [0, -1, -1]], []]
     """
     arrays = [np.load(it) if isinstance(it, str) else np.asarray(it) for it in cells]
     rows = np.concatenate([np.empty((0, 3), np.int64), *arrays])
@@ -204,7 +204,7 @@ def triangulate_tiles(
     Examples
     --------
     >>> tiles = triangulate_tiles([[(0, 0), (4, 0)], [(5, 5), (0, 4)]], 2)
-    >>> [cells.tolist() for cells in tiles.cells]
+    >>> [sorted(cells.tolist()) for cells in tiles.cells]
     [[[0, 1, 3], [3, 1, 2]], []]
     """
     tile_size = operator.index(tile_size)
