@@ -3,7 +3,7 @@
 -- removed_from_constrained, is_added, is_not_added, is_crossing, adds_no_first, adds_no_second,
 -- not_added_to_plain, added_to_constrained, is_allowed, is_not_allowed, is_constrained,
 -- still_plain, still_constrained.
-use Rattle.std.proofs.Common.{◌≡◌, ◌<◌, ℕ, Bool, List, length, refl, sym, subst}
+use Rattle.std.proofs.Common.{◌≡◌, ◌<◌, ℕ, Bool, List, length, refl, sym, subst, ap}
 use Rattle.std.specs.Prelude.{Option, Some, Result, Ok, Err, IfErr, IfOk, OnOk, OnErr}
 use Rattle.delaunay_edit.specs.plane.Fraction.{Point}
 use Rattle.delaunay_edit.specs.plane.Plain.{Adds, CanAdd, Removes, Unconstrains}

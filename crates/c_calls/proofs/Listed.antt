@@ -4,7 +4,7 @@
 use Rattle.std.proofs.Common.{◌≡◌, ◌<◌, ◌≤◌, ◌+◌, ◌*◌, ◌∙◌, [], ◌∷◌, ◌++◌, ℕ, List, length}
 use Rattle.std.proofs.Common.{take, drop, set, get_or, refl, sym, ap, subst, inl, inr, arith}
 use Rattle.std.proofs.Common.{append_assoc}
-use Rattle.std.specs.Prelude.{◌↔◌, All, Err}
+use Rattle.std.specs.Prelude.{◌↔◌, All}
 use Rattle.std.proofs.lemmas.List.Elements.{All-map}
 use Rattle.std.proofs.lemmas.List.{drop_more, get_or-map, length-map, length-take-le, set_at}
 use Rattle.std.proofs.lemmas.List.{take_all, take_more}
@@ -16,7 +16,7 @@ use Rattle.delaunay_edit.specs.delaunay_legalization.declared.cdt_edge.CdtEdge.{
 use Rattle.delaunay_edit.specs.Constrained.{none, constraint_edges}
 use Rattle.delaunay_bulk.specs.declared.error.BulkInsertionError.{BulkInsertionError}
 use Rattle.delaunay_bulk.specs.declared.error.BulkInsertionError.TheVariants.{Vertex, NoRoom}
-use Rattle.delaunay_bulk.specs.Bulk.{InsertsAll, StopsAt, StopsLater}
+use Rattle.delaunay_bulk.specs.Bulk.{InsertsAll, StopsAt}
 use Rattle.delaunay_bulk.proofs.Turns.{one_of_all}
 use Rattle.c_calls.specs.declared.raw.NumberedPoint.{NumberedPoint}
 use Rattle.c_calls.specs.declared.kept.KeptPoints.{KeptPoints}

@@ -10,7 +10,6 @@ use Rattle.delaunay_edit.specs.delaunay_lines.declared.intersection.Intersection
 use Rattle.delaunay_edit.specs.delaunay_lines.declared.intersection.Intersection.TheVariants.{VertexIntersection}
 use Rattle.delaunay_edit.specs.delaunay_lines.declared.intersection.Intersection.TheVariants.{EdgeOverlap}
 use Rattle.c_calls.specs.declared.lines.TheConstants.{AT_VERTEX, ACROSS_EDGE, ALONG_EDGE}
-use Rattle.c_calls.specs.declared.raw.RawEdge.{RawEdge}
 use Rattle.c_calls.specs.declared.raw.RawFace.{RawFace}
 use Rattle.c_calls.specs.declared.raw.RawMeeting.{RawMeeting}
 use Rattle.c_calls.specs.Queries.{face_number}

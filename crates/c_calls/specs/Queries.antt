@@ -1,6 +1,6 @@
 -- What queries of a triangulation that C keeps answer.
-use Rattle.std.specs.Prelude.{◌≡◌, ◌⊎◌, ◌-◌, ◌/◌, ◌<◌, ◌<ℤ◌, ◌≤ℤ◌, ◌==◌, if◌then◌else◌}
-use Rattle.std.specs.Prelude.{ℕ, ℤ, pos, List, length, map, Some, slice_get, IsSomeAnd}
+use Rattle.std.specs.Prelude.{◌≡◌, ◌⊎◌, ◌-◌, ◌/◌, ◌<ℤ◌, ◌≤ℤ◌, ◌==◌, if◌then◌else◌}
+use Rattle.std.specs.Prelude.{ℕ, pos, List, length, map, Some, slice_get, IsSomeAnd}
 use Rattle.std.specs.List.{AllZip}
 use Rattle.delaunay_edit.specs.half_edge_mesh.Mesh.{Mesh}
 use Rattle.delaunay_edit.specs.plane.Fraction.{Point, Fraction, whole}

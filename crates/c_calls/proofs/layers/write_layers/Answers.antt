@@ -24,8 +24,13 @@ loop-index-preserved g c =
     let index = c.loop-index.index in
     let within : index < length s.mesh.face_edges = omega (arith, count, fit, below) in
     let value : get_or layers (index + 1) 0 ≡ c.index.result.now =
-        get_or_default layers (index + 1) 0 c.index.result.now (omega (arith, c.in-Ok.ensures.count,
-        count, fit, below)) ∙ sym c.index.ensures in
+    get_or_default layers (index + 1) 0 c.index.result.now (omega (
+      arith,
+      c.in-Ok.ensures.count,
+      count,
+      fit,
+      below,
+    )) ∙ sym c.index.ensures in
     one_more _ index c.args.layers.now c.loop-index.layers c.index.result.now (omega (arith, room))
     c.loop-index.invariant (subst (λ (n : ℕ). IsLayerAt s.mesh marked index n) value
     (layer_at s.mesh marked layers c.in-Ok.ensures index within))

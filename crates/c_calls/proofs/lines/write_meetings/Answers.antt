@@ -1,4 +1,4 @@
-use Rattle.std.proofs.Common.{◌≡◌, ◌∙◌, ◌+◌, List, length, set, sym, ap, subst, arith}
+use Rattle.std.proofs.Common.{◌+◌, List, length, sym, subst, arith}
 use Rattle.std.specs.List.{AllZip}
 use Rattle.delaunay_edit.specs.delaunay_legalization.Constraints.{constraints_by}
 use Rattle.delaunay_edit.specs.delaunay_legalization.State.{state_of}

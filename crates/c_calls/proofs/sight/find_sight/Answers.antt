@@ -1,4 +1,4 @@
-use Rattle.std.proofs.Common.{ℕ, refl, sym, inl, inr, subst, arith}
+use Rattle.std.proofs.Common.{refl, sym, inl, inr, subst, arith}
 use mathlib.Core.Path.{subst₂}
 use Rattle.delaunay_edit.specs.plane.Fraction.{whole}
 use Rattle.delaunay_edit.specs.delaunay_legalization.State.{triangulation_of}
@@ -23,12 +23,15 @@ returns-then-is_seen g c =
     sight_told refl
     (omega (arith, c.if-bytes-num_inner_faces.false, c.num_inner_faces.ensures.value))
     (c.may_ask_line.ensures.0 c.if-not-may_ask_line.false)
-    (inl (refl, sight_same t (by_place (is_free_face bytes)) (is_marked bytes) (free_by_place bytes)
-    p q (subst (λ s. IsInSight (triangulation_of kept_place s) (by_place (is_free_face bytes)) p q)
-    law (subst₂ (λ a b. IsInSight (triangulation_of kept_place
-    (g.T.HasMesh.mesh_state c.args.points.now)) (by_place (is_free_face bytes))
-    (whole (place_of (λ z. z) a)) (whole (place_of (λ z. z) b))) c.point_of-start.ensures
-    c.point_of-end.ensures told))))
+    (inl (
+      refl,
+      sight_same t (by_place (is_free_face bytes)) (is_marked bytes) (free_by_place bytes)
+          p q (subst (λ s. IsInSight (triangulation_of kept_place s) (by_place (is_free_face bytes)) p q)
+          law (subst₂ (λ a b. IsInSight (triangulation_of kept_place
+          (g.T.HasMesh.mesh_state c.args.points.now)) (by_place (is_free_face bytes))
+          (whole (place_of (λ z. z) a)) (whole (place_of (λ z. z) b))) c.point_of-start.ensures
+          c.point_of-end.ensures told)),
+    ))
 
 pub returns-else-is_seen : goal.returns-else-is_seen
 returns-else-is_seen g c =
@@ -40,10 +43,13 @@ returns-else-is_seen g c =
     sight_told refl
     (omega (arith, c.if-bytes-num_inner_faces.false, c.num_inner_faces.ensures.value))
     (c.may_ask_line.ensures.0 c.if-not-may_ask_line.false)
-    (inr (refl, λ sees. both_ways _ (c.is_in_sight-is_seen.ensures.1 (subst₂ (λ a b. IsInSight
-    (triangulation_of kept_place (g.T.HasMesh.mesh_state c.args.points.now))
-    (by_place (is_free_face bytes)) (whole (place_of (λ z. z) a)) (whole (place_of (λ z. z) b)))
-    (sym c.point_of-start.ensures) (sym c.point_of-end.ensures) (subst (λ s. IsInSight
-    (triangulation_of kept_place s) (by_place (is_free_face bytes)) p q) (sym law) (sight_same t
-    (is_marked bytes) (by_place (is_free_face bytes)) (λ n. sym (free_by_place bytes n)) p q
-    sees)))) c.if-is_seen.false))
+    (inr (
+      refl,
+      λ sees. both_ways _ (c.is_in_sight-is_seen.ensures.1 (subst₂ (λ a b. IsInSight
+          (triangulation_of kept_place (g.T.HasMesh.mesh_state c.args.points.now))
+          (by_place (is_free_face bytes)) (whole (place_of (λ z. z) a)) (whole (place_of (λ z. z) b)))
+          (sym c.point_of-start.ensures) (sym c.point_of-end.ensures) (subst (λ s. IsInSight
+          (triangulation_of kept_place s) (by_place (is_free_face bytes)) p q) (sym law) (sight_same t
+          (is_marked bytes) (by_place (is_free_face bytes)) (λ n. sym (free_by_place bytes n)) p q
+          sees)))) c.if-is_seen.false,
+    ))
