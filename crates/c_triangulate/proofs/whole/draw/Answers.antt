@@ -4,13 +4,13 @@ use Rattle.c_triangulate.specs.Whole.{FirstAre, IsFirstNot, segment_crossing, se
 use Rattle.c_triangulate.proofs.Drawings.{whole_is_drawn}
 use Rattle.c_triangulate.proofs.whole.draw.Goals as goal
 
-pub returns-in-Some-first_untaken : goal.returns-in-Some-first_untaken
-returns-in-Some-first_untaken c =
+pub returns-in-Some : goal.returns-in-Some
+returns-in-Some c =
     let known = c.known_segments-known in
     segment_crossing c.in-Ok.drawn known.result refl
     (record { ends = known.ensures.known; drawn = c.in-Ok.ensures })
-    (subst (λ (ts : List Bool). IsFirstNot IsTrue ts c.in-Some-first_untaken.place)
-    c.as_slice.ensures.value c.in-Some-first_untaken.ensures) refl refl
+    (subst (λ (ts : List Bool). IsFirstNot IsTrue ts c.in-Some.place)
+    c.as_slice.ensures.value c.in-Some.ensures) refl refl
 
 pub returns-then-known-segments : goal.returns-then-known-segments
 returns-then-known-segments c =
