@@ -7,9 +7,8 @@
 #error "the build has to say whether the library is proved: -DTEVASULIM_IS_PROVED=1 or =0"
 #endif
 
-/* Of crates/tevasulim_c. The shared library does not export these two (exported.map). */
+/* Of crates/tevasulim_c. The shared library does not export it (exported.map). */
 void tevasulim_close_handle(tevasulim_triangulation *self);
-void tevasulim_find_status_text(uint32_t status, const uint8_t **text);
 
 uint32_t tevasulim_is_proved(void)
 {
@@ -22,9 +21,43 @@ void tevasulim_close(tevasulim_triangulation *self)
         tevasulim_close_handle(self);
 }
 
+/* The words of tevasulim_status_text, which compare/c_library compares with these. */
 const char *tevasulim_status_string(uint32_t status)
 {
-    const uint8_t *text;
-    tevasulim_find_status_text(status, &text);
-    return (const char *)text;
+    switch (status) {
+    case 0:
+        return "all went well";
+    case 1:
+        return "the triangulation is closed: open it first";
+    case 2:
+        return "the triangulation is already open: close it first";
+    case 3:
+        return "there is no such kind of triangulation or shape";
+    case 4:
+        return "the triangulation is plain: this call is for constrained ones";
+    case 5:
+        return "the triangulation is constrained: this call is for plain ones";
+    case 6:
+        return "two lists that go together have different lengths";
+    case 7:
+        return "a coordinate is out of range: it is more than 2^29 or less than -2^29";
+    case 8:
+        return "a squared radius is negative";
+    case 9:
+        return "there is no vertex with this index";
+    case 10:
+        return "a segment names a point that is not in the list";
+    case 11:
+        return "a constraint crosses the segment";
+    case 12:
+        return "no constraint joins the two vertices";
+    case 13:
+        return "a list is too short";
+    case 14:
+        return "there are too many vertices for 32-bit indexes";
+    case 15:
+        return "there is not enough memory";
+    default:
+        return "there is no such status";
+    }
 }

@@ -27,12 +27,6 @@ pub extern "C" fn tevasulim_status_text(status: u32, text: &mut [u8], length: &m
     c_calls::write_words(status, text, length)
 }
 
-// Finds the words of a status, with a final 0 byte, for `tevasulim_status_string` of c/calls.c.
-#[unsafe(no_mangle)]
-pub extern "C" fn tevasulim_find_status_text(status: u32, text: &mut *const u8) {
-    *text = c_calls::ended_words_of(status).as_bytes().as_ptr();
-}
-
 #[unsafe(no_mangle)]
 pub extern "C" fn tevasulim_open(alloc: Global, handle: &mut Handle, kind: u32) -> u32
     ensures { OpensClosed kind result handle.old.kept handle.new.kept }
