@@ -174,7 +174,7 @@ def check(points, tiles, client, folder, wanted, segments=NO_SEGMENTS):
         check_neighbors(rows, np.concatenate(neighbors(found.cells)))
     assert sum(it.points for it in found.reports) == len(np.unique(points, axis=0))
     with open(found.index_file) as file:
-        named = [it["cells"] for it in json.load(file)["tiles"]]
+        named = [it["file"] for it in json.load(file)["tiles"]]
     assert named == [os.path.basename(it) for it in found.cells]
     room = os.path.dirname(found.index_file)
     assert sorted(os.listdir(room)) == sorted([*named, "index.json"])

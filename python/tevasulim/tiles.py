@@ -239,7 +239,7 @@ def write_index(files: TileFiles, names: List[str], reports: List[TileReport]) -
     for name in set(os.listdir(files.folder)) - kept:
         os.remove(os.path.join(files.folder, name))
     tiles = [
-        {"cells": os.path.basename(name), **it._asdict()} for name, it in zip(names, reports)
+        {"file": os.path.basename(name), **it._asdict()} for name, it in zip(names, reports)
     ]
     for tile in tiles:
         del tile["crossing"]
