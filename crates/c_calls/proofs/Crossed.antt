@@ -5,10 +5,10 @@ use Rattle.std.proofs.Common.{refl, sym, ap, subst, inl, inr, arith}
 use Rattle.std.specs.Prelude.{◌⊎◌, ℤ, Option, None, Some}
 use Rattle.delaunay_edit.specs.plane.Fraction.{Point}
 use Rattle.delaunay_edit.specs.plane.Line.{Item, at_vertex, across, along}
-use Rattle.delaunay_edit.specs.delaunay_lines.declared.intersection.Intersection.{Intersection}
-use Rattle.delaunay_edit.specs.delaunay_lines.declared.iterator.LineIntersectionIterator.{LineIntersectionIterator}
-use Rattle.delaunay_edit.specs.delaunay_lines.Items.{item_in}
-use Rattle.delaunay_edit.specs.delaunay_lines.Walk.{GivesNext}
+use Rattle.delaunay_edit.specs.delaunay_location.declared.intersection.Intersection.{Intersection}
+use Rattle.delaunay_edit.specs.delaunay_location.declared.iterator.LineIntersectionIterator.{LineIntersectionIterator}
+use Rattle.delaunay_edit.specs.delaunay_location.Items.{item_in}
+use Rattle.delaunay_edit.specs.delaunay_location.Walk.{GivesNext}
 use Rattle.c_calls.specs.declared.lines.TheConstants.{AT_VERTEX, ACROSS_EDGE, ALONG_EDGE}
 use Rattle.c_calls.specs.declared.raw.RawMeeting.{RawMeeting}
 use Rattle.c_calls.specs.declared.raw.RawSegment.{RawSegment}

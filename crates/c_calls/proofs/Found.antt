@@ -11,8 +11,8 @@ use Rattle.std.proofs.lemmas.List.Folds.{Any-from_list_any}
 use Rattle.std.proofs.lemmas.Map.Made.{IsDistinct-from_AllPairs}
 use Rattle.std.proofs.lemmas.Map.Steps.{length-le_from_distinct_below}
 use Rattle.delaunay_edit.specs.half_edge_links.declared.room.TheConstants.{MAX_ELEMENTS}
-use Rattle.delaunay_edit.specs.half_edge_mesh.Contents.{Contents}
-use Rattle.delaunay_edit.specs.half_edge_mesh.Left.{each_in}
+use Rattle.delaunay_edit.specs.half_edge_dcel.Contents.{Contents}
+use Rattle.delaunay_edit.specs.half_edge_dcel.Left.{each_in}
 use Rattle.delaunay_edit.specs.plane.Fraction.{Point, Fraction}
 use Rattle.delaunay_edit.specs.plane.Shape.{InClosedCircle, InClosedRectangle}
 use Rattle.delaunay_edit.specs.delaunay_core.Place.{place_of}
@@ -20,7 +20,7 @@ use Rattle.delaunay_edit.specs.delaunay_core.declared.point.Point2.{Point2}
 use Rattle.delaunay_edit.specs.delaunay_legalization.Shape.{IsTriangulated}
 use Rattle.delaunay_edit.specs.delaunay_legalization.State.{State}
 use Rattle.delaunay_shapes.specs.InShape.{AreEdgesInShape, AreVerticesInShape}
-use Rattle.delaunay_shape_queries.specs.Found.{FindsEdges, FindsVertices}
+use Rattle.delaunay_queries.specs.Found.{FindsEdges, FindsVertices}
 use Rattle.c_calls.specs.declared.shapes.RawCircle.{RawCircle}
 use Rattle.c_calls.specs.declared.shapes.RawRectangle.{RawRectangle}
 use Rattle.c_calls.specs.Links.{AreFew, indexes_in}

@@ -7,13 +7,13 @@ use Rattle.std.specs.List.{range_with_len}
 use Rattle.std.proofs.lemmas.Bool.{cases_eq}
 use Rattle.std.proofs.lemmas.List.FromFn.{get_or-range_with_len, length-range_with_len}
 use Rattle.std.proofs.lemmas.Option.{slice_get-map, slice_get-get_or}
-use Rattle.delaunay_edit.proofs.half_edge_links.Lists.Rev.{rev-rev}
-use Rattle.delaunay_edit.proofs.half_edge_links.Sound.Parts.{rev_of_odd}
-use Rattle.delaunay_edit.specs.half_edge_mesh.Mesh.{origin, rev}
+use Rattle.delaunay_edit.proofs.half_edge_links_lemmas.Lists.Rev.{rev-rev}
+use Rattle.delaunay_edit.proofs.half_edge_links_lemmas.Sound.Parts.{rev_of_odd}
+use Rattle.delaunay_edit.specs.half_edge_links.Mesh.{origin, rev}
 use Rattle.delaunay_edit.specs.plane.Fraction.{Point}
 use Rattle.delaunay_edit.specs.plane.Pairs.{Joins, IsSamePair}
-use Rattle.delaunay_edit.specs.mesh_embedding.Drawn.{edges_of}
-use Rattle.delaunay_edit.specs.mesh_embedding.Legal.{pair_at}
+use Rattle.delaunay_edit.specs.delaunay_legalization.Drawn.{edges_of}
+use Rattle.delaunay_edit.specs.delaunay_legalization.Legal.{pair_at}
 use Rattle.delaunay_edit.specs.delaunay_legalization.Constraints.{constraints_by, marked_edges}
 use Rattle.delaunay_edit.specs.delaunay_legalization.Shape.{IsTriangulated}
 use Rattle.delaunay_edit.specs.delaunay_legalization.State.{State, triangulation_of}

@@ -4,20 +4,20 @@
 use Rattle.std.proofs.Common.{◌≡◌, ◌*◌, ◌/◌, ◌<◌}
 use Rattle.std.proofs.Common.{ℕ, Bool, true, false, length, refl, inl, inr, sym, subst}
 use Rattle.std.specs.Prelude.{◌↔◌, Contains, Result, Ok, Err}
-use Rattle.delaunay_edit.specs.half_edge_mesh.Mesh.{origin, rev}
-use Rattle.delaunay_edit.specs.half_edge_mesh.Contents.{Contents}
+use Rattle.delaunay_edit.specs.half_edge_links.Mesh.{origin, rev}
+use Rattle.delaunay_edit.specs.half_edge_dcel.Contents.{Contents}
 use Rattle.delaunay_edit.specs.plane.Fraction.{Point}
 use Rattle.delaunay_edit.specs.plane.Pairs.{Joins, IsSamePair}
 use Rattle.delaunay_edit.specs.plane.Plain.{Plain as PlainState, Releases}
 use Rattle.delaunay_edit.proofs.plane.Indexes.{same_joined}
-use Rattle.delaunay_edit.proofs.plane_edits.Legalization.Flipping.{joins_or_not}
+use Rattle.delaunay_edit.proofs.plane_theorems.Edits.Legalization.Flipping.{joins_or_not}
 use Rattle.delaunay_edit.specs.delaunay_legalization.CdtEdge.{is_constraint}
 use Rattle.delaunay_edit.specs.delaunay_legalization.declared.cdt_edge.CdtEdge.{CdtEdge}
 use Rattle.delaunay_edit.specs.delaunay_legalization.Shape.{IsTriangulated}
 use Rattle.delaunay_edit.specs.delaunay_legalization.State.{State}
 use Rattle.delaunay_edit.proofs.delaunay_legalization_lemmas.Questions.{both_ways}
-use Rattle.delaunay_edit.proofs.delaunay_paths_lemmas.AddingPieces.{half_ends}
-use Rattle.delaunay_edit.proofs.delaunay_paths_lemmas.JoinedPairs as joined
+use Rattle.delaunay_edit.proofs.AddingPieces.{half_ends}
+use Rattle.delaunay_edit.proofs.JoinedPairs as joined
 use Rattle.delaunay_edit.specs.Constrained.{constrained, constraints_of, constraint_edges}
 use Rattle.delaunay_edit.specs.ConstraintEdits.{ReleasesConstraint}
 use Rattle.delaunay_interface.specs.Views.{AreNotJoined}

@@ -6,13 +6,13 @@ use Rattle.std.specs.Prelude.{Option, Some, slice_get, IsSomeAnd}
 use Rattle.std.proofs.lemmas.Bool.{cases_eq}
 use Rattle.std.proofs.lemmas.Bool.Decides.{nat_tests}
 use Rattle.std.proofs.lemmas.Option.{slice_get-map, slice_get-get_or}
-use Rattle.delaunay_edit.proofs.half_edge_links.Lists.Rev.{rev-rev, rev_within}
-use Rattle.delaunay_edit.specs.half_edge_mesh.Mesh.{face, face_edge, next, origin, prev, rev}
-use Rattle.delaunay_edit.specs.half_edge_mesh.Triangles.{triangle_at, triangles}
+use Rattle.delaunay_edit.proofs.half_edge_links_lemmas.Lists.Rev.{rev-rev, rev_within}
+use Rattle.delaunay_edit.specs.half_edge_links.Mesh.{face, face_edge, next, origin, prev, rev}
+use Rattle.delaunay_edit.specs.half_edge_links.Triangles.{triangle_at, triangles}
 use Rattle.delaunay_edit.specs.plane.Fraction.{Point}
 use Rattle.delaunay_edit.specs.plane.Tiling.{Face, face as corners}
-use Rattle.delaunay_edit.specs.mesh_embedding.Drawn.{corners_of, faces_of}
-use Rattle.delaunay_edit.proofs.mesh_embedding.OuterEdges.{listed}
+use Rattle.delaunay_edit.specs.delaunay_legalization.Drawn.{corners_of, faces_of}
+use Rattle.delaunay_edit.proofs.delaunay_legalization_lemmas.OuterEdges.{listed}
 use Rattle.delaunay_edit.specs.delaunay_legalization.Constraints.{constraints_by, marked_edges}
 use Rattle.delaunay_edit.specs.delaunay_legalization.Shape.{IsTriangulated}
 use Rattle.delaunay_edit.specs.delaunay_legalization.State.{State, triangulation_of}

@@ -7,20 +7,20 @@ use Rattle.std.proofs.Common.{length-append}
 use Rattle.std.specs.Prelude.{None, Some, ℤ}
 use Rattle.std.specs.List.{AllZip}
 use Rattle.std.specs.Borrow.{Bor}
-use Rattle.delaunay_edit.specs.half_edge_mesh.Contents.{Contents}
-use Rattle.delaunay_edit.specs.half_edge_mesh.Mesh.{origin, rev}
+use Rattle.delaunay_edit.specs.half_edge_dcel.Contents.{Contents}
+use Rattle.delaunay_edit.specs.half_edge_links.Mesh.{origin, rev}
 use Rattle.delaunay_edit.specs.plane.Fraction.{Point}
 use Rattle.delaunay_edit.specs.plane.Line.{Item}
 use Rattle.delaunay_edit.specs.delaunay_legalization.Constraints.{constraints_by, marked_edges}
 use Rattle.delaunay_edit.specs.delaunay_legalization.Shape.{IsTriangulated}
 use Rattle.delaunay_edit.specs.delaunay_legalization.State.{State, state_of}
-use Rattle.delaunay_edit.specs.delaunay_lines.declared.intersection.Intersection.{Intersection}
-use Rattle.delaunay_edit.specs.delaunay_lines.declared.intersection.Intersection.TheVariants.{EdgeIntersection}
-use Rattle.delaunay_edit.specs.delaunay_lines.declared.intersection.Intersection.TheVariants.{VertexIntersection}
-use Rattle.delaunay_edit.specs.delaunay_lines.declared.intersection.Intersection.TheVariants.{EdgeOverlap}
-use Rattle.delaunay_edit.specs.delaunay_lines.declared.iterator.LineIntersectionIterator.{LineIntersectionIterator}
-use Rattle.delaunay_edit.specs.delaunay_lines.Items.{item_in, mesh_of}
-use Rattle.delaunay_edit.specs.delaunay_lines.Walk.{AreLeft, GivesNext}
+use Rattle.delaunay_edit.specs.delaunay_location.declared.intersection.Intersection.{Intersection}
+use Rattle.delaunay_edit.specs.delaunay_location.declared.intersection.Intersection.TheVariants.{EdgeIntersection}
+use Rattle.delaunay_edit.specs.delaunay_location.declared.intersection.Intersection.TheVariants.{VertexIntersection}
+use Rattle.delaunay_edit.specs.delaunay_location.declared.intersection.Intersection.TheVariants.{EdgeOverlap}
+use Rattle.delaunay_edit.specs.delaunay_location.declared.iterator.LineIntersectionIterator.{LineIntersectionIterator}
+use Rattle.delaunay_edit.specs.delaunay_location.Items.{item_in, mesh_of}
+use Rattle.delaunay_edit.specs.delaunay_location.Walk.{AreLeft, GivesNext}
 use Rattle.delaunay_edit.proofs.ConstraintEdges.{as_many}
 use Rattle.c_calls.specs.declared.raw.RawMeeting.{RawMeeting}
 use Rattle.c_calls.specs.Links.{IsMetEdge, IsRawMeeting}

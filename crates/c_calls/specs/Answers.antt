@@ -9,7 +9,8 @@ use Rattle.delaunay_edit.specs.delaunay_core.declared.math.InsertionError.TheVar
 }
 use Rattle.c_calls.specs.declared.raw.NumberedPoint.{NumberedPoint}
 use Rattle.c_calls.specs.declared.kept.KeptPoints.{KeptPoints}
-use Rattle.c_calls.specs.declared.statuses.TheConstants.{ALREADY_OPEN, WELL, TOO_LARGE, NO_SUCH_KIND}
+use Rattle.c_calls.specs.declared.statuses.TheConstants.{ALREADY_OPEN, WELL, TOO_LARGE}
+use Rattle.c_calls.specs.declared.statuses.TheConstants.{NO_SUCH_KIND}
 use Rattle.c_calls.specs.declared.statuses.TheConstants.{OUT_OF_INDEXES, OUT_OF_MEMORY}
 use Rattle.c_calls.specs.Kept.{InsertsKept, IsKeptDelaunay, IsOfKind, kept_vertices}
 

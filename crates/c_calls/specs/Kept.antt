@@ -1,6 +1,6 @@
 -- A triangulation that C keeps, as a contract sees it.
 use Rattle.std.specs.Prelude.{◌≡◌, ℕ, ℤ, Bool, true, false, List, length, Result}
-use Rattle.delaunay_edit.specs.half_edge_mesh.Mesh.{Mesh}
+use Rattle.delaunay_edit.specs.half_edge_links.Mesh.{Mesh}
 use Rattle.delaunay_edit.specs.plane.Fraction.{Point}
 use Rattle.delaunay_edit.specs.plane.Plain.{Plain as PlainState}
 use Rattle.delaunay_edit.specs.plane.Tiling.{Triangulation}

@@ -1,9 +1,9 @@
 -- What C is told of the layers of faces.
 use Rattle.std.specs.Prelude.{◌≡◌, ◌+◌, ℕ, List, length}
-use Rattle.delaunay_edit.specs.half_edge_mesh.Mesh.{Mesh}
+use Rattle.delaunay_edit.specs.half_edge_links.Mesh.{Mesh}
 use Rattle.delaunay_edit.specs.plane.Tiling.{Triangulation}
 use Rattle.delaunay_edit.specs.Constrained.{none, constraint_edges}
-use Rattle.delaunay_layers.specs.Layers.{IsLayer}
+use Rattle.delaunay_queries.specs.Layers.{IsLayer}
 use Rattle.c_calls.specs.declared.kept.KeptPoints.{KeptPoints}
 use Rattle.c_calls.specs.declared.kept.KeptPoints.TheVariants.{Plain, Constrained}
 use Rattle.c_calls.specs.declared.statuses.TheConstants.{OUT_OF_MEMORY}

@@ -2,13 +2,13 @@
 use Rattle.std.specs.Prelude.{◌≡◌, ◌⊎◌, ◌/◌, ◌≤◌, ℕ, List, length, map, Contains}
 use Rattle.std.specs.Borrow.{Bor}
 use Rattle.delaunay_edit.specs.half_edge_links.declared.room.TheConstants.{MAX_ELEMENTS}
-use Rattle.delaunay_edit.specs.half_edge_mesh.Contents.{Contents}
-use Rattle.delaunay_edit.specs.half_edge_mesh.Mesh.{face, next, prev, origin, rev}
+use Rattle.delaunay_edit.specs.half_edge_dcel.Contents.{Contents}
+use Rattle.delaunay_edit.specs.half_edge_links.Mesh.{face, next, prev, origin, rev}
 use Rattle.delaunay_edit.specs.delaunay_legalization.State.{State, state_of}
-use Rattle.delaunay_edit.specs.delaunay_lines.declared.intersection.Intersection.{Intersection}
-use Rattle.delaunay_edit.specs.delaunay_lines.declared.intersection.Intersection.TheVariants.{EdgeIntersection}
-use Rattle.delaunay_edit.specs.delaunay_lines.declared.intersection.Intersection.TheVariants.{VertexIntersection}
-use Rattle.delaunay_edit.specs.delaunay_lines.declared.intersection.Intersection.TheVariants.{EdgeOverlap}
+use Rattle.delaunay_edit.specs.delaunay_location.declared.intersection.Intersection.{Intersection}
+use Rattle.delaunay_edit.specs.delaunay_location.declared.intersection.Intersection.TheVariants.{EdgeIntersection}
+use Rattle.delaunay_edit.specs.delaunay_location.declared.intersection.Intersection.TheVariants.{VertexIntersection}
+use Rattle.delaunay_edit.specs.delaunay_location.declared.intersection.Intersection.TheVariants.{EdgeOverlap}
 use Rattle.c_calls.specs.declared.lines.TheConstants.{AT_VERTEX, ACROSS_EDGE, ALONG_EDGE}
 use Rattle.c_calls.specs.declared.raw.RawFace.{RawFace}
 use Rattle.c_calls.specs.declared.raw.RawMeeting.{RawMeeting}

@@ -2,7 +2,7 @@
 use Rattle.std.specs.Prelude.{◌≡◌, ◌⊎◌, ◌-◌, ◌/◌, ◌<ℤ◌, ◌≤ℤ◌, ◌==◌, if◌then◌else◌}
 use Rattle.std.specs.Prelude.{ℕ, pos, List, length, map, Some, slice_get, IsSomeAnd}
 use Rattle.std.specs.List.{AllZip}
-use Rattle.delaunay_edit.specs.half_edge_mesh.Mesh.{Mesh}
+use Rattle.delaunay_edit.specs.half_edge_links.Mesh.{Mesh}
 use Rattle.delaunay_edit.specs.plane.Fraction.{Point, Fraction, whole}
 use Rattle.delaunay_edit.specs.plane.Line.{Item, at_vertex, across, along, IsLineList}
 use Rattle.delaunay_edit.specs.plane.Pairs.{Joins}
@@ -10,7 +10,7 @@ use Rattle.delaunay_edit.specs.plane.Shape.{IsNearest, InClosedCircle, InClosedR
 use Rattle.delaunay_edit.specs.plane.Tiling.{Face, Triangulation, HasFace, face}
 use Rattle.delaunay_edit.specs.delaunay_legalization.State.{State, triangulation_of}
 use Rattle.delaunay_shapes.specs.InShape.{AreEdgesInShape, AreVerticesInShape}
-use Rattle.delaunay_interface.specs.Elements.{FindsLocation}
+use Rattle.delaunay_interface.specs.delaunay_edit.Elements.{FindsLocation}
 use Rattle.delaunay_edit.specs.delaunay_location.declared.position_in_triangulation.PositionInTriangulation.{PositionInTriangulation}
 use Rattle.delaunay_edit.specs.delaunay_location.declared.position_in_triangulation.PositionInTriangulation.TheVariants.{
   OnVertex,

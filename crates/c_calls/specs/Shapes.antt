@@ -1,6 +1,6 @@
 -- What C is told of what is in a shape.
 use Rattle.std.specs.Prelude.{◌≡◌, ◌≢◌, ℕ, List}
-use Rattle.delaunay_edit.specs.half_edge_mesh.Mesh.{Mesh}
+use Rattle.delaunay_edit.specs.half_edge_links.Mesh.{Mesh}
 use Rattle.delaunay_edit.specs.plane.Tiling.{Triangulation}
 use Rattle.c_calls.specs.declared.raw.RawShape.{RawShape}
 use Rattle.c_calls.specs.declared.shapes.RawCircle.{RawCircle}

@@ -3,7 +3,7 @@ use Rattle.std.specs.Prelude.{◌≡◌, ◌≢◌, ◌⊎◌, ◌-◌, ◌==◌
 use Rattle.std.specs.Prelude.{Bool, false, not, nat_eq, slice_index_or}
 use Rattle.delaunay_edit.specs.plane.Fraction.{whole}
 use Rattle.delaunay_edit.specs.plane.Tiling.{Triangulation}
-use Rattle.plane_sight.specs.Sight.{IsInSight}
+use Rattle.plane_theorems.specs.Sight.Sight.{IsInSight}
 use Rattle.c_calls.specs.declared.raw.RawPoint.{RawPoint}
 use Rattle.c_calls.specs.declared.statuses.TheConstants.{TOO_LARGE, UNEQUAL_LENGTHS, WELL}
 use Rattle.c_calls.specs.Queries.{MayAskLine}

@@ -8,7 +8,7 @@ use crate::kept::KeptPoints;
 use crate::raw::NumberedPoint;
 use crate::statuses::{OUT_OF_MEMORY, TOO_SHORT, WELL};
 use delaunay_interface::Triangulation;
-use delaunay_layers::face_layers;
+use delaunay_queries::face_layers;
 use std::alloc::Global;
 
 // Writes the layer of each face, if there is room.

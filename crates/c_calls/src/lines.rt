@@ -4,7 +4,7 @@ ghost use Rattle.delaunay_edit.specs.plane.Line.{Item};
 ghost use Rattle.delaunay_edit.specs.delaunay_legalization.Constraints.{constraints_by};
 ghost use Rattle.delaunay_edit.specs.delaunay_legalization.Shape.{IsTriangulated};
 ghost use Rattle.delaunay_edit.specs.delaunay_legalization.State.{state_of, triangulation_of};
-ghost use Rattle.delaunay_edit.specs.delaunay_lines.Walk.{AreLeft, IsReady};
+ghost use Rattle.delaunay_edit.specs.delaunay_location.Walk.{AreLeft, IsReady};
 ghost use Rattle.c_calls.specs.Kept.{kept_drawing, kept_place, kept_state};
 ghost use Rattle.c_calls.specs.Links.{IsMetEdge, IsRawMeeting};
 ghost use Rattle.c_calls.specs.Queries.{FindsLine, MayAskLine, TellsItems};

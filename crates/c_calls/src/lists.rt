@@ -1,11 +1,12 @@
 //! All elements of a triangulation, written to lists of C's.
 ghost use Rattle.std.specs.Prelude.{◌≡◌, ◌/◌, ◌<◌, length, map};
-ghost use Rattle.delaunay_edit.specs.half_edge_mesh.Mesh.{face_edge};
+ghost use Rattle.delaunay_edit.specs.half_edge_links.Mesh.{face_edge};
 ghost use Rattle.delaunay_edit.specs.delaunay_legalization.Constraints.{constraints_by};
 ghost use Rattle.delaunay_edit.specs.delaunay_legalization.State.{state_of, triangulation_of};
 ghost use Rattle.c_calls.specs.Kept.{kept_drawing, kept_state, kept_vertices};
 ghost use Rattle.c_calls.specs.Links.{IsMarkOf, IsRawEdge, IsRawFace, IsRawSide};
-ghost use Rattle.c_calls.specs.Queries.{IsElementAt, IsEdgeEntry, IsFaceEntry, ListsRawEdges, ListsRawFaces};
+ghost use Rattle.c_calls.specs.Queries.{IsElementAt, IsEdgeEntry, IsFaceEntry, ListsRawEdges};
+ghost use Rattle.c_calls.specs.Queries.{ListsRawFaces};
 ghost use Rattle.c_calls.specs.Queries.{ListsNumbers, ListsPositions, face_number, number_of};
 ghost use Rattle.c_calls.specs.Queries.{raw_position};
 

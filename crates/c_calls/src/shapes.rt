@@ -1,7 +1,7 @@
 //! Vertices and edges in circles and rectangles.
 ghost use Rattle.std.specs.Prelude.{◌≡◌, MatchOption};
 ghost use Rattle.delaunay_edit.specs.delaunay_legalization.State.{triangulation_of};
-ghost use Rattle.delaunay_shape_queries.specs.Found.{edges_left, vertices_left};
+ghost use Rattle.delaunay_queries.specs.Found.{edges_left, vertices_left};
 ghost use Rattle.c_calls.specs.Kept.{kept_drawing, kept_links, kept_place};
 ghost use Rattle.c_calls.specs.Links.{AreFew, indexes_in};
 ghost use Rattle.c_calls.specs.Queries.{FindsEdgesInCircle, FindsEdgesInRectangle};
@@ -17,7 +17,7 @@ use crate::queries::{is_in_range, point_of};
 use crate::raw::{NumberedPoint, RawPoint, RawShape};
 use crate::statuses::{NEGATIVE, NO_SUCH_KIND, OUT_OF_MEMORY, TOO_LARGE};
 use crate::told::{put, status_by_room};
-use delaunay_shape_queries::{EdgesInShapeIterator, FloatTriangulation, VerticesInShapeIterator};
+use delaunay_queries::{EdgesInShapeIterator, FloatTriangulation, VerticesInShapeIterator};
 use exact_predicates::ExactTests;
 use std::alloc::Global;
 

@@ -11,7 +11,7 @@ use crate::raw::{NumberedPoint, RawPoint};
 use crate::statuses::{TOO_LARGE, UNEQUAL_LENGTHS, WELL};
 use delaunay_interface::Triangulation;
 use delaunay_interface::half_edge_mesh::FixedFaceHandle;
-use delaunay_sight::{FreeFaces, is_in_sight};
+use delaunay_shapes::{FreeFaces, is_in_sight};
 use exact_predicates::ExactTests;
 
 // Which inner faces are free: those whose byte is not 0.

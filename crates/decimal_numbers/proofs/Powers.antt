@@ -3,7 +3,8 @@
 -- long_whole, lowered_magnitude, raised_magnitude, long_digits, long_raised, short_lowered,
 -- short_raised, zero_taken, power_divided, power_cancelled, too_large, ten_or_more, rounds, rounds_to_none.
 use Rattle.std.proofs.Common.{◌≡◌, ◌+◌, ◌-◌, ◌*◌, ◌/◌, ◌%◌, ◌^◌, ◌<◌, ◌≤◌, [], ◌∷◌, ◌++◌, ◌∙◌}
-use Rattle.std.proofs.Common.{ℕ, suc, true, false, List, length, get_or, drop, refl, sym, ap, subst, inl, inr}
+use Rattle.std.proofs.Common.{ℕ, suc, true, false, List, length, get_or, drop, refl, sym, ap, subst}
+use Rattle.std.proofs.Common.{inl, inr}
 use Rattle.std.proofs.Common.{arith, add-one, add-zero, drop-cons}
 use Rattle.std.specs.Char.{digit_value}
 use Rattle.std.specs.Str.Parse.{digits_value, digits_value_after}

@@ -3,16 +3,19 @@
 -- unsigned_first, parts_are, integer_is, sign_of, integer_of, point_of, number_of, if_none,
 -- no_power_behind, is_none, is_some.
 use Rattle.std.proofs.Common.{◌≡◌, ◌≢◌, ◌+◌, ◌<◌, ◌≤◌, ◌⊎◌, [], ◌∷◌, ◌++◌, ◌∙◌}
-use Rattle.std.proofs.Common.{ℕ, Bool, true, false, eqb, List, length, get_or, drop, inl, inr, refl, sym, ap, subst, arith}
+use Rattle.std.proofs.Common.{ℕ, Bool, true, false, eqb, List, length, get_or, drop, inl, inr, refl}
+use Rattle.std.proofs.Common.{sym, ap, subst, arith}
 use Rattle.std.proofs.Common.{append-nil}
 use Rattle.std.specs.Prelude.{Option, None, Some, IfNone}
 use Rattle.std.specs.Char.{digit_value, is_ascii_digit}
 use Rattle.std.specs.Str.Parse.{AllDigits}
 use Rattle.std.proofs.lemmas.Bool.{ne_eqb}
 use Rattle.std.proofs.lemmas.Bool.Decides.{nat_tests}
-use Rattle.decimal_numbers.specs.Grammar.{Spelling, IsSign, IsPoint, IsPower, SpellsNumber, SpellsInteger}
+use Rattle.decimal_numbers.specs.Grammar.{Spelling, IsSign, IsPoint, IsPower, SpellsNumber}
+use Rattle.decimal_numbers.specs.Grammar.{SpellsInteger}
 use Rattle.decimal_numbers.specs.Reading.{IsNoInteger, IsNoPower}
-use Rattle.decimal_numbers.specs.Reading.{NoDigitFirst, NoSignFirst, NoPointFirst, TakenSign, TakesPoint}
+use Rattle.decimal_numbers.specs.Reading.{NoDigitFirst, NoSignFirst, NoPointFirst, TakenSign}
+use Rattle.decimal_numbers.specs.Reading.{TakesPoint}
 
 -- a digit's byte has a value below ten, and no other byte does
 pub digit_is_low : (c : ℕ) → is_ascii_digit c ≡ true → digit_value c < 10

@@ -6,7 +6,8 @@ ghost use Rattle.decimal_numbers.specs.Grammar.{SpellsNoNumber};
 ghost use Rattle.decimal_numbers.specs.Reading.{parts_of};
 ghost use Rattle.decimal_numbers.specs.Value.{IsMagnitude, IsShortest, SpellsValue};
 ghost use Rattle.decimal_numbers.specs.Value.{IsTooLong, SpellsTooLong};
-ghost use Rattle.decimal_numbers.specs.declared.decimal.DecimalError.TheVariants.{Malformed, TooLong};
+ghost use Rattle.decimal_numbers.specs.declared.decimal.DecimalError.TheVariants.{Malformed};
+ghost use Rattle.decimal_numbers.specs.declared.decimal.DecimalError.TheVariants.{TooLong};
 
 use crate::parts::{Written, written_of};
 use itoa::Buffer;

@@ -19,7 +19,7 @@ use Rattle.delaunay_interface.specs.delaunay_core.declared.math.InsertionError.T
   OutOfMemory,
 }
 use Rattle.delaunay_interface.specs.delaunay_legalization.State.{State}
-use Rattle.delaunay_interface.specs.Edits.{InsertsVertex}
+use Rattle.delaunay_interface.specs.delaunay_edit.Edits.{InsertsVertex}
 use Rattle.delaunay_bulk.specs.declared.error.BulkInsertionError.{BulkInsertionError}
 use Rattle.delaunay_bulk.specs.declared.error.BulkInsertionError.TheVariants.{Vertex, NoRoom}
 use Rattle.delaunay_bulk.specs.Order.{IsFirstOutside}

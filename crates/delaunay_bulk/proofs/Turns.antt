@@ -15,7 +15,7 @@ use Rattle.delaunay_interface.specs.plane.Plain.{IsSameState, Plain, Run, insert
 use Rattle.delaunay_interface.specs.plane.Tests.{InRange}
 use Rattle.delaunay_interface.specs.delaunay_legalization.Constraints.{points_and_constraints_by}
 use Rattle.delaunay_interface.specs.delaunay_legalization.State.{State}
-use Rattle.delaunay_interface.specs.Headline.{AreSites}
+use Rattle.delaunay_interface.specs.delaunay_edit.Headline.{AreSites}
 use Rattle.delaunay_interface.proofs.Stepping.{inserted_grows, inserted_here}
 use Rattle.delaunay_interface.specs.delaunay_core.declared.math.InsertionError.TheVariants.{OutOfMemory}
 use Rattle.delaunay_bulk.specs.declared.error.BulkInsertionError.{BulkInsertionError}

@@ -7,11 +7,13 @@ use Rattle.delaunay_interface.specs.plane.Fraction.{Point}
 use Rattle.delaunay_interface.specs.plane.Plain.{Run, insert}
 use Rattle.delaunay_interface.specs.plane.Tests.{InRange}
 use Rattle.delaunay_interface.specs.delaunay_core.declared.math.InsertionError.{InsertionError}
-use Rattle.delaunay_interface.specs.delaunay_core.declared.math.InsertionError.TheVariants.{TooLarge, OutOfIndexes, OutOfMemory}
+use Rattle.delaunay_interface.specs.delaunay_core.declared.math.InsertionError.TheVariants.{TooLarge}
+use Rattle.delaunay_interface.specs.delaunay_core.declared.math.InsertionError.TheVariants.{OutOfIndexes}
+use Rattle.delaunay_interface.specs.delaunay_core.declared.math.InsertionError.TheVariants.{OutOfMemory}
 use Rattle.delaunay_interface.specs.delaunay_legalization.Constraints.{points_and_constraints_by}
 use Rattle.delaunay_interface.specs.delaunay_legalization.Known.{point_at}
 use Rattle.delaunay_interface.specs.delaunay_legalization.State.{State}
-use Rattle.delaunay_interface.specs.Edits.{InsertsVertex}
+use Rattle.delaunay_interface.specs.delaunay_edit.Edits.{InsertsVertex}
 use Rattle.delaunay_bulk.specs.declared.error.BulkInsertionError.{BulkInsertionError}
 use Rattle.delaunay_bulk.specs.declared.error.BulkInsertionError.TheVariants.{Vertex, NoRoom}
 use Rattle.delaunay_bulk.specs.Order.{IsFirstOutside, IsListed}

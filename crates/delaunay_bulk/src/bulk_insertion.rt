@@ -1,7 +1,8 @@
 //! Vertices that are inserted one after another, as the caller asks.
-ghost use Rattle.std.specs.Prelude.{◌≡◌, ◌↔◌, [], length, map, All, IfErr, IfOk, IsErrOf, IsTrue, OnOk};
+ghost use Rattle.std.specs.Prelude.{◌≡◌, ◌↔◌, [], length, map, All, IfErr, IfOk, IsErrOf, IsTrue};
+ghost use Rattle.std.specs.Prelude.{OnOk};
 ghost use Rattle.delaunay_interface.specs.plane.Tests.{InRange};
-ghost use Rattle.delaunay_interface.specs.Headline.{AreSites, IsDelaunay};
+ghost use Rattle.delaunay_interface.specs.delaunay_edit.Headline.{AreSites, IsDelaunay};
 ghost use Rattle.delaunay_interface.specs.delaunay_core.declared.math.InsertionError.TheVariants.{OutOfIndexes};
 ghost use Rattle.delaunay_bulk.specs.declared.error.BulkInsertionError.TheVariants.{NoRoom};
 ghost use Rattle.delaunay_bulk.specs.Order.{IsListed};

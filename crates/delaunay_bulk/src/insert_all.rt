@@ -1,7 +1,7 @@
 //! The call of both triangulations that inserts the vertices of a list.
 ghost use Rattle.std.specs.Prelude.{◌≡◌, ◌+◌, ◌*◌, ◌<◌, length, slice_set, All, IfErr, IfOk};
 ghost use Rattle.delaunay_interface.specs.plane.Tests.{InRange};
-ghost use Rattle.delaunay_interface.specs.Headline.{AreSites, IsDelaunay};
+ghost use Rattle.delaunay_interface.specs.delaunay_edit.Headline.{AreSites, IsDelaunay};
 ghost use Rattle.delaunay_bulk.specs.Bulk.{InsertsAll, RefusesWhere, StopsAt};
 
 use crate::bulk_insertion::BulkInsertion;

@@ -7,7 +7,7 @@ ghost use Rattle.delaunay_core.specs.Held.{AreDistinct, place_if, places};
 
 use crate::math::PlaneTests;
 use crate::point::{Point2, SpadeNum};
-use half_edge_handles::FixedVertexHandle;
+use half_edge_links::FixedVertexHandle;
 use std::alloc::Global;
 
 /// Tells a search at which vertex to begin. A triangulation tells its generator once of each

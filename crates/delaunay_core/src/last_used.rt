@@ -8,7 +8,7 @@ ghost use Rattle.delaunay_core.specs.Held.{place_if};
 use crate::hint_generator::HintGenerator;
 use crate::math::PlaneTests;
 use crate::point::{Point2, SpadeNum};
-use half_edge_handles::FixedVertexHandle;
+use half_edge_links::FixedVertexHandle;
 use std::alloc::Global;
 use std::cell::Cell;
 

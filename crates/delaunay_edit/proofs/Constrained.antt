@@ -3,15 +3,15 @@
 -- Lemmas: plain_with_edges, unconstrained, other_data_as.
 use Rattle.std.proofs.Common.{◌≡◌, ◌≢◌, ℕ, ◌<◌, List, [], ◌∷◌, length, sym, ap, ◌∙◌, subst, arith}
 use Rattle.std.specs.List.{AllZip}
-use Rattle.delaunay_paths.specs.half_edge_mesh.Mesh.{origin, rev}
-use Rattle.delaunay_paths.proofs.half_edge_links.Lists.Rev.{rev_within}
-use Rattle.delaunay_paths.specs.plane.Fraction.{Point}
-use Rattle.delaunay_paths.specs.plane.Pairs.{Joins}
-use Rattle.delaunay_paths.specs.plane.Plain.{IsPlain, Unconstrains}
-use Rattle.delaunay_paths.specs.mesh_embedding.Drawn.{edges_of}
-use Rattle.delaunay_paths.specs.delaunay_legalization.declared.cdt_edge.CdtEdge.{CdtEdge}
-use Rattle.delaunay_paths.specs.delaunay_legalization.Shape.{IsTriangulated}
-use Rattle.delaunay_paths.specs.delaunay_legalization.State.{State, points_and_constraints}
+use Rattle.delaunay_edit.specs.half_edge_links.Mesh.{origin, rev}
+use Rattle.delaunay_edit.proofs.half_edge_links_lemmas.Lists.Rev.{rev_within}
+use Rattle.delaunay_edit.specs.plane.Fraction.{Point}
+use Rattle.delaunay_edit.specs.plane.Pairs.{Joins}
+use Rattle.delaunay_edit.specs.plane.Plain.{IsPlain, Unconstrains}
+use Rattle.delaunay_edit.specs.delaunay_legalization.Drawn.{edges_of}
+use Rattle.delaunay_edit.specs.delaunay_legalization.declared.cdt_edge.CdtEdge.{CdtEdge}
+use Rattle.delaunay_edit.specs.delaunay_legalization.Shape.{IsTriangulated}
+use Rattle.delaunay_edit.specs.delaunay_legalization.State.{State, points_and_constraints}
 use Rattle.delaunay_edit.specs.Data.{HasOtherEdgeData}
 use Rattle.delaunay_edit.proofs.Counts.{plain_if_kept}
 use Rattle.delaunay_edit.proofs.Edges.{joins_edge}

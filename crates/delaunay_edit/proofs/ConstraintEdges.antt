@@ -7,26 +7,27 @@ use Rattle.std.proofs.Common.{refl, sym, ap, ◌∙◌, subst, arith, inl, inr}
 use Rattle.std.specs.Prelude.{Contains, if◌then◌else◌}
 use Rattle.std.specs.List.{AllZip}
 use Rattle.std.proofs.lemmas.List.{length-map}
-use Rattle.delaunay_paths.specs.half_edge_mesh.Mesh.{Mesh, origin, rev}
-use Rattle.delaunay_paths.proofs.half_edge_links.Lists.Rev.{rev-rev, rev_within}
-use Rattle.delaunay_paths.specs.plane.Fraction.{Point}
-use Rattle.delaunay_paths.specs.plane.Pairs.{IsSamePair, Joins}
-use Rattle.delaunay_paths.specs.plane.Delaunay.{IsLocallyDelaunay}
-use Rattle.delaunay_paths.specs.mesh_embedding.Drawn.{drawn}
-use Rattle.delaunay_paths.specs.mesh_embedding.Legal.{pair_at}
-use Rattle.delaunay_paths.specs.mesh_embedding.Stays.{GoSameWay}
-use Rattle.delaunay_paths.proofs.mesh_embedding.MeshLegal.{own_indexes}
-use Rattle.delaunay_paths.proofs.mesh_embedding.WorkLists.{contains_map, contains_map_from}
-use Rattle.delaunay_paths.specs.half_edge_mesh.Contents.{Contents}
-use Rattle.delaunay_paths.specs.half_edge_mesh.Mapped.{IsMapped}
-use Rattle.delaunay_paths.specs.delaunay_legalization.Constraints.{marked_from, marked_edges}
-use Rattle.delaunay_paths.specs.delaunay_legalization.Constraints.{constraint_pairs, constraints_by}
-use Rattle.delaunay_paths.proofs.delaunay_legalization_lemmas.Constraints.{fixed_within}
-use Rattle.delaunay_paths.specs.delaunay_legalization.Shape.{IsTriangulated}
-use Rattle.delaunay_paths.specs.delaunay_legalization.Shape.{IsDelaunayTriangulation}
-use Rattle.delaunay_paths.specs.delaunay_legalization.State.{State, state_of}
+use Rattle.delaunay_edit.specs.half_edge_links.Mesh.{Mesh, origin, rev}
+use Rattle.delaunay_edit.proofs.half_edge_links_lemmas.Lists.Rev.{rev-rev, rev_within}
+use Rattle.delaunay_edit.specs.plane.Fraction.{Point}
+use Rattle.delaunay_edit.specs.plane.Pairs.{IsSamePair, Joins}
+use Rattle.delaunay_edit.specs.plane.Delaunay.{IsLocallyDelaunay}
+use Rattle.delaunay_edit.specs.delaunay_legalization.Drawn.{drawn}
+use Rattle.delaunay_edit.specs.delaunay_legalization.Legal.{pair_at}
+use Rattle.delaunay_edit.specs.delaunay_legalization.Stays.{GoSameWay}
+use Rattle.delaunay_edit.proofs.delaunay_legalization_lemmas.MeshLegal.{own_indexes}
+use Rattle.delaunay_edit.proofs.delaunay_legalization_lemmas.WorkLists.{contains_map}
+use Rattle.delaunay_edit.proofs.delaunay_legalization_lemmas.WorkLists.{contains_map_from}
+use Rattle.delaunay_edit.specs.half_edge_dcel.Contents.{Contents}
+use Rattle.delaunay_edit.specs.half_edge_dcel.Mapped.{IsMapped}
+use Rattle.delaunay_edit.specs.delaunay_legalization.Constraints.{marked_from, marked_edges}
+use Rattle.delaunay_edit.specs.delaunay_legalization.Constraints.{constraint_pairs, constraints_by}
+use Rattle.delaunay_edit.proofs.delaunay_legalization_lemmas.Constraints.{fixed_within}
+use Rattle.delaunay_edit.specs.delaunay_legalization.Shape.{IsTriangulated}
+use Rattle.delaunay_edit.specs.delaunay_legalization.Shape.{IsDelaunayTriangulation}
+use Rattle.delaunay_edit.specs.delaunay_legalization.State.{State, state_of}
 use Rattle.delaunay_edit.specs.Data.{HasOtherEdgeData}
-use Rattle.delaunay_paths.proofs.mesh_embedding.EdgePairs.{rev_of_even}
+use Rattle.delaunay_edit.proofs.delaunay_legalization_lemmas.EdgePairs.{rev_of_even}
 
 -- ---- how many there are
 abbrev add_mark : Bool → ℕ → ℕ

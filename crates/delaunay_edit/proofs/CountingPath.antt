@@ -5,17 +5,17 @@ use Rattle.std.proofs.Common.{ℕ, suc, List, sym, subst, inl, inr, arith}
 use Rattle.std.specs.Prelude.{All, nat_abs, pos}
 use Rattle.std.proofs.lemmas.Bool.{cases_eq}
 use Rattle.std.proofs.lemmas.List.Elements.{All-get_or}
-use Rattle.delaunay_paths.specs.plane.Fraction.{Point}
-use Rattle.delaunay_paths.specs.plane.Laws.{squared_way}
-use Rattle.delaunay_paths.specs.plane.Pairs.{IsIndex, IsSamePair, Joins, place}
-use Rattle.delaunay_paths.specs.plane.Tests.{InRange}
-use Rattle.delaunay_paths.proofs.plane.Indexes.{same_joined}
-use Rattle.delaunay_paths.specs.plane_edits.Legal.{point_of}
-use Rattle.delaunay_paths.specs.plane_segments.Constraints.{AreNextOn, ArePlacedApart}
-use Rattle.delaunay_paths.proofs.plane_segments.Constraints.Pieces.{path_ends, path_goes_on}
-use Rattle.delaunay_paths.proofs.plane_segments.Constraints.Shorter.{path_shortens}
-use Rattle.delaunay_paths.proofs.plane_tiling.Edges.{turned_within}
-use Rattle.delaunay_paths.proofs.delaunay_core_lemmas.Projections.{along_bound}
+use Rattle.delaunay_edit.specs.plane.Fraction.{Point}
+use Rattle.delaunay_edit.specs.plane.Laws.{squared_way}
+use Rattle.delaunay_edit.specs.plane.Pairs.{IsIndex, IsSamePair, Joins, place}
+use Rattle.delaunay_edit.specs.plane.Tests.{InRange}
+use Rattle.delaunay_edit.proofs.plane.Indexes.{same_joined}
+use Rattle.delaunay_edit.specs.plane_theorems.Edits.Legal.{point_of}
+use Rattle.delaunay_edit.specs.plane_theorems.Segments.Constraints.{AreNextOn, ArePlacedApart}
+use Rattle.delaunay_edit.proofs.plane_theorems.Segments.Constraints.Pieces.{path_ends, path_goes_on}
+use Rattle.delaunay_edit.proofs.plane_theorems.Segments.Constraints.Shorter.{path_shortens}
+use Rattle.delaunay_edit.proofs.plane_theorems.Tiling.Edges.{turned_within}
+use Rattle.delaunay_edit.proofs.delaunay_core_lemmas.Projections.{along_bound}
 use Rattle.delaunay_edit.specs.Counting.{HasPairs, IsMissing}
 use Rattle.delaunay_edit.proofs.PairCounts.{has_pairs_as, no_pairs, one_more}
 

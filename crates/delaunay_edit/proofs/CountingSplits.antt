@@ -3,31 +3,31 @@
 -- Lemmas: as_many, one_more_constraint, counted_split.
 use Rattle.std.proofs.Common.{◌≡◌, ◌+◌}
 use Rattle.std.proofs.Common.{ℕ, suc, Bool, List, length, map, refl, ap, inl, inr, arith}
-use Rattle.delaunay_paths.specs.half_edge_mesh.Contents.{Contents}
-use Rattle.delaunay_paths.specs.half_edge_mesh.Mesh.{origin, rev}
-use Rattle.delaunay_paths.specs.plane.Fraction.{Point, whole}
-use Rattle.delaunay_paths.specs.plane.Location.{Location, on_edge, IsLocation}
-use Rattle.delaunay_paths.specs.plane.Pairs.{EachPairOnce, Joins}
-use Rattle.delaunay_paths.specs.plane.Plain.{Carries, IsPlain}
-use Rattle.delaunay_paths.proofs.plane.Indexes.{same_joined}
-use Rattle.delaunay_paths.specs.plane_tiling.Laws.{IsSameLocation}
-use Rattle.delaunay_paths.proofs.plane_tiling.Locations.{each_point_has_one_location}
-use Rattle.delaunay_paths.specs.mesh_embedding.Drawn.{edges_of, faces_of, outer_of}
-use Rattle.delaunay_paths.proofs.mesh_embedding.OwnEdges.{own_edges}
-use Rattle.delaunay_insertion.specs.Constraints.{SplitsConstraints}
-use Rattle.delaunay_paths.specs.delaunay_legalization.Constraints.{constraints_by, marked_edges}
-use Rattle.delaunay_paths.specs.delaunay_legalization.Constraints.{points_and_constraints_by}
-use Rattle.delaunay_paths.specs.delaunay_legalization.Shape.{IsDelaunayTriangulation}
-use Rattle.delaunay_paths.specs.delaunay_legalization.Shape.{IsTriangulated}
-use Rattle.delaunay_paths.specs.delaunay_legalization.State.{State, state_of, triangulation_of}
-use Rattle.delaunay_paths.proofs.delaunay_legalization_lemmas.ConstraintEdges.{constraints_are_edges}
-use Rattle.delaunay_paths.specs.delaunay_location.declared.position_in_triangulation.PositionInTriangulation.{PositionInTriangulation}
-use Rattle.delaunay_paths.specs.delaunay_location.declared.position_in_triangulation.PositionInTriangulation.TheVariants.{OnVertex}
-use Rattle.delaunay_paths.specs.delaunay_location.declared.position_in_triangulation.PositionInTriangulation.TheVariants.{OnEdge}
-use Rattle.delaunay_paths.specs.delaunay_location.declared.position_in_triangulation.PositionInTriangulation.TheVariants.{OnFace}
-use Rattle.delaunay_paths.specs.delaunay_location.declared.position_in_triangulation.PositionInTriangulation.TheVariants.{OutsideOfConvexHull}
-use Rattle.delaunay_paths.specs.delaunay_location.declared.position_in_triangulation.PositionInTriangulation.TheVariants.{NoTriangulation}
-use Rattle.delaunay_paths.proofs.JoinedPairs.{edge_joins}
+use Rattle.delaunay_edit.specs.half_edge_dcel.Contents.{Contents}
+use Rattle.delaunay_edit.specs.half_edge_links.Mesh.{origin, rev}
+use Rattle.delaunay_edit.specs.plane.Fraction.{Point, whole}
+use Rattle.delaunay_edit.specs.plane.Location.{Location, on_edge, IsLocation}
+use Rattle.delaunay_edit.specs.plane.Pairs.{EachPairOnce, Joins}
+use Rattle.delaunay_edit.specs.plane.Plain.{Carries, IsPlain}
+use Rattle.delaunay_edit.proofs.plane.Indexes.{same_joined}
+use Rattle.delaunay_edit.specs.plane_theorems.Tiling.Laws.{IsSameLocation}
+use Rattle.delaunay_edit.proofs.plane_theorems.Tiling.Locations.{each_point_has_one_location}
+use Rattle.delaunay_edit.specs.delaunay_legalization.Drawn.{edges_of, faces_of, outer_of}
+use Rattle.delaunay_edit.proofs.delaunay_legalization_lemmas.OwnEdges.{own_edges}
+use Rattle.delaunay_vertices.specs.Constraints.{SplitsConstraints}
+use Rattle.delaunay_edit.specs.delaunay_legalization.Constraints.{constraints_by, marked_edges}
+use Rattle.delaunay_edit.specs.delaunay_legalization.Constraints.{points_and_constraints_by}
+use Rattle.delaunay_edit.specs.delaunay_legalization.Shape.{IsDelaunayTriangulation}
+use Rattle.delaunay_edit.specs.delaunay_legalization.Shape.{IsTriangulated}
+use Rattle.delaunay_edit.specs.delaunay_legalization.State.{State, state_of, triangulation_of}
+use Rattle.delaunay_edit.proofs.delaunay_legalization_lemmas.ConstraintEdges.{constraints_are_edges}
+use Rattle.delaunay_edit.specs.delaunay_location.declared.position_in_triangulation.PositionInTriangulation.{PositionInTriangulation}
+use Rattle.delaunay_edit.specs.delaunay_location.declared.position_in_triangulation.PositionInTriangulation.TheVariants.{OnVertex}
+use Rattle.delaunay_edit.specs.delaunay_location.declared.position_in_triangulation.PositionInTriangulation.TheVariants.{OnEdge}
+use Rattle.delaunay_edit.specs.delaunay_location.declared.position_in_triangulation.PositionInTriangulation.TheVariants.{OnFace}
+use Rattle.delaunay_edit.specs.delaunay_location.declared.position_in_triangulation.PositionInTriangulation.TheVariants.{OutsideOfConvexHull}
+use Rattle.delaunay_edit.specs.delaunay_location.declared.position_in_triangulation.PositionInTriangulation.TheVariants.{NoTriangulation}
+use Rattle.delaunay_edit.proofs.JoinedPairs.{edge_joins}
 use Rattle.delaunay_edit.specs.Counting.{IsCounted, IsOnConstraint, IsSplitCount}
 use Rattle.delaunay_edit.specs.Location.{Locates, location_of}
 use Rattle.delaunay_edit.proofs.Constrained.{plain_with_edges}

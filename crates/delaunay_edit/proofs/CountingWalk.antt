@@ -5,53 +5,55 @@
 -- counting_crosses,
 -- counting_along, counting_stays, counting_goes_past, counting_goes_on.
 use Rattle.std.proofs.Common.{◌≡◌, ◌≢◌, ◌⊎◌, ◌+◌, ◌*◌, ◌/◌, ◌<◌, [], ◌∷◌, ◌++◌, ◌∙◌}
-use Rattle.std.proofs.Common.{ℕ, Bool, List, length, map, Some, None, refl, sym, ap, subst, inl, inr}
+use Rattle.std.proofs.Common.{ℕ, Bool, List, length, map, Some, None, refl, sym, ap, subst, inl}
+use Rattle.std.proofs.Common.{inr}
 use Rattle.std.proofs.Common.{arith}
 use Rattle.std.specs.Prelude.{ℤ, Contains}
 use Rattle.std.specs.Borrow.{Bor}
 use Rattle.std.proofs.lemmas.List.Elements.{All-map, Contains-append_left, Contains-push_cases}
-use Rattle.delaunay_paths.specs.half_edge_mesh.declared.edge.DirectedEdgeHandle.{DirectedEdgeHandle}
-use Rattle.delaunay_paths.specs.half_edge_mesh.declared.vertex.VertexHandle.{VertexHandle}
-use Rattle.delaunay_paths.specs.half_edge_mesh.Contents.{Contents}
-use Rattle.delaunay_paths.specs.half_edge_mesh.Mesh.{origin, rev}
-use Rattle.delaunay_paths.proofs.half_edge_links.Lists.Rev.{rev_within}
-use Rattle.delaunay_paths.specs.plane.Fraction.{Point, IsSame, OnSegment, WithinSegment}
-use Rattle.delaunay_paths.specs.plane.Line.{Item, IsLineList, Meets, across, along, at_vertex}
-use Rattle.delaunay_paths.specs.plane.Pairs.{Joins, IsIndex, place}
-use Rattle.delaunay_paths.specs.plane.Tests.{InRange}
-use Rattle.delaunay_paths.specs.plane.Tiling.{IsEdge, Triangulation}
-use Rattle.delaunay_paths.proofs.plane.Indexes.{turned_join}
-use Rattle.delaunay_paths.specs.plane_segments.Constraints.{AreNextOn, ArePlacedApart}
-use Rattle.delaunay_paths.proofs.plane_tiling.Locations.{no_edges_cross}
-use Rattle.delaunay_paths.proofs.plane_tiling.Totals.{Contains-none}
-use Rattle.delaunay_paths.specs.mesh_embedding.Drawn.{drawn, edges_of, faces_of, outer_of}
-use Rattle.delaunay_paths.proofs.mesh_embedding.MeshLegal.{IsListedEdge, joins_directed}
-use Rattle.delaunay_paths.proofs.mesh_embedding.MeshLegal.{listed_edge, own_indexes}
-use Rattle.delaunay_paths.proofs.mesh_embedding.OwnEdges.{own_edges}
-use Rattle.delaunay_paths.proofs.mesh_embedding.WorkLists.{contains_last}
-use Rattle.delaunay_paths.specs.delaunay_legalization.Constraints.{constraints_by, marked_edges}
-use Rattle.delaunay_paths.specs.delaunay_legalization.Known.{point_at}
-use Rattle.delaunay_paths.specs.delaunay_legalization.Shape.{IsTriangulated}
-use Rattle.delaunay_paths.specs.delaunay_legalization.State.{State, state_of}
-use Rattle.delaunay_paths.proofs.delaunay_legalization_lemmas.ConstraintEdges.{constraints_are_edges}
-use Rattle.delaunay_paths.proofs.delaunay_legalization_lemmas.Constraints.{fixed_within}
-use Rattle.delaunay_paths.specs.delaunay_lines.declared.intersection.Intersection.{Intersection}
-use Rattle.delaunay_paths.specs.delaunay_lines.declared.intersection.Intersection.TheVariants.{EdgeIntersection}
-use Rattle.delaunay_paths.specs.delaunay_lines.declared.intersection.Intersection.TheVariants.{VertexIntersection}
-use Rattle.delaunay_paths.specs.delaunay_lines.declared.iterator.LineIntersectionIterator.{LineIntersectionIterator}
-use Rattle.delaunay_paths.specs.delaunay_lines.Conflicts.{HasNoConflict, IsConflict}
-use Rattle.delaunay_paths.specs.delaunay_lines.Items.{item_in, mesh_of}
-use Rattle.delaunay_paths.specs.delaunay_lines.Walk.{GivesNext, IsReady, WalksLine}
-use Rattle.delaunay_paths.proofs.delaunay_lines_lemmas.EitherWay.{crossed_either_way}
-use Rattle.delaunay_paths.specs.Adding.{CanAddPath}
-use Rattle.delaunay_paths.proofs.InTheWay.{meets_is_cross}
-use Rattle.delaunay_paths.proofs.NextVertex.{two}
-use Rattle.delaunay_paths.proofs.Passing.{HasPassed, all_passed, list_with, none_passed}
-use Rattle.delaunay_paths.proofs.Passing.{one_more_passed, passed_kept}
-use Rattle.delaunay_paths.proofs.PassedVertices.{HasReached, next_after, not_at_end, reached_begins}
-use Rattle.delaunay_paths.proofs.PassedVertices.{reached_ends, reached_next, reached_stays}
-use Rattle.delaunay_paths.proofs.Places.{no_same_place}
-use Rattle.delaunay_paths.proofs.Walking.{in_map, placed_apart}
+use Rattle.delaunay_edit.specs.half_edge_dcel.declared.edge.DirectedEdgeHandle.{DirectedEdgeHandle}
+use Rattle.delaunay_edit.specs.half_edge_dcel.declared.vertex.VertexHandle.{VertexHandle}
+use Rattle.delaunay_edit.specs.half_edge_dcel.Contents.{Contents}
+use Rattle.delaunay_edit.specs.half_edge_links.Mesh.{origin, rev}
+use Rattle.delaunay_edit.proofs.half_edge_links_lemmas.Lists.Rev.{rev_within}
+use Rattle.delaunay_edit.specs.plane.Fraction.{Point, IsSame, OnSegment, WithinSegment}
+use Rattle.delaunay_edit.specs.plane.Line.{Item, IsLineList, Meets, across, along, at_vertex}
+use Rattle.delaunay_edit.specs.plane.Pairs.{Joins, IsIndex, place}
+use Rattle.delaunay_edit.specs.plane.Tests.{InRange}
+use Rattle.delaunay_edit.specs.plane.Tiling.{IsEdge, Triangulation}
+use Rattle.delaunay_edit.proofs.plane.Indexes.{turned_join}
+use Rattle.delaunay_edit.specs.plane_theorems.Segments.Constraints.{AreNextOn, ArePlacedApart}
+use Rattle.delaunay_edit.proofs.plane_theorems.Tiling.Locations.{no_edges_cross}
+use Rattle.delaunay_edit.proofs.plane_theorems.Tiling.Totals.{Contains-none}
+use Rattle.delaunay_edit.specs.delaunay_legalization.Drawn.{drawn, edges_of, faces_of, outer_of}
+use Rattle.delaunay_edit.proofs.delaunay_legalization_lemmas.MeshLegal.{IsListedEdge}
+use Rattle.delaunay_edit.proofs.delaunay_legalization_lemmas.MeshLegal.{joins_directed}
+use Rattle.delaunay_edit.proofs.delaunay_legalization_lemmas.MeshLegal.{listed_edge, own_indexes}
+use Rattle.delaunay_edit.proofs.delaunay_legalization_lemmas.OwnEdges.{own_edges}
+use Rattle.delaunay_edit.proofs.delaunay_legalization_lemmas.WorkLists.{contains_last}
+use Rattle.delaunay_edit.specs.delaunay_legalization.Constraints.{constraints_by, marked_edges}
+use Rattle.delaunay_edit.specs.delaunay_legalization.Known.{point_at}
+use Rattle.delaunay_edit.specs.delaunay_legalization.Shape.{IsTriangulated}
+use Rattle.delaunay_edit.specs.delaunay_legalization.State.{State, state_of}
+use Rattle.delaunay_edit.proofs.delaunay_legalization_lemmas.ConstraintEdges.{constraints_are_edges}
+use Rattle.delaunay_edit.proofs.delaunay_legalization_lemmas.Constraints.{fixed_within}
+use Rattle.delaunay_edit.specs.delaunay_location.declared.intersection.Intersection.{Intersection}
+use Rattle.delaunay_edit.specs.delaunay_location.declared.intersection.Intersection.TheVariants.{EdgeIntersection}
+use Rattle.delaunay_edit.specs.delaunay_location.declared.intersection.Intersection.TheVariants.{VertexIntersection}
+use Rattle.delaunay_edit.specs.delaunay_location.declared.iterator.LineIntersectionIterator.{LineIntersectionIterator}
+use Rattle.delaunay_edit.specs.delaunay_location.Conflicts.{HasNoConflict, IsConflict}
+use Rattle.delaunay_edit.specs.delaunay_location.Items.{item_in, mesh_of}
+use Rattle.delaunay_edit.specs.delaunay_location.Walk.{GivesNext, IsReady, WalksLine}
+use Rattle.delaunay_edit.proofs.delaunay_location_lemmas.EitherWay.{crossed_either_way}
+use Rattle.delaunay_edit.specs.Adding.{CanAddPath}
+use Rattle.delaunay_edit.proofs.InTheWay.{meets_is_cross}
+use Rattle.delaunay_edit.proofs.NextVertex.{two}
+use Rattle.delaunay_edit.proofs.Passing.{HasPassed, all_passed, list_with, none_passed}
+use Rattle.delaunay_edit.proofs.Passing.{one_more_passed, passed_kept}
+use Rattle.delaunay_edit.proofs.PassedVertices.{HasReached, next_after, not_at_end, reached_begins}
+use Rattle.delaunay_edit.proofs.PassedVertices.{reached_ends, reached_next, reached_stays}
+use Rattle.delaunay_edit.proofs.Places.{no_same_place}
+use Rattle.delaunay_edit.proofs.Walking.{in_map, placed_apart}
 use Rattle.delaunay_edit.specs.Counting.{HasPairs, IsMissing}
 use Rattle.delaunay_edit.proofs.CountingPath.{IsWalking, walk_begins, walk_ends, walk_goes_on}
 use Rattle.delaunay_edit.proofs.CountingPath.{walk_goes_past}

@@ -6,30 +6,30 @@ use Rattle.std.specs.Prelude.{pos, List}
 use Rattle.std.specs.Borrow.{Bor}
 use Rattle.std.specs.List.{range_with_len}
 use Rattle.std.proofs.lemmas.List.{length-map, get_or-map}
-use Rattle.delaunay_paths.specs.half_edge_mesh.Triangles.{triangle_at, triangles}
-use Rattle.delaunay_paths.specs.half_edge_mesh.Outline.{ends}
-use Rattle.delaunay_paths.proofs.half_edge_links.Sound.Ends.{length-ends_twice}
-use Rattle.delaunay_paths.specs.half_edge_mesh.Contents.{Contents}
-use Rattle.delaunay_paths.specs.half_edge_mesh.Left.{each_in}
-use Rattle.delaunay_paths.specs.plane.Fraction.{Point}
-use Rattle.delaunay_paths.specs.plane.Plain.{IsPlain}
-use Rattle.delaunay_paths.specs.mesh_embedding.Drawn.{corners_of, pair_of, faces_of, edges_of}
-use Rattle.delaunay_paths.specs.mesh_embedding.Drawn.{outer_of}
-use Rattle.delaunay_paths.proofs.mesh_embedding.EdgePairs.{no_joins}
-use Rattle.delaunay_paths.specs.delaunay_location.declared.position_in_triangulation.PositionInTriangulation.{PositionInTriangulation}
-use Rattle.delaunay_paths.specs.delaunay_location.declared.position_in_triangulation.PositionInTriangulation.TheVariants.{
+use Rattle.delaunay_edit.specs.half_edge_links.Triangles.{triangle_at, triangles}
+use Rattle.delaunay_edit.specs.half_edge_links.Outline.{ends}
+use Rattle.delaunay_edit.proofs.half_edge_links_lemmas.Sound.Ends.{length-ends_twice}
+use Rattle.delaunay_edit.specs.half_edge_dcel.Contents.{Contents}
+use Rattle.delaunay_edit.specs.half_edge_dcel.Left.{each_in}
+use Rattle.delaunay_edit.specs.plane.Fraction.{Point}
+use Rattle.delaunay_edit.specs.plane.Plain.{IsPlain}
+use Rattle.delaunay_edit.specs.delaunay_legalization.Drawn.{corners_of, pair_of, faces_of, edges_of}
+use Rattle.delaunay_edit.specs.delaunay_legalization.Drawn.{outer_of}
+use Rattle.delaunay_edit.proofs.delaunay_legalization_lemmas.EdgePairs.{no_joins}
+use Rattle.delaunay_edit.specs.delaunay_location.declared.position_in_triangulation.PositionInTriangulation.{PositionInTriangulation}
+use Rattle.delaunay_edit.specs.delaunay_location.declared.position_in_triangulation.PositionInTriangulation.TheVariants.{
   OnVertex,
   OnEdge,
   OnFace,
   OutsideOfConvexHull,
   NoTriangulation,
 }
-use Rattle.delaunay_paths.specs.delaunay_legalization.State.{State, state_of}
-use Rattle.delaunay_paths.specs.delaunay_legalization.State.{points_and_constraints}
-use Rattle.delaunay_paths.specs.delaunay_legalization.Shape.{IsTriangulated}
+use Rattle.delaunay_edit.specs.delaunay_legalization.State.{State, state_of}
+use Rattle.delaunay_edit.specs.delaunay_legalization.State.{points_and_constraints}
+use Rattle.delaunay_edit.specs.delaunay_legalization.Shape.{IsTriangulated}
 use Rattle.delaunay_edit.specs.Location.{HasHandle}
 use Rattle.delaunay_edit.specs.Elements.{GivesElements, HasElement, HasOuterEdge}
-use Rattle.delaunay_paths.proofs.delaunay_legalization_lemmas.Shapes.{laid_out_distinct}
+use Rattle.delaunay_edit.proofs.delaunay_legalization_lemmas.Shapes.{laid_out_distinct}
 
 module _ {V D U F : Type 0} (place : V → Point) (s : State V D U F)
     (kept : IsTriangulated place s) where

@@ -5,14 +5,14 @@ use Rattle.std.proofs.Common.{ℕ, suc, Bool, length, refl, sym, ap, subst, inl,
 use Rattle.std.specs.Prelude.{nat_eq, cond}
 use Rattle.std.proofs.lemmas.Bool.{cases_eq}
 use Rattle.std.proofs.lemmas.Bool.Decides.{eqb_tells}
-use Rattle.delaunay_paths.specs.plane.Fraction.{Point, whole}
-use Rattle.delaunay_paths.specs.plane.Pairs.{Joins, IsSamePair, EachPairOnce, place}
-use Rattle.delaunay_paths.specs.plane.Plain.{Plain, Adds, AreNeighboursOn, Carries, IsHalf, IsPlain}
-use Rattle.delaunay_paths.specs.plane.Plain.{Releases, TakesOut, points_of}
-use Rattle.delaunay_paths.proofs.plane.Indexes.{pair_turned, same_joined}
-use Rattle.delaunay_paths.proofs.plane_tiling.Edges.{turned_within}
-use Rattle.delaunay_paths.proofs.plane_edits.Legalization.Flipping.{joins_or_not}
-use Rattle.delaunay_paths.proofs.Releasing.{same_pair_or_not}
+use Rattle.delaunay_edit.specs.plane.Fraction.{Point, whole}
+use Rattle.delaunay_edit.specs.plane.Pairs.{Joins, IsSamePair, EachPairOnce, place}
+use Rattle.delaunay_edit.specs.plane.Plain.{Plain, Adds, AreNeighboursOn, Carries, IsHalf, IsPlain}
+use Rattle.delaunay_edit.specs.plane.Plain.{Releases, TakesOut, points_of}
+use Rattle.delaunay_edit.proofs.plane.Indexes.{pair_turned, same_joined}
+use Rattle.delaunay_edit.proofs.plane_theorems.Tiling.Edges.{turned_within}
+use Rattle.delaunay_edit.proofs.plane_theorems.Edits.Legalization.Flipping.{joins_or_not}
+use Rattle.delaunay_edit.proofs.Releasing.{same_pair_or_not}
 use Rattle.delaunay_edit.specs.Counting.{EndsAt, HasPairs}
 use Rattle.delaunay_edit.proofs.PairCounts.{same_number, listed_pairs, one_more, both, renamed}
 

@@ -5,17 +5,17 @@ use Rattle.std.proofs.Common.{◌≡◌, ◌⊎◌, ◌<◌, []}
 use Rattle.std.proofs.Common.{ℕ, Bool, true, false, List, length, map, refl, sym, ap}
 use Rattle.std.proofs.Common.{subst, inl, inr}
 use Rattle.std.specs.Prelude.{Contains, Result, Ok}
-use Rattle.delaunay_paths.specs.half_edge_mesh.Contents.{Contents}
-use Rattle.delaunay_paths.specs.plane.Fraction.{Point}
-use Rattle.delaunay_paths.specs.plane.Pairs.{SamePairs}
-use Rattle.delaunay_paths.specs.plane.Plain.{Adds, AreNeighboursOn, CanAdd}
-use Rattle.delaunay_paths.specs.plane_segments.Constraints.{AreNextOn}
-use Rattle.delaunay_paths.specs.delaunay_legalization.declared.cdt_edge.CdtEdge.{CdtEdge}
-use Rattle.delaunay_paths.specs.delaunay_legalization.CdtEdge.{is_constraint, with_mark}
-use Rattle.delaunay_paths.specs.delaunay_legalization.State.{State, state_of}
-use Rattle.delaunay_paths.proofs.delaunay_legalization_lemmas.Questions.{both_ways}
-use Rattle.delaunay_paths.specs.PathEdges.{AreJoinedAlong, HasPath}
-use Rattle.delaunay_paths.specs.Releasing.{AddsConstraints, ReleasesEdge}
+use Rattle.delaunay_edit.specs.half_edge_dcel.Contents.{Contents}
+use Rattle.delaunay_edit.specs.plane.Fraction.{Point}
+use Rattle.delaunay_edit.specs.plane.Pairs.{SamePairs}
+use Rattle.delaunay_edit.specs.plane.Plain.{Adds, AreNeighboursOn, CanAdd}
+use Rattle.delaunay_edit.specs.plane_theorems.Segments.Constraints.{AreNextOn}
+use Rattle.delaunay_edit.specs.delaunay_legalization.declared.cdt_edge.CdtEdge.{CdtEdge}
+use Rattle.delaunay_edit.specs.delaunay_legalization.CdtEdge.{is_constraint, with_mark}
+use Rattle.delaunay_edit.specs.delaunay_legalization.State.{State, state_of}
+use Rattle.delaunay_edit.proofs.delaunay_legalization_lemmas.Questions.{both_ways}
+use Rattle.delaunay_edit.specs.PathEdges.{AreJoinedAlong, HasPath}
+use Rattle.delaunay_edit.specs.Releasing.{AddsConstraints, ReleasesEdge}
 use Rattle.delaunay_edit.specs.Constrained.{constrained, constraint_edges, constraints_of}
 use Rattle.delaunay_edit.specs.ConstraintEdits.{AddsConstraint, AddsPathIfFree, FreesEdge}
 use Rattle.delaunay_edit.specs.ConstraintEdits.{MarksEdges, ReleasesConstraint}

@@ -2,16 +2,16 @@
 -- Lemmas: none_counted, put_in_free.
 use Rattle.std.proofs.Common.{◌≡◌, ◌∙◌, ℕ, Bool, List, [], map, sym, subst}
 use Rattle.std.proofs.lemmas.List.{length-map, nil_from_length}
-use Rattle.delaunay_paths.specs.plane.Fraction.{Point}
-use Rattle.delaunay_paths.specs.plane.Delaunay.{IsConstrainedDelaunay}
-use Rattle.delaunay_paths.proofs.plane_delaunay.Circles.Nearest.{circles_are_empty}
-use Rattle.delaunay_paths.specs.plane_edits.EmptyRound.{IsEmptyRound}
-use Rattle.delaunay_paths.specs.mesh_embedding.Drawn.{faces_of}
-use Rattle.delaunay_paths.specs.delaunay_legalization.Constraints.{marked_edges, constraints_by}
-use Rattle.delaunay_paths.specs.delaunay_legalization.Shape.{IsDelaunayTriangulation}
-use Rattle.delaunay_paths.specs.delaunay_legalization.State.{State, triangulation_of}
-use Rattle.delaunay_insertion.specs.Growth.{GainsVertex}
-use Rattle.delaunay_insertion.proofs.EmptyRound.{grown_is_empty}
+use Rattle.delaunay_edit.specs.plane.Fraction.{Point}
+use Rattle.delaunay_edit.specs.plane.Delaunay.{IsConstrainedDelaunay}
+use Rattle.delaunay_edit.proofs.plane_theorems.Delaunay.Circles.Nearest.{circles_are_empty}
+use Rattle.delaunay_edit.specs.plane_theorems.Edits.EmptyRound.{IsEmptyRound}
+use Rattle.delaunay_edit.specs.delaunay_legalization.Drawn.{faces_of}
+use Rattle.delaunay_edit.specs.delaunay_legalization.Constraints.{marked_edges, constraints_by}
+use Rattle.delaunay_edit.specs.delaunay_legalization.Shape.{IsDelaunayTriangulation}
+use Rattle.delaunay_edit.specs.delaunay_legalization.State.{State, triangulation_of}
+use Rattle.delaunay_vertices.specs.Growth.{GainsVertex}
+use Rattle.delaunay_vertices.proofs.EmptyRound.{grown_is_empty}
 use Rattle.delaunay_edit.specs.Counting.{IsCounted}
 use Rattle.delaunay_edit.proofs.Delaunay.{marked_constrained_delaunay}
 

@@ -7,35 +7,35 @@ use Rattle.std.proofs.Common.{ℕ, Bool, List, length, map, refl, sym, ap, subst
 use Rattle.std.specs.Prelude.{swap_remove}
 use Rattle.std.proofs.lemmas.Bool.Decides.{nat_tests}
 use Rattle.std.proofs.lemmas.List.{length-map}
-use Rattle.delaunay_paths.specs.half_edge_mesh.Contents.{Contents}
-use Rattle.delaunay_paths.specs.half_edge_mesh.Renames.{moved}
-use Rattle.delaunay_paths.proofs.half_edge_links.Removing.OpenSound.{length-swap_remove}
-use Rattle.delaunay_paths.specs.plane.Crossing.{Cross}
-use Rattle.delaunay_paths.specs.plane.Fraction.{Fraction, Point, WithinSegment, whole}
-use Rattle.delaunay_paths.specs.plane.Pairs.{Joins, place as at}
-use Rattle.delaunay_paths.specs.plane.Plain.{AreStraightHalves, IsPlain}
-use Rattle.delaunay_paths.specs.plane.Tiling.{Triangulation}
-use Rattle.delaunay_paths.proofs.plane.Indexes.{turned_join}
-use Rattle.delaunay_paths.specs.plane_tiling.Laws.{EdgesMeetAtVertices}
-use Rattle.delaunay_paths.proofs.plane_tiling.Locations.{no_edges_cross}
-use Rattle.delaunay_paths.specs.plane_segments.PathSteps.{CanBeJoined}
-use Rattle.delaunay_paths.proofs.plane_segments.Constraints.HalvesJoin.{straight_halves_join_after_removal}
-use Rattle.delaunay_paths.proofs.plane_segments.Constraints.Splits.{straight_halves_join}
-use Rattle.delaunay_paths.specs.mesh_embedding.Drawn.{edges_of, faces_of, outer_of}
-use Rattle.delaunay_paths.proofs.half_edge_links.Removing.ShrinkTriangles.{map-swap_remove}
-use Rattle.delaunay_paths.proofs.mesh_embedding.OwnEdges.{own_edges}
-use Rattle.delaunay_paths.specs.delaunay_legalization.Constraints.{constraints_by, marked_edges}
-use Rattle.delaunay_paths.specs.delaunay_legalization.Constraints.{points_and_constraints_by}
-use Rattle.delaunay_paths.specs.delaunay_legalization.Known.{point_at}
-use Rattle.delaunay_paths.specs.delaunay_legalization.Shape.{IsDelaunayTriangulation}
-use Rattle.delaunay_paths.specs.delaunay_legalization.Shape.{IsTriangulated}
-use Rattle.delaunay_paths.specs.delaunay_legalization.State.{State, state_of}
-use Rattle.delaunay_paths.proofs.delaunay_legalization_lemmas.ConstraintEdges.{constraints_are_edges}
-use Rattle.delaunay_paths.specs.Adding.{HasFreeWay}
-use Rattle.delaunay_paths.proofs.Walking.{in_map, placed_apart}
-use Rattle.delaunay_removal.specs.Pairs.{former_index}
-use Rattle.delaunay_removal.specs.Removal.{TakesVertexOut}
-use Rattle.delaunay_removal.proofs.Passing.{left_point}
+use Rattle.delaunay_edit.specs.half_edge_dcel.Contents.{Contents}
+use Rattle.delaunay_edit.specs.half_edge_links.Renames.{moved}
+use Rattle.delaunay_edit.proofs.half_edge_links_lemmas.Removing.OpenSound.{length-swap_remove}
+use Rattle.delaunay_edit.specs.plane.Crossing.{Cross}
+use Rattle.delaunay_edit.specs.plane.Fraction.{Fraction, Point, WithinSegment, whole}
+use Rattle.delaunay_edit.specs.plane.Pairs.{Joins, place as at}
+use Rattle.delaunay_edit.specs.plane.Plain.{AreStraightHalves, IsPlain}
+use Rattle.delaunay_edit.specs.plane.Tiling.{Triangulation}
+use Rattle.delaunay_edit.proofs.plane.Indexes.{turned_join}
+use Rattle.delaunay_edit.specs.plane_theorems.Tiling.Laws.{EdgesMeetAtVertices}
+use Rattle.delaunay_edit.proofs.plane_theorems.Tiling.Locations.{no_edges_cross}
+use Rattle.delaunay_edit.specs.plane_theorems.Segments.PathSteps.{CanBeJoined}
+use Rattle.delaunay_edit.proofs.plane_theorems.Segments.Constraints.HalvesJoin.{straight_halves_join_after_removal}
+use Rattle.delaunay_edit.proofs.plane_theorems.Segments.Constraints.Splits.{straight_halves_join}
+use Rattle.delaunay_edit.specs.delaunay_legalization.Drawn.{edges_of, faces_of, outer_of}
+use Rattle.delaunay_edit.proofs.half_edge_links_lemmas.Removing.ShrinkTriangles.{map-swap_remove}
+use Rattle.delaunay_edit.proofs.delaunay_legalization_lemmas.OwnEdges.{own_edges}
+use Rattle.delaunay_edit.specs.delaunay_legalization.Constraints.{constraints_by, marked_edges}
+use Rattle.delaunay_edit.specs.delaunay_legalization.Constraints.{points_and_constraints_by}
+use Rattle.delaunay_edit.specs.delaunay_legalization.Known.{point_at}
+use Rattle.delaunay_edit.specs.delaunay_legalization.Shape.{IsDelaunayTriangulation}
+use Rattle.delaunay_edit.specs.delaunay_legalization.Shape.{IsTriangulated}
+use Rattle.delaunay_edit.specs.delaunay_legalization.State.{State, state_of}
+use Rattle.delaunay_edit.proofs.delaunay_legalization_lemmas.ConstraintEdges.{constraints_are_edges}
+use Rattle.delaunay_edit.specs.Adding.{HasFreeWay}
+use Rattle.delaunay_edit.proofs.Walking.{in_map, placed_apart}
+use Rattle.delaunay_vertices.specs.Pairs.{former_index}
+use Rattle.delaunay_vertices.specs.Removal.{TakesVertexOut}
+use Rattle.delaunay_vertices.proofs.Passing.{left_point}
 use Rattle.delaunay_edit.proofs.Constrained.{plain_with_edges}
 use Rattle.delaunay_edit.proofs.JoinedHalves.{former_of_new}
 

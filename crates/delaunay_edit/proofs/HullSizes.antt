@@ -6,25 +6,25 @@ use mathlib.Core.Logic.{◌≢◌}
 use Rattle.std.specs.Prelude.{ℤ, pos, ◌+ℤ◌, Contains, AllPairs}
 use Rattle.std.proofs.lemmas.Int.{ints}
 use Rattle.std.proofs.lemmas.List.{length-map}
-use Rattle.delaunay_paths.specs.half_edge_mesh.Mesh.{Mesh, IsValidMesh}
-use Rattle.delaunay_paths.specs.plane.Fraction.{Point}
-use Rattle.delaunay_paths.specs.plane.Tiling.{Face, IsEdge, HasFace}
-use Rattle.delaunay_paths.specs.plane.Location.{IsOuter}
-use Rattle.delaunay_paths.specs.plane_tiling.Local.{total, IsMesh, AreEdgesOf}
-use Rattle.delaunay_paths.proofs.plane_tiling.Totals.{total-sum}
-use Rattle.delaunay_paths.proofs.plane_tiling.Rising.{total_ones}
-use Rattle.delaunay_paths.proofs.plane_tiling.Counts.{hull_edges_count, line_edges_count}
-use Rattle.delaunay_paths.proofs.plane_tiling.Loops as L
-use Rattle.delaunay_paths.specs.mesh_embedding.Drawn.{faces_of, edges_of, outer_of}
-use Rattle.delaunay_paths.proofs.mesh_embedding.OwnEdges.{own_edges}
-use Rattle.delaunay_paths.proofs.mesh_embedding.OuterEdges.{real}
-use Rattle.delaunay_paths.specs.delaunay_legalization.State.{State, triangulation_of}
-use Rattle.delaunay_paths.specs.delaunay_legalization.Shape.{IsTriangulated}
+use Rattle.delaunay_edit.specs.half_edge_links.Mesh.{Mesh, IsValidMesh}
+use Rattle.delaunay_edit.specs.plane.Fraction.{Point}
+use Rattle.delaunay_edit.specs.plane.Tiling.{Face, IsEdge, HasFace}
+use Rattle.delaunay_edit.specs.plane.Location.{IsOuter}
+use Rattle.delaunay_edit.specs.plane_theorems.Tiling.Local.{total, IsMesh, AreEdgesOf}
+use Rattle.delaunay_edit.proofs.plane_theorems.Tiling.Totals.{total-sum}
+use Rattle.delaunay_edit.proofs.plane_theorems.Tiling.Rising.{total_ones}
+use Rattle.delaunay_edit.proofs.plane_theorems.Tiling.Counts.{hull_edges_count, line_edges_count}
+use Rattle.delaunay_edit.proofs.plane_theorems.Tiling.Loops as L
+use Rattle.delaunay_edit.specs.delaunay_legalization.Drawn.{faces_of, edges_of, outer_of}
+use Rattle.delaunay_edit.proofs.delaunay_legalization_lemmas.OwnEdges.{own_edges}
+use Rattle.delaunay_edit.proofs.delaunay_legalization_lemmas.OuterEdges.{real}
+use Rattle.delaunay_edit.specs.delaunay_legalization.State.{State, triangulation_of}
+use Rattle.delaunay_edit.specs.delaunay_legalization.Shape.{IsTriangulated}
 use Rattle.delaunay_edit.specs.Hull.{CountsHullEdges, HasHullSize}
 use Rattle.delaunay_edit.proofs.Counts.{count_of_edges, count_of_faces}
 use Rattle.delaunay_edit.proofs.Edges.{edge_joins}
-use Rattle.delaunay_paths.proofs.delaunay_legalization_lemmas.MeshParts.{outer_bare}
-use Rattle.delaunay_paths.proofs.half_edge_dcel.Outlines.{empty_list}
+use Rattle.delaunay_edit.proofs.delaunay_legalization_lemmas.MeshParts.{outer_bare}
+use Rattle.delaunay_edit.proofs.half_edge_dcel_lemmas.Outlines.{empty_list}
 
 each_once : (points : List Point) (faces : List Face) (outer : List (ℕ × ℕ))
     → IsMesh points faces outer → AllPairs (λ d e. d ≢ e) outer

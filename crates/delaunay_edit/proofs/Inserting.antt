@@ -6,32 +6,32 @@ use Rattle.std.proofs.Common.{slice_set, Result, Ok, Err}
 use Rattle.std.specs.Prelude.{◌↔◌, IsErrOf, IsOk}
 use Rattle.std.proofs.lemmas.Bool.{false≢true}
 use Rattle.std.proofs.lemmas.List.{length-map}
-use Rattle.delaunay_paths.specs.half_edge_links.declared.room.TheConstants.{MAX_ELEMENTS}
-use Rattle.delaunay_paths.specs.half_edge_mesh.Contents.{Contents, edges}
-use Rattle.delaunay_paths.specs.plane.Fraction.{Point}
-use Rattle.delaunay_paths.specs.plane.Pairs.{Joins}
-use Rattle.delaunay_paths.specs.plane.Plain.{Replaces}
-use Rattle.delaunay_paths.specs.plane.Tests.{InRange}
-use Rattle.delaunay_paths.specs.delaunay_core.declared.math.InsertionError.{InsertionError}
-use Rattle.delaunay_paths.specs.delaunay_core.declared.math.InsertionError.TheVariants.{TooLarge}
-use Rattle.delaunay_paths.specs.delaunay_core.declared.math.InsertionError.TheVariants.{OutOfIndexes}
-use Rattle.delaunay_paths.specs.delaunay_legalization.Constraints.{marked_edges}
-use Rattle.delaunay_paths.specs.delaunay_legalization.Constraints.{points_and_constraints_by}
-use Rattle.delaunay_paths.specs.delaunay_legalization.Known.{IsKnown, point_at}
-use Rattle.delaunay_paths.specs.delaunay_legalization.Legalized.{Legalizes}
-use Rattle.delaunay_paths.specs.delaunay_legalization.Shape.{IsTriangulated}
-use Rattle.delaunay_paths.specs.delaunay_legalization.State.{State, state_of}
-use Rattle.delaunay_paths.specs.delaunay_location.declared.position_in_triangulation.PositionInTriangulation.{PositionInTriangulation}
+use Rattle.delaunay_edit.specs.half_edge_links.declared.room.TheConstants.{MAX_ELEMENTS}
+use Rattle.delaunay_edit.specs.half_edge_dcel.Contents.{Contents, edges}
+use Rattle.delaunay_edit.specs.plane.Fraction.{Point}
+use Rattle.delaunay_edit.specs.plane.Pairs.{Joins}
+use Rattle.delaunay_edit.specs.plane.Plain.{Replaces}
+use Rattle.delaunay_edit.specs.plane.Tests.{InRange}
+use Rattle.delaunay_edit.specs.delaunay_core.declared.math.InsertionError.{InsertionError}
+use Rattle.delaunay_edit.specs.delaunay_core.declared.math.InsertionError.TheVariants.{TooLarge}
+use Rattle.delaunay_edit.specs.delaunay_core.declared.math.InsertionError.TheVariants.{OutOfIndexes}
+use Rattle.delaunay_edit.specs.delaunay_legalization.Constraints.{marked_edges}
+use Rattle.delaunay_edit.specs.delaunay_legalization.Constraints.{points_and_constraints_by}
+use Rattle.delaunay_edit.specs.delaunay_legalization.Known.{IsKnown, point_at}
+use Rattle.delaunay_edit.specs.delaunay_legalization.Legalized.{Legalizes}
+use Rattle.delaunay_edit.specs.delaunay_legalization.Shape.{IsTriangulated}
+use Rattle.delaunay_edit.specs.delaunay_legalization.State.{State, state_of}
+use Rattle.delaunay_edit.specs.delaunay_location.declared.position_in_triangulation.PositionInTriangulation.{PositionInTriangulation}
 use Rattle.delaunay_edit.specs.Counting.{IsOnConstraint, IsSplitCount}
 use Rattle.delaunay_edit.specs.Edits.{AppendsVertex, InsertsVertex}
 use Rattle.delaunay_edit.specs.Location.{IsApart, Locates}
 use Rattle.delaunay_edit.proofs.CountingSplits.{counted_split}
-use Rattle.delaunay_insertion.specs.Constraints.{SplitsConstraints}
-use Rattle.delaunay_insertion.specs.Edges.{AddsOnly}
-use Rattle.delaunay_insertion.specs.Growth.{GainsVertex}
-use Rattle.delaunay_insertion.proofs.Appending.{inserted}
-use Rattle.delaunay_insertion.proofs.DataKept.{appended_keeps, overwritten_keeps}
-use Rattle.delaunay_insertion.proofs.SplitConstraints.{adding_splits_none}
+use Rattle.delaunay_vertices.specs.Constraints.{SplitsConstraints}
+use Rattle.delaunay_vertices.specs.Edges.{AddsOnly}
+use Rattle.delaunay_vertices.specs.Growth.{GainsVertex}
+use Rattle.delaunay_vertices.proofs.Appending.{inserted}
+use Rattle.delaunay_vertices.proofs.DataKept.{appended_keeps, overwritten_keeps}
+use Rattle.delaunay_vertices.proofs.SplitConstraints.{adding_splits_none}
 
 ok_is_no_error : {T E : Type 0} (i : T) (e : E) → ¬ (Ok i ≡ Err e)
 ok_is_no_error i e h = cc

@@ -8,16 +8,16 @@ use Rattle.std.proofs.Common.{inl, inr, arith}
 use Rattle.std.specs.Bool.{then_some}
 use Rattle.std.specs.Prelude.{IsTrue}
 use Rattle.std.proofs.lemmas.Bool.Decides.{nat_tests}
-use Rattle.delaunay_paths.specs.plane.Fraction.{Point, WithinSegment}
-use Rattle.delaunay_paths.specs.plane.Pairs.{IsSamePair, Joins, place}
-use Rattle.delaunay_paths.specs.plane.Plain.{AreStraightHalves, IsPlain, Plain, Removes, TakesOut}
-use Rattle.delaunay_paths.specs.plane.Plain.{points_of}
-use Rattle.delaunay_paths.proofs.plane.Indexes.{at_most_last, one_more_than_last}
-use Rattle.delaunay_paths.specs.plane_edits.Removal.{new_index}
-use Rattle.delaunay_paths.proofs.plane_edits.Removal.Renumbering.{new_below}
-use Rattle.delaunay_paths.proofs.plane_tiling.Edges.{turned_within}
-use Rattle.delaunay_removal.specs.Pairs.{former_index}
-use Rattle.delaunay_paths.proofs.delaunay_legalization_lemmas.Questions.{both_ways}
+use Rattle.delaunay_edit.specs.plane.Fraction.{Point, WithinSegment}
+use Rattle.delaunay_edit.specs.plane.Pairs.{IsSamePair, Joins, place}
+use Rattle.delaunay_edit.specs.plane.Plain.{AreStraightHalves, IsPlain, Plain, Removes, TakesOut}
+use Rattle.delaunay_edit.specs.plane.Plain.{points_of}
+use Rattle.delaunay_edit.proofs.plane.Indexes.{at_most_last, one_more_than_last}
+use Rattle.delaunay_edit.specs.plane_theorems.Edits.Removal.{new_index}
+use Rattle.delaunay_edit.proofs.plane_theorems.Edits.Removal.Renumbering.{new_below}
+use Rattle.delaunay_edit.proofs.plane_theorems.Tiling.Edges.{turned_within}
+use Rattle.delaunay_vertices.specs.Pairs.{former_index}
+use Rattle.delaunay_edit.proofs.delaunay_legalization_lemmas.Questions.{both_ways}
 use Rattle.delaunay_edit.specs.Halves.{AreHalvesAt, AreOnlyEnds}
 
 -- the former index of a vertex other than v, by the one that it has when v has gone, and back

@@ -6,33 +6,33 @@ use Rattle.std.proofs.Common.{ℕ, Bool, List, length, map, get_or, Some, None}
 use Rattle.std.proofs.Common.{sym, ap, subst, inl, inr, arith}
 use Rattle.std.specs.Prelude.{true, false, slice_get}
 use Rattle.std.proofs.lemmas.Option.{slice_get_cases}
-use Rattle.delaunay_paths.specs.half_edge_mesh.Contents.{Contents}
-use Rattle.delaunay_paths.specs.half_edge_mesh.Mesh.{origin, rev}
-use Rattle.delaunay_paths.specs.half_edge_mesh.Renames.{moved}
-use Rattle.delaunay_paths.specs.half_edge_mesh.Triangles.{Triangle, triangles}
-use Rattle.delaunay_paths.specs.plane.Crossing.{Cross}
-use Rattle.delaunay_paths.specs.plane.Fraction.{Point}
-use Rattle.delaunay_paths.specs.plane.Pairs.{IsSamePair, Joins, place as at}
-use Rattle.delaunay_paths.specs.plane.Plain.{AreStraightHalves}
-use Rattle.delaunay_paths.proofs.plane.Indexes.{turned_join}
-use Rattle.delaunay_paths.specs.plane_edits.Change.{IsFaceOf}
-use Rattle.delaunay_paths.proofs.plane_edits.Removal.Renumbering.{new_apart}
-use Rattle.delaunay_paths.specs.mesh_embedding.Drawn.{edges_of, faces_of}
-use Rattle.delaunay_paths.proofs.mesh_embedding.EdgePairs.{edge_joins as joins_ends}
-use Rattle.delaunay_paths.proofs.mesh_embedding.FaceChanges.{turned_faces}
-use Rattle.delaunay_paths.proofs.mesh_embedding.MeshStays.{face_there}
-use Rattle.delaunay_paths.proofs.mesh_embedding.MeshStars.{edge_of_face}
-use Rattle.delaunay_paths.specs.delaunay_legalization.Constraints.{marked_edges, not_both}
-use Rattle.delaunay_paths.specs.delaunay_legalization.Constraints.{points_and_constraints_by}
-use Rattle.delaunay_paths.specs.delaunay_legalization.Shape.{IsDelaunayTriangulation}
-use Rattle.delaunay_paths.specs.delaunay_legalization.State.{State, state_of}
-use Rattle.delaunay_paths.proofs.delaunay_legalization_lemmas.Constraints.{fixed_edge_is}
-use Rattle.delaunay_paths.proofs.delaunay_legalization_lemmas.Constraints.{is_constraint_edge}
-use Rattle.delaunay_paths.specs.Adding.{AddsPath}
-use Rattle.delaunay_paths.proofs.JoinedPairs.{edge_joins}
-use Rattle.delaunay_removal.specs.Data.{HasDataOfEdge, HasDataOfFace, KeepsDataBeside}
-use Rattle.delaunay_removal.specs.Data.{renumbered_corners}
-use Rattle.delaunay_removal.specs.Removal.{TakesVertexOut}
+use Rattle.delaunay_edit.specs.half_edge_dcel.Contents.{Contents}
+use Rattle.delaunay_edit.specs.half_edge_links.Mesh.{origin, rev}
+use Rattle.delaunay_edit.specs.half_edge_links.Renames.{moved}
+use Rattle.delaunay_edit.specs.half_edge_links.Triangles.{Triangle, triangles}
+use Rattle.delaunay_edit.specs.plane.Crossing.{Cross}
+use Rattle.delaunay_edit.specs.plane.Fraction.{Point}
+use Rattle.delaunay_edit.specs.plane.Pairs.{IsSamePair, Joins, place as at}
+use Rattle.delaunay_edit.specs.plane.Plain.{AreStraightHalves}
+use Rattle.delaunay_edit.proofs.plane.Indexes.{turned_join}
+use Rattle.delaunay_edit.specs.plane_theorems.Edits.Change.{IsFaceOf}
+use Rattle.delaunay_edit.proofs.plane_theorems.Edits.Removal.Renumbering.{new_apart}
+use Rattle.delaunay_edit.specs.delaunay_legalization.Drawn.{edges_of, faces_of}
+use Rattle.delaunay_edit.proofs.delaunay_legalization_lemmas.EdgePairs.{edge_joins as joins_ends}
+use Rattle.delaunay_edit.proofs.delaunay_legalization_lemmas.FaceChanges.{turned_faces}
+use Rattle.delaunay_edit.proofs.delaunay_legalization_lemmas.MeshStays.{face_there}
+use Rattle.delaunay_edit.proofs.delaunay_legalization_lemmas.MeshStars.{edge_of_face}
+use Rattle.delaunay_edit.specs.delaunay_legalization.Constraints.{marked_edges, not_both}
+use Rattle.delaunay_edit.specs.delaunay_legalization.Constraints.{points_and_constraints_by}
+use Rattle.delaunay_edit.specs.delaunay_legalization.Shape.{IsDelaunayTriangulation}
+use Rattle.delaunay_edit.specs.delaunay_legalization.State.{State, state_of}
+use Rattle.delaunay_edit.proofs.delaunay_legalization_lemmas.Constraints.{fixed_edge_is}
+use Rattle.delaunay_edit.proofs.delaunay_legalization_lemmas.Constraints.{is_constraint_edge}
+use Rattle.delaunay_edit.specs.Adding.{AddsPath}
+use Rattle.delaunay_edit.proofs.JoinedPairs.{edge_joins}
+use Rattle.delaunay_vertices.specs.RemovalData.{HasDataOfEdge, HasDataOfFace, KeepsDataBeside}
+use Rattle.delaunay_vertices.specs.RemovalData.{renumbered_corners}
+use Rattle.delaunay_vertices.specs.Removal.{TakesVertexOut}
 use Rattle.delaunay_edit.proofs.FarEnds.{can_join, none_crosses, not_joined, plain_before}
 
 module _ {V D U F : Type 0} (place : V → Point) (marks : U → Bool) (mark : U → U)

@@ -1,17 +1,38 @@
-pub use Rattle.delaunay_paths.proofs.plane as plane
-pub use Rattle.delaunay_paths.proofs.plane_tiling as plane_tiling
-pub use Rattle.delaunay_paths.proofs.plane_edits as plane_edits
-pub use Rattle.delaunay_paths.proofs.plane_delaunay as plane_delaunay
-pub use Rattle.delaunay_paths.proofs.plane_segments as plane_segments
-pub use Rattle.delaunay_paths.proofs.half_edge_links as half_edge_links
-pub use Rattle.delaunay_paths.proofs.half_edge_views as half_edge_views
-pub use Rattle.delaunay_paths.proofs.delaunay_core_lemmas as delaunay_core_lemmas
-pub use Rattle.delaunay_paths.proofs.mesh_embedding as mesh_embedding
-pub use Rattle.delaunay_paths.proofs.delaunay_legalization_lemmas as delaunay_legalization_lemmas
-pub use Rattle.delaunay_paths.proofs.delaunay_location_lemmas as delaunay_location_lemmas
-pub use Rattle.delaunay_paths.proofs as delaunay_paths_lemmas
-pub use Rattle.delaunay_insertion.proofs as delaunay_insertion_lemmas
-pub use Rattle.delaunay_removal.proofs as delaunay_removal_lemmas
+pub use Rattle.delaunay_location.proofs.plane as plane
+pub use Rattle.delaunay_location.proofs.plane_theorems as plane_theorems
+pub use Rattle.delaunay_location.proofs.half_edge_links_lemmas as half_edge_links_lemmas
+pub use Rattle.delaunay_location.proofs.half_edge_dcel_lemmas as half_edge_dcel_lemmas
+pub use Rattle.delaunay_location.proofs.delaunay_core_lemmas as delaunay_core_lemmas
+pub use Rattle.delaunay_location.proofs.delaunay_legalization_lemmas as delaunay_legalization_lemmas
+pub use Rattle.delaunay_location.proofs as delaunay_location_lemmas
+pub use Rattle.delaunay_vertices.proofs as delaunay_vertices_lemmas
+-- What answers to tests say of points.
+pub mod Places
+pub mod Walking
+-- The edges that cross a segment, listed.
+pub mod MetEdges
+pub mod Beginning
+pub mod Listing
+pub mod CrossingList
+pub mod MovedEdges
+pub mod Seeking
+-- Edges are turned towards a segment until none crosses it.
+pub mod Towards
+pub mod OneTurn
+pub mod Making
+pub mod LeftToTest
+-- The pieces of a path, one after another.
+pub mod Passing
+pub mod NextVertex
+pub mod AddingPieces
+pub mod OnePiece
+pub mod InTheWay
+pub mod PassedVertices
+pub mod ListingPath
+-- Marks, and constraints that are released.
+pub mod Marks
+pub mod JoinedPairs
+pub mod Releasing
 -- What each triangulation keeps, and what callers learn of it.
 pub mod WellFormed
 pub mod Delaunay

@@ -5,32 +5,32 @@ use Rattle.std.proofs.Common.{◌≡◌, ◌≢◌, ◌↔◌, ◌/◌, ◌<◌,
 use Rattle.std.proofs.Common.{ℕ, Bool, false, List, length, map}
 use Rattle.std.proofs.Common.{refl, sym, subst, subst₂, inl, inr, arith}
 use Rattle.std.specs.Prelude.{Contains, Ok}
-use Rattle.delaunay_paths.specs.half_edge_mesh.Mesh.{Mesh, origin, rev}
-use Rattle.delaunay_paths.specs.half_edge_mesh.Contents.{Contents}
-use Rattle.delaunay_paths.specs.plane.Fraction.{Point}
-use Rattle.delaunay_paths.specs.plane.Pairs.{IsSamePair, Joins, place as point_place}
-use Rattle.delaunay_paths.proofs.plane.Indexes.{same_joined}
-use Rattle.delaunay_paths.proofs.plane.Meetings.{cross_at_point}
-use Rattle.delaunay_paths.proofs.plane.Segments.{same-refl}
-use Rattle.delaunay_paths.proofs.plane_edits.Legalization.Flipping.{joins_or_not}
-use Rattle.delaunay_paths.specs.plane_segments.Constraints.{ArePlacedApart}
-use Rattle.delaunay_paths.proofs.plane_segments.Constraints.Pieces.{path_ends}
-use Rattle.delaunay_paths.proofs.plane_tiling.Locations.{no_edges_cross}
-use Rattle.delaunay_paths.proofs.plane_tiling.Totals.{Contains-head}
-use Rattle.delaunay_paths.specs.mesh_embedding.Drawn.{edges_of, faces_of, outer_of}
-use Rattle.delaunay_paths.proofs.mesh_embedding.EdgePairs.{no_joins}
-use Rattle.delaunay_paths.proofs.mesh_embedding.OwnEdges.{own_edges}
-use Rattle.delaunay_paths.specs.delaunay_legalization.declared.cdt_edge.CdtEdge.{CdtEdge}
-use Rattle.delaunay_paths.specs.delaunay_legalization.CdtEdge.{is_constraint}
-use Rattle.delaunay_paths.specs.delaunay_legalization.Shape.{IsTriangulated}
-use Rattle.delaunay_paths.specs.delaunay_legalization.State.{State, state_of}
-use Rattle.delaunay_paths.proofs.delaunay_legalization_lemmas.ConstraintEdges.{constraints_are_edges}
-use Rattle.delaunay_paths.specs.Adding.{NoneCrosses}
-use Rattle.delaunay_paths.specs.PathEdges.{AreJoinedAlong, LeadAlong}
-use Rattle.delaunay_paths.proofs.JoinedPairs.{edge_joins}
-use Rattle.delaunay_paths.proofs.OnePiece.{edge_is_free, edge_is_next, ends_apart, first_in}
-use Rattle.delaunay_paths.proofs.OnePiece.{one_piece, second_in}
-use Rattle.delaunay_paths.proofs.Walking.{in_map, placed_apart}
+use Rattle.delaunay_edit.specs.half_edge_links.Mesh.{Mesh, origin, rev}
+use Rattle.delaunay_edit.specs.half_edge_dcel.Contents.{Contents}
+use Rattle.delaunay_edit.specs.plane.Fraction.{Point}
+use Rattle.delaunay_edit.specs.plane.Pairs.{IsSamePair, Joins, place as point_place}
+use Rattle.delaunay_edit.proofs.plane.Indexes.{same_joined}
+use Rattle.delaunay_edit.proofs.plane.Meetings.{cross_at_point}
+use Rattle.delaunay_edit.proofs.plane.Segments.{same-refl}
+use Rattle.delaunay_edit.proofs.plane_theorems.Edits.Legalization.Flipping.{joins_or_not}
+use Rattle.delaunay_edit.specs.plane_theorems.Segments.Constraints.{ArePlacedApart}
+use Rattle.delaunay_edit.proofs.plane_theorems.Segments.Constraints.Pieces.{path_ends}
+use Rattle.delaunay_edit.proofs.plane_theorems.Tiling.Locations.{no_edges_cross}
+use Rattle.delaunay_edit.proofs.plane_theorems.Tiling.Totals.{Contains-head}
+use Rattle.delaunay_edit.specs.delaunay_legalization.Drawn.{edges_of, faces_of, outer_of}
+use Rattle.delaunay_edit.proofs.delaunay_legalization_lemmas.EdgePairs.{no_joins}
+use Rattle.delaunay_edit.proofs.delaunay_legalization_lemmas.OwnEdges.{own_edges}
+use Rattle.delaunay_edit.specs.delaunay_legalization.declared.cdt_edge.CdtEdge.{CdtEdge}
+use Rattle.delaunay_edit.specs.delaunay_legalization.CdtEdge.{is_constraint}
+use Rattle.delaunay_edit.specs.delaunay_legalization.Shape.{IsTriangulated}
+use Rattle.delaunay_edit.specs.delaunay_legalization.State.{State, state_of}
+use Rattle.delaunay_edit.proofs.delaunay_legalization_lemmas.ConstraintEdges.{constraints_are_edges}
+use Rattle.delaunay_edit.specs.Adding.{NoneCrosses}
+use Rattle.delaunay_edit.specs.PathEdges.{AreJoinedAlong, LeadAlong}
+use Rattle.delaunay_edit.proofs.JoinedPairs.{edge_joins}
+use Rattle.delaunay_edit.proofs.OnePiece.{edge_is_free, edge_is_next, ends_apart, first_in}
+use Rattle.delaunay_edit.proofs.OnePiece.{one_piece, second_in}
+use Rattle.delaunay_edit.proofs.Walking.{in_map, placed_apart}
 use Rattle.delaunay_edit.specs.Constrained.{constraint_edges, constraints_of}
 use Rattle.delaunay_edit.specs.ConstraintEdits.{AddsConstraint, AddsPathIfFree}
 use Rattle.delaunay_edit.specs.Counting.{HasPairs, IsMissing}

@@ -3,14 +3,14 @@
 use Rattle.std.proofs.Common.{◌≡◌}
 use Rattle.std.proofs.Common.{ℕ, zero, suc, List, length, refl, sym, subst, map, length-set}
 use Rattle.std.proofs.Common.{slice_set}
-use Rattle.delaunay_paths.specs.half_edge_mesh.Contents.{Contents}
-use Rattle.delaunay_paths.specs.half_edge_mesh.Writing.{with_face}
-use Rattle.delaunay_paths.specs.plane.Fraction.{Point}
-use Rattle.delaunay_paths.specs.plane.Delaunay.{IsLocallyDelaunay}
-use Rattle.delaunay_paths.specs.mesh_embedding.Drawn.{drawn}
-use Rattle.delaunay_paths.specs.mesh_embedding.Legal.{pairs_at}
-use Rattle.delaunay_paths.specs.delaunay_legalization.Shape.{IsDelaunayTriangulation}
-use Rattle.delaunay_paths.specs.delaunay_legalization.State.{State, state_of}
+use Rattle.delaunay_edit.specs.half_edge_dcel.Contents.{Contents}
+use Rattle.delaunay_edit.specs.half_edge_dcel.Writing.{with_face}
+use Rattle.delaunay_edit.specs.plane.Fraction.{Point}
+use Rattle.delaunay_edit.specs.plane.Delaunay.{IsLocallyDelaunay}
+use Rattle.delaunay_edit.specs.delaunay_legalization.Drawn.{drawn}
+use Rattle.delaunay_edit.specs.delaunay_legalization.Legal.{pairs_at}
+use Rattle.delaunay_edit.specs.delaunay_legalization.Shape.{IsDelaunayTriangulation}
+use Rattle.delaunay_edit.specs.delaunay_legalization.State.{State, state_of}
 use Rattle.delaunay_edit.specs.Counting.{IsCounted}
 use Rattle.delaunay_edit.specs.Writing.{with_face_data}
 

@@ -6,20 +6,20 @@ use Rattle.std.proofs.Common.{ℕ, List, length, Some, None, sym, ap, subst, inl
 use Rattle.std.specs.Prelude.{Bool, Contains}
 use Rattle.std.proofs.lemmas.Bool.{cases_eq}
 use Rattle.std.specs.Borrow.{Bor}
-use Rattle.delaunay_paths.specs.half_edge_mesh.Mesh.{origin, rev}
-use Rattle.delaunay_paths.specs.half_edge_mesh.Contents.{Contents}
-use Rattle.delaunay_paths.specs.half_edge_mesh.Rounds.{GivesRound}
-use Rattle.delaunay_paths.specs.plane.Fraction.{Point}
-use Rattle.delaunay_paths.specs.plane.Pairs.{Joins}
-use Rattle.delaunay_paths.proofs.plane_tiling.Totals.{Contains-cases, Contains-none}
-use Rattle.delaunay_paths.specs.delaunay_legalization.Constraints.{marked_edges, constraints_by}
-use Rattle.delaunay_paths.specs.delaunay_legalization.Shape.{IsTriangulated}
-use Rattle.delaunay_paths.specs.delaunay_legalization.State.{state_of}
-use Rattle.delaunay_paths.proofs.delaunay_legalization_lemmas.ConstraintEdges.{constraints_are_edges}
-use Rattle.delaunay_paths.proofs.delaunay_legalization_lemmas.Rounds.{IsLeftOfRound, IsWholeRound}
-use Rattle.delaunay_paths.proofs.delaunay_legalization_lemmas.Rounds.{whole_round, one_less_left}
-use Rattle.delaunay_paths.proofs.delaunay_legalization_lemmas.Rounds.{next_left, none_is_left}
-use Rattle.delaunay_paths.proofs.JoinedPairs.{edge_joins}
+use Rattle.delaunay_edit.specs.half_edge_links.Mesh.{origin, rev}
+use Rattle.delaunay_edit.specs.half_edge_dcel.Contents.{Contents}
+use Rattle.delaunay_edit.specs.half_edge_dcel.Rounds.{GivesRound}
+use Rattle.delaunay_edit.specs.plane.Fraction.{Point}
+use Rattle.delaunay_edit.specs.plane.Pairs.{Joins}
+use Rattle.delaunay_edit.proofs.plane_theorems.Tiling.Totals.{Contains-cases, Contains-none}
+use Rattle.delaunay_edit.specs.delaunay_legalization.Constraints.{marked_edges, constraints_by}
+use Rattle.delaunay_edit.specs.delaunay_legalization.Shape.{IsTriangulated}
+use Rattle.delaunay_edit.specs.delaunay_legalization.State.{state_of}
+use Rattle.delaunay_edit.proofs.delaunay_legalization_lemmas.ConstraintEdges.{constraints_are_edges}
+use Rattle.delaunay_edit.proofs.delaunay_legalization_lemmas.Rounds.{IsLeftOfRound, IsWholeRound}
+use Rattle.delaunay_edit.proofs.delaunay_legalization_lemmas.Rounds.{whole_round, one_less_left}
+use Rattle.delaunay_edit.proofs.delaunay_legalization_lemmas.Rounds.{next_left, none_is_left}
+use Rattle.delaunay_edit.proofs.JoinedPairs.{edge_joins}
 use Rattle.delaunay_edit.specs.Halves.{AreTwoEnds, IsEndBeside, LeadsBeside}
 use Rattle.delaunay_edit.proofs.Edges.{joins_edge}
 

@@ -5,25 +5,25 @@ use Rattle.std.proofs.Common.{◌≡◌, ◌⊎◌, ◌↔◌, ◌+◌, ◌-◌,
 use Rattle.std.proofs.Common.{ℕ, Bool, List, length, map, Option, Some, None}
 use Rattle.std.proofs.Common.{refl, sym, ap, subst, inl, inr, arith}
 use Rattle.std.specs.Prelude.{IfSome, true}
-use Rattle.delaunay_paths.specs.half_edge_mesh.Contents.{Contents}
-use Rattle.delaunay_paths.specs.half_edge_mesh.Renames.{moved}
-use Rattle.delaunay_paths.specs.plane.Fraction.{Point}
-use Rattle.delaunay_paths.specs.plane.Pairs.{EachPairOnce, IsSamePair, Joins}
-use Rattle.delaunay_paths.specs.plane.Plain.{AreStraightHalves, Plain, Removes}
-use Rattle.delaunay_paths.proofs.plane.Indexes.{same_joined, turned_join}
-use Rattle.delaunay_paths.specs.plane_edits.Legal.{AllPassBut}
-use Rattle.delaunay_paths.specs.mesh_embedding.Drawn.{faces_of}
-use Rattle.delaunay_paths.specs.mesh_embedding.Stays.{KeepsIndexes}
-use Rattle.delaunay_paths.specs.delaunay_legalization.Constraints.{constraints_by, marked_edges}
-use Rattle.delaunay_paths.specs.delaunay_legalization.Constraints.{points_and_constraints_by}
-use Rattle.delaunay_paths.specs.delaunay_legalization.Shape.{IsDelaunayTriangulation}
-use Rattle.delaunay_paths.specs.delaunay_legalization.State.{State, state_of}
-use Rattle.delaunay_paths.proofs.delaunay_legalization_lemmas.MarkedPairs.{mark_joins}
-use Rattle.delaunay_paths.specs.Adding.{AddsPath, HasFreeWay}
-use Rattle.delaunay_removal.specs.Data.{KeepsDataOfOthers}
-use Rattle.delaunay_removal.specs.Pairs.{pairs_left}
-use Rattle.delaunay_removal.specs.Removal.{TakesVertexOut}
-use Rattle.delaunay_removal.proofs.DataLegalized.{legalized_keeps_others}
+use Rattle.delaunay_edit.specs.half_edge_dcel.Contents.{Contents}
+use Rattle.delaunay_edit.specs.half_edge_links.Renames.{moved}
+use Rattle.delaunay_edit.specs.plane.Fraction.{Point}
+use Rattle.delaunay_edit.specs.plane.Pairs.{EachPairOnce, IsSamePair, Joins}
+use Rattle.delaunay_edit.specs.plane.Plain.{AreStraightHalves, Plain, Removes}
+use Rattle.delaunay_edit.proofs.plane.Indexes.{same_joined, turned_join}
+use Rattle.delaunay_edit.specs.plane_theorems.Edits.Legal.{AllPassBut}
+use Rattle.delaunay_edit.specs.delaunay_legalization.Drawn.{faces_of}
+use Rattle.delaunay_edit.specs.delaunay_legalization.Stays.{KeepsIndexes}
+use Rattle.delaunay_edit.specs.delaunay_legalization.Constraints.{constraints_by, marked_edges}
+use Rattle.delaunay_edit.specs.delaunay_legalization.Constraints.{points_and_constraints_by}
+use Rattle.delaunay_edit.specs.delaunay_legalization.Shape.{IsDelaunayTriangulation}
+use Rattle.delaunay_edit.specs.delaunay_legalization.State.{State, state_of}
+use Rattle.delaunay_edit.proofs.delaunay_legalization_lemmas.MarkedPairs.{mark_joins}
+use Rattle.delaunay_edit.specs.Adding.{AddsPath, HasFreeWay}
+use Rattle.delaunay_vertices.specs.RemovalData.{KeepsDataOfOthers}
+use Rattle.delaunay_vertices.specs.Pairs.{pairs_left}
+use Rattle.delaunay_vertices.specs.Removal.{TakesVertexOut}
+use Rattle.delaunay_vertices.proofs.DataLegalized.{legalized_keeps_others}
 use Rattle.delaunay_edit.specs.Counting.{EndsAt, HasPairs, IsCounted}
 use Rattle.delaunay_edit.specs.Halves.{AreHalvesAt, CanSettle, IsLoss, Settles}
 use Rattle.delaunay_edit.proofs.DifferentConstraints.{constraints_once}

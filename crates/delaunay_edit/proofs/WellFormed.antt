@@ -2,15 +2,15 @@
 -- Lemmas: is_delaunay, well_formed.
 use Rattle.std.proofs.Common.{◌≡◌, ◌≤◌, ℕ, Bool, List, length, map}
 use Rattle.std.proofs.lemmas.List.Elements.{All-map}
-use Rattle.delaunay_paths.specs.half_edge_links.declared.room.TheConstants.{MAX_ELEMENTS}
-use Rattle.delaunay_paths.specs.plane.Fraction.{Point}
-use Rattle.delaunay_paths.specs.plane.Tests.{InRange}
-use Rattle.delaunay_paths.specs.plane.Delaunay.{IsConstrainedDelaunay}
-use Rattle.delaunay_paths.proofs.plane_delaunay.Circles.History.{history_free}
-use Rattle.delaunay_paths.specs.delaunay_legalization.Constraints.{marked_edges, constraints_by}
-use Rattle.delaunay_paths.specs.delaunay_legalization.Shape.{IsDelaunayTriangulation}
-use Rattle.delaunay_paths.specs.delaunay_legalization.State.{State, triangulation_of}
-use Rattle.delaunay_paths.proofs.delaunay_legalization_lemmas.Shapes.{laid_out_tiles}
+use Rattle.delaunay_edit.specs.half_edge_links.declared.room.TheConstants.{MAX_ELEMENTS}
+use Rattle.delaunay_edit.specs.plane.Fraction.{Point}
+use Rattle.delaunay_edit.specs.plane.Tests.{InRange}
+use Rattle.delaunay_edit.specs.plane.Delaunay.{IsConstrainedDelaunay}
+use Rattle.delaunay_edit.proofs.plane_theorems.Delaunay.Circles.History.{history_free}
+use Rattle.delaunay_edit.specs.delaunay_legalization.Constraints.{marked_edges, constraints_by}
+use Rattle.delaunay_edit.specs.delaunay_legalization.Shape.{IsDelaunayTriangulation}
+use Rattle.delaunay_edit.specs.delaunay_legalization.State.{State, triangulation_of}
+use Rattle.delaunay_edit.proofs.delaunay_legalization_lemmas.Shapes.{laid_out_tiles}
 use Rattle.delaunay_edit.specs.Headline.{IsDelaunay, IsWellFormed}
 use Rattle.delaunay_edit.proofs.Constrained.{plain_with_edges}
 use Rattle.delaunay_edit.proofs.Delaunay.{marked_constrained_delaunay, empty_triple_is_face}

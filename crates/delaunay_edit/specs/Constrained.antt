@@ -1,11 +1,11 @@
 -- The constraints of a triangulation, which are the edges whose data say so.
 use Rattle.std.specs.Prelude.{◌≡◌, ℕ, false, List, []}
-use Rattle.delaunay_paths.specs.plane.Plain.{Plain}
-use Rattle.delaunay_paths.specs.delaunay_legalization.declared.cdt_edge.CdtEdge.{CdtEdge}
-use Rattle.delaunay_paths.specs.delaunay_legalization.CdtEdge.{is_constraint}
-use Rattle.delaunay_paths.specs.delaunay_legalization.Constraints.{marked_edges, constraints_by}
-use Rattle.delaunay_paths.specs.delaunay_legalization.Constraints.{points_and_constraints_by}
-use Rattle.delaunay_paths.specs.delaunay_legalization.State.{State}
+use Rattle.delaunay_edit.specs.plane.Plain.{Plain}
+use Rattle.delaunay_edit.specs.delaunay_legalization.declared.cdt_edge.CdtEdge.{CdtEdge}
+use Rattle.delaunay_edit.specs.delaunay_legalization.CdtEdge.{is_constraint}
+use Rattle.delaunay_edit.specs.delaunay_legalization.Constraints.{marked_edges, constraints_by}
+use Rattle.delaunay_edit.specs.delaunay_legalization.Constraints.{points_and_constraints_by}
+use Rattle.delaunay_edit.specs.delaunay_legalization.State.{State}
 
 -- no edge is a constraint
 abbrev pub none : {U : Type 0} → List U → List ℕ

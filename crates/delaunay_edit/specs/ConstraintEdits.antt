@@ -3,16 +3,16 @@ use Rattle.std.specs.Prelude.{◌≡◌, ◌≢◌, ◌⊎◌, ◌↔◌, ◌*�
 use Rattle.std.specs.Prelude.{ℕ, Bool, true, false, List, length, map, Some, Result}
 use Rattle.std.specs.Prelude.{Ok, Option, Contains, IsTrue, IfOk, OnOk, OnErr, slice_get, slice_set}
 use Rattle.std.specs.Prelude.{MatchOption, MatchResult}
-use Rattle.delaunay_paths.specs.half_edge_mesh.Mesh.{origin, rev}
-use Rattle.delaunay_paths.specs.plane.Fraction.{Point}
-use Rattle.delaunay_paths.specs.plane.Pairs.{SamePairs}
-use Rattle.delaunay_paths.specs.plane.Plain.{Adds, CanAdd, Releases}
-use Rattle.delaunay_paths.specs.mesh_embedding.Stays.{KeepsIndexes}
-use Rattle.delaunay_paths.specs.delaunay_legalization.declared.cdt_edge.CdtEdge.{CdtEdge}
-use Rattle.delaunay_paths.specs.delaunay_legalization.CdtEdge.{is_constraint, with_mark}
-use Rattle.delaunay_paths.specs.delaunay_legalization.State.{State}
-use Rattle.delaunay_paths.specs.Adding.{MarksSome}
-use Rattle.delaunay_paths.specs.PathEdges.{LeadAlong}
+use Rattle.delaunay_edit.specs.half_edge_links.Mesh.{origin, rev}
+use Rattle.delaunay_edit.specs.plane.Fraction.{Point}
+use Rattle.delaunay_edit.specs.plane.Pairs.{SamePairs}
+use Rattle.delaunay_edit.specs.plane.Plain.{Adds, CanAdd, Releases}
+use Rattle.delaunay_edit.specs.delaunay_legalization.Stays.{KeepsIndexes}
+use Rattle.delaunay_edit.specs.delaunay_legalization.declared.cdt_edge.CdtEdge.{CdtEdge}
+use Rattle.delaunay_edit.specs.delaunay_legalization.CdtEdge.{is_constraint, with_mark}
+use Rattle.delaunay_edit.specs.delaunay_legalization.State.{State}
+use Rattle.delaunay_edit.specs.Adding.{MarksSome}
+use Rattle.delaunay_edit.specs.PathEdges.{LeadAlong}
 use Rattle.delaunay_edit.specs.Constrained.{constrained, constraint_edges, constraints_of}
 use Rattle.delaunay_edit.specs.Headline.{AreSites}
 

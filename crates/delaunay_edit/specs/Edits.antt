@@ -3,21 +3,21 @@ use Rattle.std.specs.Prelude.{◌≡◌, ◌↔◌, ◌+◌, ◌*◌, ◌<◌, �
 use Rattle.std.specs.Prelude.{ℕ, Bool, List, length, map, All, IsTrue, Option, None, Some, Result}
 use Rattle.std.specs.Prelude.{Ok, IsOk, IsErrOf, IfOk, OnOk, OnErr, MatchOption}
 use Rattle.std.specs.Prelude.{slice_get, slice_set}
-use Rattle.delaunay_paths.specs.half_edge_links.declared.room.TheConstants.{MAX_ELEMENTS}
-use Rattle.delaunay_paths.specs.plane.Fraction.{Point}
-use Rattle.delaunay_paths.specs.plane.Plain.{Inserts, Removes}
-use Rattle.delaunay_paths.specs.plane.Tests.{InRange}
-use Rattle.delaunay_paths.specs.delaunay_core.declared.math.InsertionError.{InsertionError}
-use Rattle.delaunay_paths.specs.delaunay_core.declared.math.InsertionError.TheVariants.{TooLarge}
-use Rattle.delaunay_paths.specs.delaunay_core.declared.math.InsertionError.TheVariants.{OutOfIndexes}
-use Rattle.delaunay_insertion.specs.Constraints.{SplitsConstraints}
-use Rattle.delaunay_paths.specs.delaunay_legalization.Constraints.{constraints_by}
-use Rattle.delaunay_paths.specs.delaunay_legalization.Constraints.{points_and_constraints_by}
-use Rattle.delaunay_paths.specs.delaunay_legalization.Known.{IsKnown}
-use Rattle.delaunay_paths.specs.delaunay_legalization.Shape.{IsDelaunayTriangulation}
-use Rattle.delaunay_paths.specs.delaunay_legalization.State.{State}
-use Rattle.delaunay_paths.specs.delaunay_location.declared.position_in_triangulation.PositionInTriangulation.{PositionInTriangulation}
-use Rattle.delaunay_removal.specs.Data.{KeepsDataOfOthers}
+use Rattle.delaunay_edit.specs.half_edge_links.declared.room.TheConstants.{MAX_ELEMENTS}
+use Rattle.delaunay_edit.specs.plane.Fraction.{Point}
+use Rattle.delaunay_edit.specs.plane.Plain.{Inserts, Removes}
+use Rattle.delaunay_edit.specs.plane.Tests.{InRange}
+use Rattle.delaunay_edit.specs.delaunay_core.declared.math.InsertionError.{InsertionError}
+use Rattle.delaunay_edit.specs.delaunay_core.declared.math.InsertionError.TheVariants.{TooLarge}
+use Rattle.delaunay_edit.specs.delaunay_core.declared.math.InsertionError.TheVariants.{OutOfIndexes}
+use Rattle.delaunay_vertices.specs.Constraints.{SplitsConstraints}
+use Rattle.delaunay_edit.specs.delaunay_legalization.Constraints.{constraints_by}
+use Rattle.delaunay_edit.specs.delaunay_legalization.Constraints.{points_and_constraints_by}
+use Rattle.delaunay_edit.specs.delaunay_legalization.Known.{IsKnown}
+use Rattle.delaunay_edit.specs.delaunay_legalization.Shape.{IsDelaunayTriangulation}
+use Rattle.delaunay_edit.specs.delaunay_legalization.State.{State}
+use Rattle.delaunay_edit.specs.delaunay_location.declared.position_in_triangulation.PositionInTriangulation.{PositionInTriangulation}
+use Rattle.delaunay_vertices.specs.RemovalData.{KeepsDataOfOthers}
 use Rattle.delaunay_edit.specs.Counting.{IsCounted}
 use Rattle.delaunay_edit.specs.Data.{KeepsData}
 use Rattle.delaunay_edit.specs.Headline.{AreSites}

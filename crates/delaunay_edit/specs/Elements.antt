@@ -2,22 +2,22 @@
 use Rattle.std.specs.Prelude.{◌≡◌, ℕ, ◌<◌, ◌≤◌, List, length, map}
 use Rattle.std.specs.List.{range_with_len}
 use Rattle.std.specs.Borrow.{Bor}
-use Rattle.delaunay_paths.specs.half_edge_mesh.Contents.{Contents}
-use Rattle.delaunay_paths.specs.half_edge_mesh.Mesh.{face}
-use Rattle.delaunay_paths.specs.half_edge_mesh.Left.{each_in}
-use Rattle.delaunay_paths.specs.plane.Fraction.{Point, whole}
-use Rattle.delaunay_paths.specs.plane.Location.{IsLocation}
-use Rattle.delaunay_paths.specs.plane.Shape.{IsNearest}
-use Rattle.delaunay_paths.specs.delaunay_location.declared.position_in_triangulation.PositionInTriangulation.{PositionInTriangulation}
-use Rattle.delaunay_paths.specs.delaunay_location.declared.position_in_triangulation.PositionInTriangulation.TheVariants.{
+use Rattle.delaunay_edit.specs.half_edge_dcel.Contents.{Contents}
+use Rattle.delaunay_edit.specs.half_edge_links.Mesh.{face}
+use Rattle.delaunay_edit.specs.half_edge_dcel.Left.{each_in}
+use Rattle.delaunay_edit.specs.plane.Fraction.{Point, whole}
+use Rattle.delaunay_edit.specs.plane.Location.{IsLocation}
+use Rattle.delaunay_edit.specs.plane.Shape.{IsNearest}
+use Rattle.delaunay_edit.specs.delaunay_location.declared.position_in_triangulation.PositionInTriangulation.{PositionInTriangulation}
+use Rattle.delaunay_edit.specs.delaunay_location.declared.position_in_triangulation.PositionInTriangulation.TheVariants.{
   OnVertex,
   OnEdge,
   OnFace,
   OutsideOfConvexHull,
   NoTriangulation,
 }
-use Rattle.delaunay_paths.specs.delaunay_legalization.State.{State, state_of, triangulation_of}
-use Rattle.delaunay_paths.specs.delaunay_legalization.Known.{point_at}
+use Rattle.delaunay_edit.specs.delaunay_legalization.State.{State, state_of, triangulation_of}
+use Rattle.delaunay_edit.specs.delaunay_legalization.Known.{point_at}
 use Rattle.delaunay_edit.specs.Location.{location_of}
 
 -- the given are elements of a triangulation in this state: so many, by rising index from first on

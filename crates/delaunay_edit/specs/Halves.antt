@@ -3,22 +3,22 @@
 use Rattle.std.specs.Prelude.{◌≡◌, ◌≢◌, ◌⊎◌, ◌*◌, ◌/◌, ◌≤◌}
 use Rattle.std.specs.Prelude.{ℕ, Bool, true, List, length, map, Option, MatchOption, IfSome}
 use Rattle.std.specs.Prelude.{Contains}
-use Rattle.delaunay_paths.specs.half_edge_mesh.Contents.{Contents}
-use Rattle.delaunay_paths.specs.half_edge_mesh.Mesh.{origin, rev}
-use Rattle.delaunay_paths.specs.half_edge_mesh.Renames.{moved}
-use Rattle.delaunay_paths.specs.plane.Fraction.{Point}
-use Rattle.delaunay_paths.specs.plane.Pairs.{Joins}
-use Rattle.delaunay_paths.specs.plane.Plain.{AreStraightHalves, Plain}
-use Rattle.delaunay_paths.specs.plane_edits.Legal.{AllPassBut}
-use Rattle.delaunay_paths.specs.mesh_embedding.Drawn.{faces_of}
-use Rattle.delaunay_paths.specs.delaunay_legalization.Constraints.{constraints_by}
-use Rattle.delaunay_paths.specs.delaunay_legalization.Legalized.{Legalizes}
-use Rattle.delaunay_paths.specs.delaunay_legalization.Shape.{IsTriangulated}
-use Rattle.delaunay_paths.specs.delaunay_legalization.State.{state_of}
-use Rattle.delaunay_paths.specs.Adding.{AddsPath, HasFreeWay}
-use Rattle.delaunay_paths.specs.Lists.{HaveRoom}
-use Rattle.delaunay_paths.specs.declared.crossing.CrossingLists.{CrossingLists}
-use Rattle.delaunay_removal.specs.Pairs.{pairs_left}
+use Rattle.delaunay_edit.specs.half_edge_dcel.Contents.{Contents}
+use Rattle.delaunay_edit.specs.half_edge_links.Mesh.{origin, rev}
+use Rattle.delaunay_edit.specs.half_edge_links.Renames.{moved}
+use Rattle.delaunay_edit.specs.plane.Fraction.{Point}
+use Rattle.delaunay_edit.specs.plane.Pairs.{Joins}
+use Rattle.delaunay_edit.specs.plane.Plain.{AreStraightHalves, Plain}
+use Rattle.delaunay_edit.specs.plane_theorems.Edits.Legal.{AllPassBut}
+use Rattle.delaunay_edit.specs.delaunay_legalization.Drawn.{faces_of}
+use Rattle.delaunay_edit.specs.delaunay_legalization.Constraints.{constraints_by}
+use Rattle.delaunay_edit.specs.delaunay_legalization.Legalized.{Legalizes}
+use Rattle.delaunay_edit.specs.delaunay_legalization.Shape.{IsTriangulated}
+use Rattle.delaunay_edit.specs.delaunay_legalization.State.{state_of}
+use Rattle.delaunay_edit.specs.Adding.{AddsPath, HasFreeWay}
+use Rattle.delaunay_edit.specs.Lists.{HaveRoom}
+use Rattle.delaunay_edit.specs.declared.crossing.CrossingLists.{CrossingLists}
+use Rattle.delaunay_vertices.specs.Pairs.{pairs_left}
 use Rattle.delaunay_edit.specs.Counting.{EndsAt, HasPairs}
 
 -- ---- the search for them

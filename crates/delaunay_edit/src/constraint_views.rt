@@ -1,24 +1,24 @@
 //! What an edit asks of the constraints, in a mesh with its points: how many a path makes, and the
 //! halves of a straight one.
 ghost use Rattle.std.specs.Prelude.{◌≢◌, ◌<◌, length, map, IfNone, IfSome};
-ghost use Rattle.delaunay_paths.specs.delaunay_legalization.Constraints.{constraints_by};
-ghost use Rattle.delaunay_paths.specs.delaunay_legalization.Constraints.{points_and_constraints_by};
-ghost use Rattle.delaunay_paths.specs.delaunay_legalization.Placed.{Reading};
-ghost use Rattle.delaunay_paths.specs.delaunay_legalization.State.{state_of};
-ghost use Rattle.delaunay_paths.specs.Adding.{CanAddPath};
+ghost use Rattle.delaunay_edit.specs.delaunay_legalization.Constraints.{constraints_by};
+ghost use Rattle.delaunay_edit.specs.delaunay_legalization.Constraints.{points_and_constraints_by};
+ghost use Rattle.delaunay_edit.specs.delaunay_legalization.Placed.{Reading};
+ghost use Rattle.delaunay_edit.specs.delaunay_legalization.State.{state_of};
+ghost use Rattle.delaunay_edit.specs.Adding.{CanAddPath};
 ghost use Rattle.delaunay_edit.specs.Counting.{HasPairs, IsMissing};
 ghost use Rattle.delaunay_edit.specs.Halves.{AreHalvesAt};
 
-use crate::halves::two_constraint_ends;
-use delaunay_paths::delaunay_core::math::PlaneTests;
-use delaunay_paths::delaunay_core::point::HasPosition;
-use delaunay_paths::delaunay_legalization::{
+use crate::delaunay_core::math::PlaneTests;
+use crate::delaunay_core::point::HasPosition;
+use crate::delaunay_legalization::{
     ConstraintMarker, Placed, is_constraint_edge, is_strictly_within, position_of,
 };
-use delaunay_paths::delaunay_lines::{Intersection, LineViews};
-use delaunay_paths::half_edge_mesh::FixedVertexHandle;
-use delaunay_paths::is_constraint_between;
-use delaunay_removal::VertexPair;
+use crate::half_edge_dcel::FixedVertexHandle;
+use crate::halves::two_constraint_ends;
+use crate::is_constraint_between;
+use delaunay_location::{Intersection, LineViews};
+use delaunay_vertices::VertexPair;
 
 /// The constraints that an edit makes or takes, in a mesh with its points.
 pub trait ConstraintViews<V: HasPosition, DE, UE, F, P: PlaneTests<V::Scalar>> {

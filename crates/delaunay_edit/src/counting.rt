@@ -1,13 +1,13 @@
 //! How many constraints an edit makes or takes, by a look at what it changes.
 ghost use Rattle.std.specs.Prelude.{◌<◌, length};
-ghost use Rattle.delaunay_paths.specs.delaunay_legalization.Constraints.{constraints_by};
-ghost use Rattle.delaunay_paths.specs.delaunay_legalization.Shape.{IsTriangulated};
-ghost use Rattle.delaunay_paths.specs.delaunay_legalization.State.{state_of};
+ghost use Rattle.delaunay_edit.specs.delaunay_legalization.Constraints.{constraints_by};
+ghost use Rattle.delaunay_edit.specs.delaunay_legalization.Shape.{IsTriangulated};
+ghost use Rattle.delaunay_edit.specs.delaunay_legalization.State.{state_of};
 ghost use Rattle.delaunay_edit.specs.Counting.{EndsAt, HasPairs};
 
-use delaunay_paths::delaunay_core::point::HasPosition;
-use delaunay_paths::delaunay_legalization::{ConstraintMarker, is_constraint_edge};
-use delaunay_paths::half_edge_mesh::{Dcel, FixedVertexHandle, MeshViews};
+use crate::delaunay_core::point::HasPosition;
+use crate::delaunay_legalization::{ConstraintMarker, is_constraint_edge};
+use crate::half_edge_dcel::{Dcel, FixedVertexHandle, MeshViews};
 
 /// How many constraints end at a vertex.
 pub fn count_constraints_at<M: ConstraintMarker<UE>, V: HasPosition, DE, UE, F>(

@@ -1,15 +1,15 @@
 //! The ends of the constraints at a vertex.
 ghost use Rattle.std.specs.Prelude.{◌≡◌, ◌⊎◌, ◌↔◌, ◌<◌, length, IfNone, IfSome, IsTrue};
-ghost use Rattle.delaunay_paths.specs.half_edge_mesh.Mesh.{origin, rev};
-ghost use Rattle.delaunay_paths.specs.delaunay_legalization.Constraints.{constraints_by};
-ghost use Rattle.delaunay_paths.specs.delaunay_legalization.Shape.{IsTriangulated};
-ghost use Rattle.delaunay_paths.specs.delaunay_legalization.State.{state_of};
+ghost use Rattle.delaunay_edit.specs.half_edge_links.Mesh.{origin, rev};
+ghost use Rattle.delaunay_edit.specs.delaunay_legalization.Constraints.{constraints_by};
+ghost use Rattle.delaunay_edit.specs.delaunay_legalization.Shape.{IsTriangulated};
+ghost use Rattle.delaunay_edit.specs.delaunay_legalization.State.{state_of};
 ghost use Rattle.delaunay_edit.specs.Halves.{AreTwoEnds, IsEndBeside, LeadsBeside};
 
-use delaunay_paths::delaunay_core::point::HasPosition;
-use delaunay_paths::delaunay_legalization::{ConstraintMarker, is_constraint_edge};
-use delaunay_paths::half_edge_mesh::{Dcel, FixedDirectedEdgeHandle, FixedVertexHandle, MeshViews};
-use delaunay_removal::VertexPair;
+use crate::delaunay_core::point::HasPosition;
+use crate::delaunay_legalization::{ConstraintMarker, is_constraint_edge};
+use crate::half_edge_dcel::{Dcel, FixedDirectedEdgeHandle, FixedVertexHandle, MeshViews};
+use delaunay_vertices::VertexPair;
 
 // Whether a vertex is one of two.
 fn is_either(vertex: FixedVertexHandle, one: FixedVertexHandle, other: FixedVertexHandle) -> bool

@@ -1,23 +1,35 @@
-//! The parts of the edits of a triangulation: a new vertex wherever it is, the path of a constraint
-//! counted, the halves of a straight constraint, and what is left to do where a vertex went.
+//! The edits of a triangulation: a new vertex wherever it is, what is left to do where one went,
+//! and the path of pieces between two vertices, whose pieces become edges by flips of what crosses
+//! them.
 #![tactic(auto)]
 
-pub use delaunay_insertion;
-pub use delaunay_paths;
-pub use delaunay_paths::{
-    delaunay_core, delaunay_legalization, delaunay_lines, delaunay_location, half_edge_mesh,
-};
-pub use delaunay_removal;
+pub use delaunay_location;
+pub use delaunay_location::{delaunay_core, delaunay_legalization, half_edge_dcel};
+pub use delaunay_vertices;
 
+mod adding;
 mod constraint_views;
+mod constraints;
 mod counting;
+mod crossing;
 mod edge_data;
+mod flips;
 mod halves;
 mod insertion_cases;
+mod joined;
 mod joining;
+mod nearer;
+mod path_views;
 
 pub use constraint_views::ConstraintViews;
-pub use counting::count_constraints_at;
 pub use edge_data::EdgeData;
+
+// For the struct and for tests, and not for users.
+pub use adding::add_path;
+pub use constraints::{constrain_edge, release_constraint};
+pub use counting::count_constraints_at;
+pub use crossing::CrossingLists;
 pub use insertion_cases::insert_at;
+pub use joined::is_constraint_between;
 pub use joining::{reserve_to_join, settle};
+pub use path_views::PathViews;

@@ -4,8 +4,8 @@ use Rattle.std.proofs.Common.{◌≡◌, ℕ, ◌<◌, ◌≤◌, List, All, ap,
 use Rattle.std.specs.List.{range_with_len}
 use Rattle.std.specs.Borrow.{Bor}
 use Rattle.std.proofs.lemmas.List.FromFn.{length-range_with_len, get_or-range_with_len}
-use Rattle.delaunay_edit.specs.half_edge_mesh.Contents.{Contents}
-use Rattle.delaunay_edit.specs.half_edge_mesh.Left.{each_in}
+use Rattle.delaunay_edit.specs.half_edge_dcel.Contents.{Contents}
+use Rattle.delaunay_edit.specs.half_edge_dcel.Left.{each_in}
 use Rattle.delaunay_edit.specs.Elements.{GivesElements}
 use Rattle.delaunay_edit.specs.delaunay_legalization.State.{State, state_of}
 use Rattle.delaunay_edit.proofs.Counts.{gives_elements}

@@ -12,10 +12,10 @@ use Rattle.std.proofs.lemmas.List.{length-map, map-append, get_or-map, get_or_de
 use Rattle.std.proofs.lemmas.List.Elements.{All-contains, Contains-append_left, Contains-push}
 use Rattle.std.proofs.lemmas.Option.{get_or_from_slice_get, slice_get_within}
 use Rattle.std.proofs.Math.Seq.{map-set_same}
-use Rattle.delaunay_edit.proofs.half_edge_links.Removing.OpenSound.{length-swap_remove}
-use Rattle.delaunay_edit.proofs.half_edge_links.Removing.OpenSound.{get_or-swap_remove_same}
-use Rattle.delaunay_edit.proofs.half_edge_links.Removing.OpenSound.{get_or-swap_remove_other}
-use Rattle.delaunay_edit.proofs.half_edge_links.Removing.ShrinkTriangles.{map-swap_remove}
+use Rattle.delaunay_edit.proofs.half_edge_links_lemmas.Removing.OpenSound.{length-swap_remove}
+use Rattle.delaunay_edit.proofs.half_edge_links_lemmas.Removing.OpenSound.{get_or-swap_remove_same}
+use Rattle.delaunay_edit.proofs.half_edge_links_lemmas.Removing.OpenSound.{get_or-swap_remove_other}
+use Rattle.delaunay_edit.proofs.half_edge_links_lemmas.Removing.ShrinkTriangles.{map-swap_remove}
 use Rattle.delaunay_edit.specs.plane.Fraction.{Point}
 use Rattle.delaunay_edit.specs.plane.Hint.{IsAtMost, IsAtMostOf, IsAtMostWith, IsAtMostWithout}
 use Rattle.delaunay_edit.specs.plane.Plain.{Plain, Inserts, Removes}

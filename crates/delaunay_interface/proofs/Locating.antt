@@ -1,7 +1,7 @@
 -- The answer to a location, by an element of a triangulation.
 -- Lemmas: finds_in, element_in.
 use Rattle.std.proofs.Common.{◌≡◌, map, sym, subst}
-use Rattle.delaunay_edit.specs.half_edge_mesh.Contents.{Contents}
+use Rattle.delaunay_edit.specs.half_edge_dcel.Contents.{Contents}
 use Rattle.delaunay_edit.specs.plane.Fraction.{Point}
 use Rattle.delaunay_edit.specs.Elements.{FindsLocation, HasElement}
 use Rattle.delaunay_edit.specs.Location.{Locates}

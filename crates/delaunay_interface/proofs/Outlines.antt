@@ -3,20 +3,20 @@
 use Rattle.std.proofs.Common.{◌≡◌, ◌<◌, ◌∙◌}
 use Rattle.std.proofs.Common.{ℕ, List, length, map, inl, inr, refl, sym, subst, arith}
 use Rattle.std.specs.Borrow.{Bor}
-use Rattle.delaunay_edit.specs.half_edge_mesh.Mesh.{face, origin, rev}
-use Rattle.delaunay_edit.specs.half_edge_mesh.Outline.{IsOuterEdge}
-use Rattle.delaunay_edit.specs.half_edge_mesh.Contents.{Contents}
-use Rattle.delaunay_edit.specs.half_edge_mesh.Rounds.{GivesOuterLoop}
+use Rattle.delaunay_edit.specs.half_edge_links.Mesh.{face, origin, rev}
+use Rattle.delaunay_edit.specs.half_edge_links.Outline.{IsOuterEdge}
+use Rattle.delaunay_edit.specs.half_edge_dcel.Contents.{Contents}
+use Rattle.delaunay_edit.specs.half_edge_dcel.Rounds.{GivesOuterLoop}
 use Rattle.delaunay_edit.specs.plane.Fraction.{Point}
 use Rattle.delaunay_edit.specs.plane.Side.{left, on, TurnsLeft}
 use Rattle.delaunay_edit.specs.plane.Tiling.{Triangulation, IsVertex, IsTiling, vertex}
 use Rattle.delaunay_edit.specs.plane.Location.{IsOuter}
-use Rattle.delaunay_edit.proofs.plane_delaunay.Tilings.Ground.{tiling}
-use Rattle.delaunay_edit.proofs.plane_delaunay.Tilings.OuterEdges.{hull_not_left_of_outer}
-use Rattle.delaunay_edit.proofs.mesh_embedding.EdgePairs.{edge_joins}
-use Rattle.delaunay_edit.proofs.mesh_embedding.OneOutline.{one_outline}
-use Rattle.delaunay_edit.proofs.mesh_embedding.OuterEdges.{listed}
-use Rattle.delaunay_edit.proofs.mesh_embedding.OutlineGiven.{outline_given}
+use Rattle.delaunay_edit.proofs.plane_theorems.Delaunay.Tilings.Ground.{tiling}
+use Rattle.delaunay_edit.proofs.plane_theorems.Delaunay.Tilings.OuterEdges.{hull_not_left_of_outer}
+use Rattle.delaunay_edit.proofs.delaunay_legalization_lemmas.EdgePairs.{edge_joins}
+use Rattle.delaunay_edit.proofs.delaunay_legalization_lemmas.OneOutline.{one_outline}
+use Rattle.delaunay_edit.proofs.delaunay_legalization_lemmas.OuterEdges.{listed}
+use Rattle.delaunay_edit.proofs.delaunay_legalization_lemmas.OutlineGiven.{outline_given}
 use Rattle.delaunay_edit.specs.delaunay_legalization.Shape.{IsTriangulated}
 use Rattle.delaunay_edit.specs.delaunay_legalization.State.{State, state_of, triangulation_of}
 use Rattle.delaunay_edit.proofs.delaunay_legalization_lemmas.MeshParts.{outer_bare}

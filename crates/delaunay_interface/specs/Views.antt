@@ -2,9 +2,9 @@
 use Rattle.std.specs.Prelude.{◌≡◌, ◌≢◌, ◌↔◌, ◌+◌, ◌%◌, ◌<◌, ◌∷◌, []}
 use Rattle.std.specs.Prelude.{ℕ, List, length, map, Contains, AllPairs, slice_index_or}
 use Rattle.std.specs.Borrow.{Bor}
-use Rattle.delaunay_edit.specs.half_edge_mesh.Mesh.{origin, rev, next, prev, face, face_edge}
-use Rattle.delaunay_edit.specs.half_edge_mesh.Contents.{Contents}
-use Rattle.delaunay_edit.specs.half_edge_mesh.Left.{each_in}
+use Rattle.delaunay_edit.specs.half_edge_links.Mesh.{origin, rev, next, prev, face, face_edge}
+use Rattle.delaunay_edit.specs.half_edge_dcel.Contents.{Contents}
+use Rattle.delaunay_edit.specs.half_edge_dcel.Left.{each_in}
 use Rattle.delaunay_edit.specs.plane.Fraction.{Point}
 use Rattle.delaunay_edit.specs.plane.Side.{side, on, TurnsLeft}
 use Rattle.delaunay_edit.specs.plane.Location.{IsOuter}

@@ -14,7 +14,7 @@ use crate::triangulation_core::ConstrainedDelaunayTriangulation;
 use delaunay_edit::delaunay_core::HintGenerator;
 use delaunay_edit::delaunay_core::math::{InsertionError, PlaneTests};
 use delaunay_edit::delaunay_core::point::HasPosition;
-use delaunay_edit::half_edge_mesh::FixedVertexHandle;
+use delaunay_edit::half_edge_dcel::FixedVertexHandle;
 
 impl<
     V: HasPosition + Drop,

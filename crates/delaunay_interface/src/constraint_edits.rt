@@ -1,6 +1,6 @@
 //! Edges and paths that become constraints, and room for it.
 ghost use Rattle.std.specs.Prelude.{◌≡◌, ◌*◌, ◌<◌, ℕ, length, map, All, Ok, OnErr, OnOk};
-ghost use Rattle.delaunay_edit.specs.half_edge_mesh.Mesh.{origin, rev};
+ghost use Rattle.delaunay_edit.specs.half_edge_links.Mesh.{origin, rev};
 ghost use Rattle.delaunay_edit.specs.plane.Plain.{Adds, CanAdd};
 ghost use Rattle.delaunay_edit.specs.Constrained.{constrained, constraint_edges, constraints_of};
 ghost use Rattle.delaunay_edit.specs.ConstraintEdits.{AddsConstraint, AddsIfFree};
@@ -9,16 +9,15 @@ ghost use Rattle.delaunay_edit.specs.Counting.{HasPairs, IsMissing};
 ghost use Rattle.delaunay_edit.specs.Headline.{IsDelaunay};
 
 use crate::triangulation_core::ConstrainedDelaunayTriangulation;
-use delaunay_edit::ConstraintViews;
 use delaunay_edit::delaunay_core::HintGenerator;
 use delaunay_edit::delaunay_core::math::PlaneTests;
 use delaunay_edit::delaunay_core::point::HasPosition;
 use delaunay_edit::delaunay_legalization::{
     EdgeConstraints, Placed, Sides, is_constraint_edge, legalize,
 };
-use delaunay_edit::delaunay_lines::HasMesh;
-use delaunay_edit::delaunay_paths::{add_path, constrain_edge};
-use delaunay_edit::half_edge_mesh::{FixedDirectedEdgeHandle, FixedVertexHandle, MeshViews};
+use delaunay_edit::delaunay_location::HasMesh;
+use delaunay_edit::half_edge_dcel::{FixedDirectedEdgeHandle, FixedVertexHandle, MeshViews};
+use delaunay_edit::{ConstraintViews, add_path, constrain_edge};
 use std::alloc::AllocError;
 
 impl<V: HasPosition, DE, UE, F, L: HintGenerator<V::Scalar>> ConstrainedDelaunayTriangulation<

@@ -1,15 +1,15 @@
 //! Constraints: which edges are such, edges that become or cease to be one, and what crosses them.
 ghost use Rattle.std.specs.Prelude.{◌≡◌, ◌⊎◌, ◌↔◌, ◌*◌, ◌<◌, length, map, Contains};
 ghost use Rattle.std.specs.Prelude.{IsTrue, IsOk, IfErr, IfOk, OnErr};
-ghost use Rattle.delaunay_edit.specs.half_edge_mesh.Mesh.{origin, rev};
+ghost use Rattle.delaunay_edit.specs.half_edge_links.Mesh.{origin, rev};
 ghost use Rattle.delaunay_edit.specs.plane.Pairs.{Joins};
 ghost use Rattle.delaunay_edit.specs.plane.Plain.{CanAdd, Unconstrains};
 ghost use Rattle.delaunay_edit.specs.delaunay_core.Place.{place_of};
 ghost use Rattle.delaunay_edit.specs.delaunay_legalization.Known.{point_at};
 ghost use Rattle.delaunay_edit.specs.delaunay_legalization.State.{points_and_constraints};
 ghost use Rattle.delaunay_edit.specs.delaunay_legalization.State.{triangulation_of};
-ghost use Rattle.delaunay_edit.specs.delaunay_lines.Conflicts.{IntersectsConstraint};
-ghost use Rattle.delaunay_edit.specs.delaunay_lines.Walk.{IsReady, WalksLine};
+ghost use Rattle.delaunay_edit.specs.delaunay_location.Conflicts.{IntersectsConstraint};
+ghost use Rattle.delaunay_edit.specs.delaunay_location.Walk.{IsReady, WalksLine};
 ghost use Rattle.delaunay_edit.specs.Constrained.{IsFree, constrained, constraint_edges};
 ghost use Rattle.delaunay_edit.specs.Constrained.{constraints_of};
 ghost use Rattle.delaunay_edit.specs.ConstraintEdits.{AddsConstraint, AddsPathIfFree};
@@ -21,18 +21,17 @@ ghost use Rattle.delaunay_interface.specs.Views.{CanAddConstraint};
 use crate::triangulation_core::{
     ConstrainedDelaunayTriangulation, DelaunayTriangulation, TriangulationCore,
 };
-use delaunay_edit::ConstraintViews;
 use delaunay_edit::delaunay_core::HintGenerator;
 use delaunay_edit::delaunay_core::math::PlaneTests;
 use delaunay_edit::delaunay_core::point::{HasPosition, Point2};
 use delaunay_edit::delaunay_legalization::{
     CdtEdge, EdgeConstraints, Placed, free_edge_data, is_constraint_edge,
 };
-use delaunay_edit::delaunay_lines::{ConflictingEdgesIterator, HasMesh, LineViews};
-use delaunay_edit::delaunay_paths::{PathViews, is_constraint_between, release_constraint};
-use delaunay_edit::half_edge_mesh::{
+use delaunay_edit::delaunay_location::{ConflictingEdgesIterator, HasMesh, LineViews};
+use delaunay_edit::half_edge_dcel::{
     FixedDirectedEdgeHandle, FixedUndirectedEdgeHandle, FixedVertexHandle, MeshViews,
 };
+use delaunay_edit::{ConstraintViews, PathViews, is_constraint_between, release_constraint};
 use std::alloc::AllocError;
 use std::marker::PhantomData;
 

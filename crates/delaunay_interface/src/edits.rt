@@ -10,10 +10,10 @@ use crate::triangulation_core::TriangulationCore;
 use delaunay_edit::delaunay_core::HintGenerator;
 use delaunay_edit::delaunay_core::math::{InsertionError, PlaneTests, validate_vertex};
 use delaunay_edit::delaunay_core::point::HasPosition;
-use delaunay_edit::delaunay_insertion::{FreeByDefault, reserve_for_vertices};
 use delaunay_edit::delaunay_legalization::Placed;
 use delaunay_edit::delaunay_location::{LocationViews, PositionInTriangulation};
-use delaunay_edit::half_edge_mesh::FixedVertexHandle;
+use delaunay_edit::delaunay_vertices::{FreeByDefault, reserve_for_vertices};
+use delaunay_edit::half_edge_dcel::FixedVertexHandle;
 use delaunay_edit::{EdgeData, insert_at};
 
 impl<

@@ -2,8 +2,9 @@
 //! trait of their calls.
 #![tactic(auto)]
 
-pub use delaunay_edit::{delaunay_core, delaunay_legalization, delaunay_paths, half_edge_mesh};
-pub use half_edge_voronoi;
+pub use delaunay_edit;
+pub use delaunay_edit::{delaunay_core, delaunay_legalization};
+pub use half_edge_mesh;
 
 mod constraint_edges;
 mod constraint_edits;
@@ -21,10 +22,10 @@ mod triangulation_core;
 
 pub use constraint_error::ConstraintError;
 pub use delaunay_edit::EdgeData;
-pub use delaunay_edit::delaunay_lines::{
+pub use delaunay_edit::delaunay_location::{
     ConflictingEdgesIterator, HasMesh, Intersection, LineIntersectionIterator,
+    PositionInTriangulation,
 };
-pub use delaunay_edit::delaunay_location::PositionInTriangulation;
 pub use inner_faces::InnerFaceIterator;
 pub use parts::{
     DirectedEdgesOf, DirectedOf, DirectedVoronoiEdgesOf, FaceOf, FacesOf, HullOf, InnerFacesOf,

@@ -7,7 +7,7 @@ ghost use Rattle.delaunay_edit.specs.Elements.{HasElement};
 
 use delaunay_edit::delaunay_core::point::{HasPosition, Point2};
 use delaunay_edit::delaunay_location::PositionInTriangulation;
-use delaunay_edit::half_edge_mesh::{Dcel, FixedVertexHandle, MeshViews};
+use delaunay_edit::half_edge_dcel::{Dcel, FixedVertexHandle, MeshViews};
 
 // A vertex of what an answer names, or the first.
 pub(crate) fn vertex_near<V, DE, UE, F>(

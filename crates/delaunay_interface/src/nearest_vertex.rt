@@ -8,9 +8,8 @@ use crate::triangulation_core::DelaunayTriangulation;
 use delaunay_edit::delaunay_core::HintGenerator;
 use delaunay_edit::delaunay_core::math::PlaneTests;
 use delaunay_edit::delaunay_core::point::{HasPosition, Point2};
-use delaunay_edit::delaunay_lines::HasMesh;
-use delaunay_edit::delaunay_location::nearest_by_neighbors;
-use delaunay_edit::half_edge_mesh::{FixedVertexHandle, MeshViews, VertexHandle};
+use delaunay_edit::delaunay_location::{HasMesh, nearest_by_neighbors};
+use delaunay_edit::half_edge_dcel::{FixedVertexHandle, MeshViews, VertexHandle};
 
 // The vertex of a hint, or the first where it is the handle of none.
 fn start_at(hint: FixedVertexHandle, count: usize) -> FixedVertexHandle

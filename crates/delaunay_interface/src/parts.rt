@@ -2,10 +2,10 @@
 
 use crate::inner_faces::InnerFaceIterator;
 use crate::triangulation::Triangulation;
-use delaunay_edit::half_edge_mesh::{
+use delaunay_edit::half_edge_dcel::{
     DirectedEdgeIterator, FaceIterator, HullIterator, UndirectedEdgeIterator, VertexIterator,
 };
-use half_edge_voronoi::{
+use half_edge_mesh::{
     DirectedVoronoiEdgeIterator, UndirectedVoronoiEdgeIterator, VoronoiFaceIterator,
 };
 

@@ -2,7 +2,7 @@
 ghost use Rattle.std.specs.Prelude.{◌≡◌, ◌⊎◌, ◌<◌, [], length, map, All, IfOk};
 ghost use Rattle.delaunay_edit.specs.delaunay_legalization.Constraints.{constraints_by};
 ghost use Rattle.delaunay_edit.specs.delaunay_legalization.Constraints.{points_and_constraints_by};
-ghost use Rattle.delaunay_edit.specs.delaunay_removal.Pairs.{HasBorder};
+ghost use Rattle.delaunay_edit.specs.delaunay_vertices.Pairs.{HasBorder};
 ghost use Rattle.delaunay_edit.specs.Halves.{AreHalvesAt, IsLoss};
 
 use crate::triangulation_core::TriangulationCore;
@@ -10,9 +10,9 @@ use delaunay_edit::delaunay_core::HintGenerator;
 use delaunay_edit::delaunay_core::math::PlaneTests;
 use delaunay_edit::delaunay_core::point::HasPosition;
 use delaunay_edit::delaunay_legalization::Placed;
-use delaunay_edit::delaunay_lines::HasMesh;
-use delaunay_edit::delaunay_removal::{VertexPair, sides_of_hole};
-use delaunay_edit::half_edge_mesh::FixedVertexHandle;
+use delaunay_edit::delaunay_location::HasMesh;
+use delaunay_edit::delaunay_vertices::{VertexPair, sides_of_hole};
+use delaunay_edit::half_edge_dcel::FixedVertexHandle;
 use delaunay_edit::{ConstraintViews, EdgeData, count_constraints_at};
 use std::alloc::AllocError;
 

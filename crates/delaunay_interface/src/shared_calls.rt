@@ -9,16 +9,16 @@ use crate::triangulation_core::TriangulationCore;
 use delaunay_edit::delaunay_core::HintGenerator;
 use delaunay_edit::delaunay_core::math::{InsertionError, PlaneTests};
 use delaunay_edit::delaunay_core::point::HasPosition;
-use delaunay_edit::delaunay_insertion::{FreeByDefault, reserve_for_vertices};
 use delaunay_edit::delaunay_legalization::EdgeSet;
-use delaunay_edit::delaunay_lines::HasMesh;
-use delaunay_edit::delaunay_paths::CrossingLists;
-use delaunay_edit::delaunay_removal::{RemovalLists, remove_vertex};
-use delaunay_edit::half_edge_mesh::{
+use delaunay_edit::delaunay_location::HasMesh;
+use delaunay_edit::delaunay_vertices::{
+    FreeByDefault, RemovalLists, remove_vertex, reserve_for_vertices,
+};
+use delaunay_edit::half_edge_dcel::{
     Dcel, FixedDirectedEdgeHandle, FixedFaceHandle, FixedUndirectedEdgeHandle, FixedVertexHandle,
     MAX_ELEMENTS, ReserveError,
 };
-use delaunay_edit::{EdgeData, reserve_to_join, settle};
+use delaunay_edit::{CrossingLists, EdgeData, reserve_to_join, settle};
 use std::alloc::{AllocError, Global};
 use std::marker::PhantomData;
 

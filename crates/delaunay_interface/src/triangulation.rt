@@ -3,8 +3,8 @@ ghost use Rattle.std.specs.Prelude.{◌≡◌, ℕ, ◌+◌, ◌*◌, ◌<◌, �
 ghost use Rattle.std.specs.Prelude.{IsTrue, IsOk, IsErrOf, IfOk, MatchOption, slice_get, slice_set};
 ghost use Rattle.std.specs.Borrow.{Lends, sem};
 ghost use Rattle.delaunay_edit.specs.half_edge_links.declared.room.TheConstants.{MAX_ELEMENTS};
-ghost use Rattle.delaunay_edit.specs.half_edge_mesh.Mesh.{empty};
-ghost use Rattle.delaunay_edit.specs.half_edge_mesh.Room.{AreFewEnough};
+ghost use Rattle.delaunay_edit.specs.half_edge_links.Mesh.{empty};
+ghost use Rattle.delaunay_edit.specs.half_edge_links.Room.{AreFewEnough};
 ghost use Rattle.delaunay_edit.specs.plane.Plain.{IsCleared, Replaces};
 ghost use Rattle.delaunay_edit.specs.plane.Tests.{InRange};
 ghost use Rattle.delaunay_edit.specs.delaunay_core.declared.math.InsertionError.TheVariants.{TooLarge};
@@ -12,9 +12,9 @@ ghost use Rattle.delaunay_edit.specs.delaunay_core.declared.math.InsertionError.
 ghost use Rattle.delaunay_edit.specs.delaunay_legalization.Constraints.{points_and_constraints_by};
 ghost use Rattle.delaunay_edit.specs.Storage.{IsEmptyState};
 ghost use Rattle.std.specs.List.{range_with_len};
-ghost use Rattle.delaunay_edit.specs.half_edge_mesh.Left.{vertices_left, directed_edges_left};
-ghost use Rattle.delaunay_edit.specs.half_edge_mesh.Left.{undirected_edges_left, faces_left};
-ghost use Rattle.delaunay_edit.specs.half_edge_mesh.Rounds.{hull_left};
+ghost use Rattle.delaunay_edit.specs.half_edge_dcel.Left.{vertices_left, directed_edges_left};
+ghost use Rattle.delaunay_edit.specs.half_edge_dcel.Left.{undirected_edges_left, faces_left};
+ghost use Rattle.delaunay_edit.specs.half_edge_dcel.Rounds.{hull_left};
 ghost use Rattle.delaunay_edit.specs.plane.Hint.{IsAtMostOf};
 ghost use Rattle.delaunay_edit.specs.delaunay_core.Place.{place_of};
 ghost use Rattle.delaunay_edit.specs.delaunay_legalization.Known.{IsKnown, point_at};
@@ -41,14 +41,13 @@ use delaunay_edit::delaunay_core::HintGenerator;
 use delaunay_edit::delaunay_core::math::{InsertionError, PlaneTests};
 use delaunay_edit::delaunay_core::point::{HasPosition, Point2};
 use delaunay_edit::delaunay_legalization::Placed;
-use delaunay_edit::delaunay_lines::HasMesh;
-use delaunay_edit::delaunay_location::{LocationViews, PositionInTriangulation};
-use delaunay_edit::half_edge_mesh::{
+use delaunay_edit::delaunay_location::{HasMesh, LocationViews, PositionInTriangulation};
+use delaunay_edit::half_edge_dcel::{
     Dcel, DirectedEdgeHandle, FaceHandle, FixedDirectedEdgeHandle, FixedDirectedEdgeIterator,
     FixedFaceHandle, FixedFaceIterator, FixedUndirectedEdgeHandle, FixedUndirectedEdgeIterator,
     FixedVertexHandle, FixedVertexIterator, MeshViews, UndirectedEdgeHandle, VertexHandle,
 };
-use half_edge_voronoi::VoronoiViews;
+use half_edge_mesh::VoronoiViews;
 use std::alloc::{AllocError, Global};
 
 pub(crate) mod sealed {

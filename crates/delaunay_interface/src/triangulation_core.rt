@@ -7,15 +7,14 @@ ghost use Rattle.delaunay_edit.specs.Counting.{IsCounted};
 ghost use Rattle.delaunay_edit.specs.Headline.{AreSites, IsDelaunay, IsWellFormed};
 ghost use Rattle.delaunay_edit.specs.Storage.{IsCopy, KeepsImage};
 
-use delaunay_edit::EdgeData;
 use delaunay_edit::delaunay_core::math::PlaneTests;
 use delaunay_edit::delaunay_core::point::{HasPosition, Point2};
 use delaunay_edit::delaunay_core::{HintGenerator, LastUsedVertexHintGenerator};
 use delaunay_edit::delaunay_legalization::{CdtEdge, EdgeConstraints, EdgeSet, NoConstraints};
-use delaunay_edit::delaunay_lines::HasMesh;
-use delaunay_edit::delaunay_paths::CrossingLists;
-use delaunay_edit::delaunay_removal::RemovalLists;
-use delaunay_edit::half_edge_mesh::{Dcel, FixedVertexHandle};
+use delaunay_edit::delaunay_location::HasMesh;
+use delaunay_edit::delaunay_vertices::RemovalLists;
+use delaunay_edit::half_edge_dcel::{Dcel, FixedVertexHandle};
+use delaunay_edit::{CrossingLists, EdgeData};
 use std::alloc::{AllocError, Global};
 use std::marker::{Model, PhantomData};
 

@@ -8,10 +8,10 @@ use Rattle.std.proofs.lemmas.List.{get_or_push, get_or-set_same}
 use Rattle.delaunay_interface.specs.plane.Fraction.{Point, whole}
 use Rattle.delaunay_interface.specs.plane.Location.{Location, on_vertex, IsLocation}
 use Rattle.delaunay_interface.specs.plane.Plain.{Plain, Appends, Inserts, Replaces, points_of}
-use Rattle.delaunay_interface.specs.plane_tiling.Laws.{IsSameLocation}
-use Rattle.delaunay_interface.proofs.plane_tiling.Locations.{each_point_has_one_location}
-use Rattle.delaunay_interface.specs.mesh_embedding.Drawn.{faces_of, edges_of, outer_of}
-use Rattle.delaunay_interface.proofs.mesh_embedding.OwnEdges.{own_edges}
+use Rattle.delaunay_interface.specs.plane_theorems.Tiling.Laws.{IsSameLocation}
+use Rattle.delaunay_interface.proofs.plane_theorems.Tiling.Locations.{each_point_has_one_location}
+use Rattle.delaunay_interface.specs.delaunay_legalization.Drawn.{faces_of, edges_of, outer_of}
+use Rattle.delaunay_interface.proofs.delaunay_legalization_lemmas.OwnEdges.{own_edges}
 use Rattle.delaunay_interface.specs.delaunay_legalization.Constraints.{points_and_constraints_by}
 use Rattle.delaunay_interface.specs.delaunay_legalization.Known.{point_at}
 use Rattle.delaunay_interface.specs.delaunay_legalization.Shape.{IsTriangulated}
@@ -25,9 +25,9 @@ use Rattle.delaunay_interface.specs.delaunay_location.declared.position_in_trian
   NoTriangulation,
 }
 use Rattle.delaunay_interface.specs.delaunay_location.Location.{location_of}
-use Rattle.delaunay_interface.proofs.delaunay_location.Locating.{at_vertex}
-use Rattle.delaunay_interface.specs.Elements.{FindsLocation}
-use Rattle.delaunay_interface.specs.Headline.{IsWellFormed}
+use Rattle.delaunay_interface.proofs.delaunay_location_lemmas.Locating.{at_vertex}
+use Rattle.delaunay_interface.specs.delaunay_edit.Elements.{FindsLocation}
+use Rattle.delaunay_interface.specs.delaunay_edit.Headline.{IsWellFormed}
 
 module _ {V : Type 0} (position : V → Point) (old new : Plain V) (v : V) where
   -- a value that was put in comes last

@@ -3,13 +3,14 @@
 -- unjoined_is_free, joined_by_edge, edge_joined_by, pair_released.
 use Rattle.std.proofs.Common.{◌≡◌, ◌∙◌, ◌*◌, ◌/◌, ◌<◌}
 use Rattle.std.proofs.Common.{ℕ, Bool, List, map, Ok, Err, refl, sym, ap, subst, inl, inr}
-use Rattle.delaunay_interface.specs.half_edge_mesh.Mesh.{origin, rev}
+use Rattle.delaunay_interface.specs.half_edge_links.Mesh.{origin, rev}
 use Rattle.delaunay_interface.specs.plane.Fraction.{Point}
 use Rattle.delaunay_interface.specs.plane.Pairs.{Joins, IsSamePair}
 use Rattle.delaunay_interface.specs.plane.Plain.{Plain, Releases}
-use Rattle.delaunay_interface.proofs.mesh_embedding.EdgePairs.{joins_edge}
-use Rattle.delaunay_interface.proofs.mesh_embedding.MeshLegal.{same_joined, turned_join}
-use Rattle.delaunay_interface.proofs.mesh_embedding.MeshStays.{same_pair_back}
+use Rattle.delaunay_interface.proofs.delaunay_legalization_lemmas.EdgePairs.{joins_edge}
+use Rattle.delaunay_interface.proofs.delaunay_legalization_lemmas.MeshLegal.{same_joined}
+use Rattle.delaunay_interface.proofs.delaunay_legalization_lemmas.MeshLegal.{turned_join}
+use Rattle.delaunay_interface.proofs.delaunay_legalization_lemmas.MeshStays.{same_pair_back}
 use Rattle.delaunay_interface.specs.delaunay_core.declared.math.InsertionError.{InsertionError}
 use Rattle.delaunay_interface.specs.delaunay_legalization.declared.cdt_edge.CdtEdge.{CdtEdge}
 use Rattle.delaunay_interface.specs.delaunay_legalization.CdtEdge.{is_constraint}
@@ -17,10 +18,11 @@ use Rattle.delaunay_interface.specs.delaunay_legalization.Known.{point_at}
 use Rattle.delaunay_interface.specs.delaunay_legalization.Shape.{IsTriangulated}
 use Rattle.delaunay_interface.specs.delaunay_legalization.State.{State}
 use Rattle.delaunay_interface.proofs.delaunay_legalization_lemmas.ConstraintEdges.{constraints_are_edges}
-use Rattle.delaunay_interface.proofs.delaunay_paths_lemmas.AddingPieces.{half_ends}
-use Rattle.delaunay_interface.specs.Constrained.{constrained, constraint_edges, constraints_of}
-use Rattle.delaunay_interface.specs.ConstraintEdits.{AddsConstraint, FreesEdge}
-use Rattle.delaunay_interface.specs.Edits.{InsertsVertex, RemovesVertex}
+use Rattle.delaunay_interface.proofs.delaunay_edit_lemmas.AddingPieces.{half_ends}
+use Rattle.delaunay_interface.specs.delaunay_edit.Constrained.{constrained, constraint_edges}
+use Rattle.delaunay_interface.specs.delaunay_edit.Constrained.{constraints_of}
+use Rattle.delaunay_interface.specs.delaunay_edit.ConstraintEdits.{AddsConstraint, FreesEdge}
+use Rattle.delaunay_interface.specs.delaunay_edit.Edits.{InsertsVertex, RemovesVertex}
 use Rattle.delaunay_interface.specs.Views.{AreNotJoined}
 use Rattle.delaunay_journal.specs.declared.edit.Outcome.TheVariants.{Refused}
 use Rattle.delaunay_journal.specs.declared.edit.PairEdit.{PairEdit}

@@ -1,17 +1,17 @@
 -- What is asked of two vertices is answered alike in either order.
 -- Lemmas: queries_are_symmetric.
 use Rattle.std.proofs.Common.{◌≡◌, ◌<◌, ◌∙◌, ℕ, List, length, sym, ap, subst, inl, inr}
-use Rattle.delaunay_interface.proofs.half_edge_links.Lists.Rev.{rev-rev, rev_within}
-use Rattle.delaunay_interface.specs.half_edge_mesh.Contents.{Contents}
-use Rattle.delaunay_interface.specs.half_edge_mesh.Mesh.{origin, rev}
+use Rattle.delaunay_interface.proofs.half_edge_links_lemmas.Lists.Rev.{rev-rev, rev_within}
+use Rattle.delaunay_interface.specs.half_edge_dcel.Contents.{Contents}
+use Rattle.delaunay_interface.specs.half_edge_links.Mesh.{origin, rev}
 use Rattle.delaunay_interface.specs.plane.Fraction.{Point}
 use Rattle.delaunay_interface.specs.plane.Pairs.{EachPairOnce}
 use Rattle.delaunay_interface.proofs.plane.Indexes.{turned_join}
-use Rattle.delaunay_interface.specs.mesh_embedding.Drawn.{edges_of}
-use Rattle.delaunay_interface.proofs.mesh_embedding.MeshStays.{one_way}
+use Rattle.delaunay_interface.specs.delaunay_legalization.Drawn.{edges_of}
+use Rattle.delaunay_interface.proofs.delaunay_legalization_lemmas.MeshStays.{one_way}
 use Rattle.delaunay_interface.specs.delaunay_legalization.State.{State}
-use Rattle.delaunay_interface.specs.Constrained.{constraints_of}
-use Rattle.delaunay_interface.specs.Headline.{IsWellFormed}
+use Rattle.delaunay_interface.specs.delaunay_edit.Constrained.{constraints_of}
+use Rattle.delaunay_interface.specs.delaunay_edit.Headline.{IsWellFormed}
 use Rattle.delaunay_interface.specs.Views.{AreNotJoined, IsEdgeBetween}
 use Rattle.delaunay_journal.specs.Laws.{QueriesAreSymmetric}
 

@@ -13,12 +13,12 @@ use Rattle.delaunay_interface.specs.plane.Plain.{Carries, AreStraightHalves, Rem
 use Rattle.delaunay_interface.proofs.plane.Means.{turned_mean_of_two}
 use Rattle.delaunay_interface.proofs.plane.Indexes.{turned_join}
 use Rattle.delaunay_interface.proofs.plane.Decisions.{Decision, decide_within_segment}
-use Rattle.delaunay_interface.proofs.plane_tiling.Locations.{no_edges_cross}
-use Rattle.delaunay_interface.specs.mesh_embedding.Drawn.{faces_of, edges_of, outer_of}
-use Rattle.delaunay_interface.proofs.mesh_embedding.OwnEdges.{own_edges}
+use Rattle.delaunay_interface.proofs.plane_theorems.Tiling.Locations.{no_edges_cross}
+use Rattle.delaunay_interface.specs.delaunay_legalization.Drawn.{faces_of, edges_of, outer_of}
+use Rattle.delaunay_interface.proofs.delaunay_legalization_lemmas.OwnEdges.{own_edges}
 use Rattle.delaunay_interface.specs.delaunay_legalization.Constraints.{points_and_constraints_by}
 use Rattle.delaunay_interface.specs.delaunay_legalization.State.{State}
-use Rattle.delaunay_interface.specs.Headline.{IsWellFormed}
+use Rattle.delaunay_interface.specs.delaunay_edit.Headline.{IsWellFormed}
 use Rattle.delaunay_journal.proofs.Inserted.{appended_point, appended_points}
 
 -- without its last entry, which was put in behind it, a list is as it was

@@ -2,19 +2,19 @@
 use Rattle.std.specs.Prelude.{◌≡◌, ◌≢◌, ◌↔◌, ◌<◌, ◌≤◌, [], ◌∷◌, ◌++◌}
 use Rattle.std.specs.Prelude.{ℕ, Bool, true, false, List, length, map, Some, Ok}
 use Rattle.std.specs.Prelude.{Err, IsTrue, slice_get, slice_set}
-use Rattle.delaunay_interface.specs.half_edge_mesh.Mesh.{empty}
+use Rattle.delaunay_interface.specs.half_edge_links.Mesh.{empty}
 use Rattle.delaunay_interface.specs.plane.Fraction.{Point}
 use Rattle.delaunay_interface.specs.plane.Pairs.{Joins, SamePairs}
 use Rattle.delaunay_interface.specs.plane.Plain.{Plain, Edit as PlainEdit, insert, replace, remove}
 use Rattle.delaunay_interface.specs.plane.Plain.{add, release, clear, Adds, CanAdd, IsCleared}
 use Rattle.delaunay_interface.specs.plane.Plain.{Releases, Replaces}
-use Rattle.delaunay_interface.specs.mesh_embedding.Stays.{KeepsIndexes}
+use Rattle.delaunay_interface.specs.delaunay_legalization.Stays.{KeepsIndexes}
 use Rattle.delaunay_interface.specs.delaunay_legalization.Constraints.{constraints_by}
 use Rattle.delaunay_interface.specs.delaunay_legalization.Constraints.{points_and_constraints_by}
 use Rattle.delaunay_interface.specs.delaunay_legalization.Known.{point_at}
 use Rattle.delaunay_interface.specs.delaunay_legalization.State.{State}
-use Rattle.delaunay_interface.specs.delaunay_paths.Adding.{MarksSome}
-use Rattle.delaunay_interface.specs.Edits.{InsertsVertex, RemovesVertex}
+use Rattle.delaunay_interface.specs.delaunay_edit.Adding.{MarksSome}
+use Rattle.delaunay_interface.specs.delaunay_edit.Edits.{InsertsVertex, RemovesVertex}
 use Rattle.delaunay_journal.specs.declared.edit.Edit.{Edit}
 use Rattle.delaunay_journal.specs.declared.edit.Edit.TheVariants.{Insert, Remove, Replace, Clear}
 use Rattle.delaunay_journal.specs.declared.edit.Edit.TheVariants.{AddConstraint, ReleaseConstraint}

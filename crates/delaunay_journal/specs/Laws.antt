@@ -1,7 +1,7 @@
 -- What follows of several calls.
 use Rattle.std.specs.Prelude.{◌≡◌, ◌↔◌, ◌<◌, ℕ, List, length}
-use Rattle.delaunay_interface.specs.half_edge_mesh.Contents.{Contents}
-use Rattle.delaunay_interface.specs.half_edge_mesh.Mesh.{rev}
+use Rattle.delaunay_interface.specs.half_edge_dcel.Contents.{Contents}
+use Rattle.delaunay_interface.specs.half_edge_links.Mesh.{rev}
 use Rattle.delaunay_interface.specs.plane.Fraction.{Point}
 use Rattle.delaunay_interface.specs.plane.Pairs.{Joins}
 use Rattle.delaunay_interface.specs.plane.Plain.{Plain, IsSameState, Appends, Inserts, Removes}
@@ -10,9 +10,9 @@ use Rattle.delaunay_interface.specs.delaunay_legalization.Constraints.{points_an
 use Rattle.delaunay_interface.specs.delaunay_legalization.State.{State}
 use Rattle.delaunay_interface.specs.delaunay_location.declared.position_in_triangulation.PositionInTriangulation.{PositionInTriangulation}
 use Rattle.delaunay_interface.specs.delaunay_location.declared.position_in_triangulation.PositionInTriangulation.TheVariants.{OnVertex}
-use Rattle.delaunay_interface.specs.Constrained.{constraints_of}
-use Rattle.delaunay_interface.specs.Elements.{FindsLocation}
-use Rattle.delaunay_interface.specs.Headline.{IsWellFormed}
+use Rattle.delaunay_interface.specs.delaunay_edit.Constrained.{constraints_of}
+use Rattle.delaunay_interface.specs.delaunay_edit.Elements.{FindsLocation}
+use Rattle.delaunay_interface.specs.delaunay_edit.Headline.{IsWellFormed}
 use Rattle.delaunay_interface.specs.Views.{AreNotJoined, IsEdgeBetween}
 
 -- after an insertion that gave the vertex i, whether it was put in or took the place of another,

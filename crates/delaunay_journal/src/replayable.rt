@@ -1,6 +1,6 @@
 //! The types on which lists of edits are replayed, and the edits of their constraints.
 ghost use Rattle.std.specs.Prelude.{◌≡◌};
-ghost use Rattle.delaunay_interface.specs.Headline.{AreSites, IsDelaunay};
+ghost use Rattle.delaunay_interface.specs.delaunay_edit.Headline.{AreSites, IsDelaunay};
 ghost use Rattle.delaunay_journal.specs.Journal.{Gives, edit_of};
 ghost use Rattle.delaunay_journal.specs.Marking.{Marking, flag_marking, no_marking};
 

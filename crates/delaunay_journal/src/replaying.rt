@@ -3,7 +3,7 @@ ghost use Rattle.std.specs.Prelude.{◌≡◌, Contains, IfOk, OnErr};
 ghost use Rattle.delaunay_interface.specs.plane.Plain.{Run};
 ghost use Rattle.delaunay_interface.specs.plane.Tests.{InRange};
 ghost use Rattle.delaunay_interface.specs.delaunay_legalization.Constraints.{points_and_constraints_by};
-ghost use Rattle.delaunay_interface.specs.Headline.{AreSites, IsDelaunay};
+ghost use Rattle.delaunay_interface.specs.delaunay_edit.Headline.{AreSites, IsDelaunay};
 ghost use Rattle.delaunay_journal.specs.declared.edit.Edit.TheVariants.{Insert};
 ghost use Rattle.delaunay_journal.specs.Journal.{Replays, edits_made};
 

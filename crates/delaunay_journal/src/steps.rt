@@ -2,7 +2,7 @@
 ghost use Rattle.std.specs.Prelude.{◌≡◌, ◌↔◌, map, IsTrue};
 ghost use Rattle.delaunay_interface.specs.plane.Tests.{InRange};
 ghost use Rattle.delaunay_interface.specs.delaunay_core.Place.{place_of};
-ghost use Rattle.delaunay_interface.specs.Headline.{AreSites, IsDelaunay};
+ghost use Rattle.delaunay_interface.specs.delaunay_edit.Headline.{AreSites, IsDelaunay};
 ghost use Rattle.delaunay_journal.specs.declared.edit.Edit.TheVariants.{Insert, Remove, Replace};
 ghost use Rattle.delaunay_journal.specs.Journal.{Gives};
 

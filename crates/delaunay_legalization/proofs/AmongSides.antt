@@ -5,10 +5,10 @@ use Rattle.std.proofs.Common.{◌≡◌, ℕ, ◌+◌, ◌/◌, ◌≤◌, List}
 use Rattle.std.proofs.Common.{length, get_or, sym, ap, ◌∙◌, subst, arith, inl, inr}
 use Rattle.std.specs.Prelude.{◌<◌, Contains}
 use Rattle.std.proofs.lemmas.Bool.{cases_eq}
-use Rattle.mesh_embedding.specs.half_edge_mesh.Mesh.{Mesh, next, prev, rev}
-use Rattle.mesh_embedding.specs.plane.Fraction.{Point}
-use Rattle.mesh_embedding.proofs.plane_tiling.Totals.{get_or_any}
-use Rattle.mesh_embedding.specs.Legal.{Gains}
+use Rattle.delaunay_legalization.specs.half_edge_links.Mesh.{Mesh, next, prev, rev}
+use Rattle.delaunay_legalization.specs.plane.Fraction.{Point}
+use Rattle.delaunay_legalization.proofs.plane_theorems.Tiling.Totals.{get_or_any}
+use Rattle.delaunay_legalization.specs.Legal.{Gains}
 use Rattle.delaunay_legalization.specs.Among.{FailOnlyOf}
 use Rattle.delaunay_legalization.specs.Pushing.{GainsAmong, GainsRoundAmong}
 

@@ -4,28 +4,29 @@ use Rattle.std.proofs.Common.{◌≡◌, ◌⊎◌, ℕ, ◌*◌, ◌/◌, ◌<�
 use Rattle.std.proofs.Common.{length, refl, sym, ap, ◌∙◌, subst, arith}
 use mathlib.Core.Logic.{◌≢◌, inl, inr}
 use Rattle.std.specs.Prelude.{Contains}
-use Rattle.mesh_embedding.specs.half_edge_mesh.Mesh.{Mesh, origin, next, prev, face, rev, edge_at}
-use Rattle.mesh_embedding.specs.half_edge_mesh.Mesh.{IsValidMesh}
-use Rattle.mesh_embedding.specs.half_edge_mesh.Flip.{IsFlippable, Flips, flipped}
-use Rattle.mesh_embedding.proofs.half_edge_links.Lists.Rev.{rev-rev, rev_within}
-use Rattle.mesh_embedding.specs.half_edge_links.Places.{AreSixPlaces}
-use Rattle.mesh_embedding.proofs.half_edge_links.Sound.Triangles as T
-use Rattle.mesh_embedding.proofs.half_edge_links.Faces.FlipLemmas.{flips}
-use Rattle.mesh_embedding.proofs.half_edge_links.Faces.FlipSound.{origin_kept}
-use Rattle.mesh_embedding.proofs.plane.Centre.{circle_turned}
-use Rattle.mesh_embedding.specs.plane.Circle.{InsideCircle}
-use Rattle.mesh_embedding.specs.plane.Fraction.{Point}
-use Rattle.mesh_embedding.specs.plane.Pairs.{place}
-use Rattle.mesh_embedding.specs.plane_tiling.Local.{LocalMesh, IsMesh}
-use Rattle.mesh_embedding.proofs.plane_tiling.Tiles.{point_at}
-use Rattle.mesh_embedding.specs.plane_edits.Change.{IsFaceOf}
-use Rattle.mesh_embedding.proofs.plane_edits.Legalization.Flipping.{one_question}
-use Rattle.mesh_embedding.proofs.plane_edits.LocalMesh.Kept.{turning_of, index_of}
-use Rattle.mesh_embedding.specs.Drawn.{faces_of, outer_of}
-use Rattle.mesh_embedding.specs.Legal.{AreEdges, IsFailing, IsPartlyLegal, Gains, GainsRound}
-use Rattle.mesh_embedding.proofs.MeshEdits.{face_before, face_behind}
-use Rattle.mesh_embedding.proofs.MeshLegal as M
-use Rattle.mesh_embedding.proofs.TurnedEnds.{KeepsOtherOrigins}
+use Rattle.delaunay_legalization.specs.half_edge_links.Mesh.{Mesh, origin, next, prev, face, rev}
+use Rattle.delaunay_legalization.specs.half_edge_links.Mesh.{edge_at}
+use Rattle.delaunay_legalization.specs.half_edge_links.Mesh.{IsValidMesh}
+use Rattle.delaunay_legalization.specs.half_edge_links.Flip.{IsFlippable, Flips, flipped}
+use Rattle.delaunay_legalization.proofs.half_edge_links_lemmas.Lists.Rev.{rev-rev, rev_within}
+use Rattle.delaunay_legalization.specs.half_edge_links.Places.{AreSixPlaces}
+use Rattle.delaunay_legalization.proofs.half_edge_links_lemmas.Sound.Triangles as T
+use Rattle.delaunay_legalization.proofs.half_edge_links_lemmas.Faces.FlipLemmas.{flips}
+use Rattle.delaunay_legalization.proofs.half_edge_links_lemmas.Faces.FlipSound.{origin_kept}
+use Rattle.delaunay_legalization.proofs.plane.Centre.{circle_turned}
+use Rattle.delaunay_legalization.specs.plane.Circle.{InsideCircle}
+use Rattle.delaunay_legalization.specs.plane.Fraction.{Point}
+use Rattle.delaunay_legalization.specs.plane.Pairs.{place}
+use Rattle.delaunay_legalization.specs.plane_theorems.Tiling.Local.{LocalMesh, IsMesh}
+use Rattle.delaunay_legalization.proofs.plane_theorems.Tiling.Tiles.{point_at}
+use Rattle.delaunay_legalization.specs.plane_theorems.Edits.Change.{IsFaceOf}
+use Rattle.delaunay_legalization.proofs.plane_theorems.Edits.Legalization.Flipping.{one_question}
+use Rattle.delaunay_legalization.proofs.plane_theorems.Edits.LocalMesh.Kept.{turning_of, index_of}
+use Rattle.delaunay_legalization.specs.Drawn.{faces_of, outer_of}
+use Rattle.delaunay_legalization.specs.Legal.{AreEdges, IsFailing, IsPartlyLegal, Gains, GainsRound}
+use Rattle.delaunay_legalization.proofs.MeshEdits.{face_before, face_behind}
+use Rattle.delaunay_legalization.proofs.MeshLegal as M
+use Rattle.delaunay_legalization.proofs.TurnedEnds.{KeepsOtherOrigins}
 use Rattle.delaunay_legalization.specs.Among.{IsQuiet, IsQuietEdge, FailOnlyOf}
 use Rattle.delaunay_legalization.specs.Pushing.{GainsRoundAmong}
 use Rattle.delaunay_legalization.proofs.FarSides.{listed_or_not}

@@ -11,7 +11,7 @@ use Rattle.std.proofs.lemmas.Bool.{ne_eqb, cases_eq, cases_lt}
 use Rattle.std.proofs.lemmas.List.{get_or-set_same, get_or-set_other, get_or_past}
 use Rattle.std.proofs.lemmas.Nat.Bits.{bit_at-zero, bit_at_set_same, bit_at_set_other}
 use Rattle.std.proofs.lemmas.Nat.Bits.{bit_at_clear_same, bit_at_clear_other, shr_and_one}
-use Rattle.mesh_embedding.proofs.plane_tiling.Totals.{get_or_any}
+use Rattle.delaunay_legalization.proofs.plane_theorems.Tiling.Totals.{get_or_any}
 use Rattle.delaunay_legalization.specs.Bits.{has_bit}
 
 -- the bit of a place that is not there is not set

@@ -4,17 +4,17 @@
 use Rattle.std.proofs.Common.{◌≡◌, ◌⊎◌, ◌*◌, ◌/◌, ◌<◌, ◌∙◌, ℕ, Bool, true, false, List, length, map}
 use Rattle.std.proofs.Common.{refl, sym, ap, subst, inl, inr, arith}
 use Rattle.std.specs.Prelude.{◌↔◌, ℤ, IsTrue}
-use Rattle.mesh_embedding.specs.half_edge_mesh.Contents.{Contents}
-use Rattle.mesh_embedding.specs.half_edge_mesh.Mesh.{Mesh, origin, next, prev, face, rev}
-use Rattle.mesh_embedding.specs.plane.Circle.{InsideCircle}
-use Rattle.mesh_embedding.specs.plane.Fraction.{Point, whole}
-use Rattle.mesh_embedding.specs.plane.Pairs.{Joins}
-use Rattle.mesh_embedding.specs.plane.Side.{TurnsLeft}
-use Rattle.mesh_embedding.proofs.plane_edits.LocalMesh.Kept.{turning_of}
-use Rattle.mesh_embedding.specs.Drawn.{faces_of, outer_of}
-use Rattle.mesh_embedding.specs.Legal.{IsFailing}
-use Rattle.mesh_embedding.proofs.MeshEdits.{face_before}
-use Rattle.mesh_embedding.proofs.MeshLegal as M
+use Rattle.delaunay_legalization.specs.half_edge_dcel.Contents.{Contents}
+use Rattle.delaunay_legalization.specs.half_edge_links.Mesh.{Mesh, origin, next, prev, face, rev}
+use Rattle.delaunay_legalization.specs.plane.Circle.{InsideCircle}
+use Rattle.delaunay_legalization.specs.plane.Fraction.{Point, whole}
+use Rattle.delaunay_legalization.specs.plane.Pairs.{Joins}
+use Rattle.delaunay_legalization.specs.plane.Side.{TurnsLeft}
+use Rattle.delaunay_legalization.proofs.plane_theorems.Edits.LocalMesh.Kept.{turning_of}
+use Rattle.delaunay_legalization.specs.Drawn.{faces_of, outer_of}
+use Rattle.delaunay_legalization.specs.Legal.{IsFailing}
+use Rattle.delaunay_legalization.proofs.MeshEdits.{face_before}
+use Rattle.delaunay_legalization.proofs.MeshLegal as M
 use Rattle.delaunay_core.specs.Place.{place_of}
 use Rattle.delaunay_legalization.specs.Around.{CanTurn, IsOpposite, Stays}
 use Rattle.delaunay_legalization.specs.Known.{point_at, IsVertexSite}

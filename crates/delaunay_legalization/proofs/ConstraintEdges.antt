@@ -3,12 +3,12 @@
 use Rattle.std.proofs.Common.{◌≡◌, ℕ, ◌*◌, List, length, subst, inl, inr}
 use Rattle.std.specs.Prelude.{Bool, Contains}
 use Rattle.std.specs.List.{range_with_len}
-use Rattle.mesh_embedding.specs.half_edge_mesh.Mesh.{Mesh, IsValidMesh}
-use Rattle.mesh_embedding.specs.plane.Pairs.{Joins}
-use Rattle.mesh_embedding.specs.Drawn.{edges_of}
-use Rattle.mesh_embedding.specs.Legal.{pair_at}
-use Rattle.mesh_embedding.proofs.Entries.{index_listed}
-use Rattle.mesh_embedding.proofs.WorkLists.{contains_map, contains_map_from}
+use Rattle.delaunay_legalization.specs.half_edge_links.Mesh.{Mesh, IsValidMesh}
+use Rattle.delaunay_legalization.specs.plane.Pairs.{Joins}
+use Rattle.delaunay_legalization.specs.Drawn.{edges_of}
+use Rattle.delaunay_legalization.specs.Legal.{pair_at}
+use Rattle.delaunay_legalization.proofs.Entries.{index_listed}
+use Rattle.delaunay_legalization.proofs.WorkLists.{contains_map, contains_map_from}
 use Rattle.delaunay_legalization.specs.Constraints.{marked_edges, constraint_pairs}
 use Rattle.delaunay_legalization.proofs.Constraints.{fixed_within}
 use Rattle.delaunay_legalization.proofs.WorkList.{pairs_are_edges}

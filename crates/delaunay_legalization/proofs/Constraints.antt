@@ -6,9 +6,10 @@ use Rattle.std.proofs.Common.{arith}
 use mathlib.Core.Logic.{inl, inr}
 use Rattle.std.specs.Prelude.{Contains, Some, slice_get, if◌then◌else◌}
 use Rattle.std.proofs.lemmas.Option.{slice_get_within}
-use Rattle.mesh_embedding.proofs.plane_tiling.Totals.{Contains-head, Contains-later, Contains-none}
-use Rattle.mesh_embedding.proofs.plane_tiling.Totals.{Contains-cases}
-use Rattle.mesh_embedding.proofs.Entries.{one_value}
+use Rattle.delaunay_legalization.proofs.plane_theorems.Tiling.Totals.{Contains-head, Contains-later}
+use Rattle.delaunay_legalization.proofs.plane_theorems.Tiling.Totals.{Contains-none}
+use Rattle.delaunay_legalization.proofs.plane_theorems.Tiling.Totals.{Contains-cases}
+use Rattle.delaunay_legalization.proofs.Entries.{one_value}
 use Rattle.delaunay_legalization.specs.Constraints.{marked_from, marked_edges}
 
 later : (b : Bool) (k : ℕ) (ks : List ℕ) (j : ℕ) → Contains ks j

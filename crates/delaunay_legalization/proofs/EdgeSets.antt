@@ -11,9 +11,9 @@ use Rattle.std.proofs.lemmas.List.{length-append, length-replicate, take_all}
 use Rattle.delaunay_legalization.specs.Bits.{has_bit}
 use Rattle.delaunay_legalization.specs.EdgeSet.{AreFlagged}
 use Rattle.delaunay_legalization.proofs.Bits.{bit_told, bit_within, bits_grown}
-use Rattle.mesh_embedding.proofs.WorkLists.{once_after, once_before, last_not_before}
-use Rattle.mesh_embedding.proofs.WorkLists.{at_most_so_many, contains_last, contains_before}
-use Rattle.mesh_embedding.proofs.WorkLists.{last_or_before}
+use Rattle.delaunay_legalization.proofs.WorkLists.{once_after, once_before, last_not_before}
+use Rattle.delaunay_legalization.proofs.WorkLists.{at_most_so_many, contains_last, contains_before}
+use Rattle.delaunay_legalization.proofs.WorkLists.{last_or_before}
 
 -- ---- what flags tell
 -- no flag is both

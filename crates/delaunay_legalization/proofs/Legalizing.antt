@@ -6,23 +6,23 @@ use Rattle.std.proofs.Common.{◌≡◌, ◌+◌, ◌-◌, ◌*◌, ◌/◌, ◌
 use Rattle.std.proofs.Common.{ℕ, suc, List, length, map, refl, sym, ap, subst, arith}
 use mathlib.Core.Logic.{◌≢◌}
 use Rattle.std.specs.Prelude.{Contains, take}
-use Rattle.mesh_embedding.specs.half_edge_mesh.Contents.{Contents}
-use Rattle.mesh_embedding.specs.half_edge_mesh.Mesh.{Mesh, origin, next, prev, rev}
-use Rattle.mesh_embedding.specs.half_edge_mesh.Mesh.{IsValidMesh}
-use Rattle.mesh_embedding.specs.half_edge_mesh.Flip.{IsFlippable, flipped}
-use Rattle.mesh_embedding.proofs.half_edge_links.Faces.FlipLemmas.{flips}
-use Rattle.mesh_embedding.specs.plane.Fraction.{Point}
-use Rattle.mesh_embedding.specs.plane_tiling.Local.{LocalMesh, IsMesh}
-use Rattle.mesh_embedding.specs.plane.Delaunay.{IsLocallyDelaunay}
-use Rattle.mesh_embedding.specs.plane_edits.Legal.{AllPassBut}
-use Rattle.mesh_embedding.proofs.plane_edits.Legalization.Flipping.{none_left}
+use Rattle.delaunay_legalization.specs.half_edge_dcel.Contents.{Contents}
+use Rattle.delaunay_legalization.specs.half_edge_links.Mesh.{Mesh, origin, next, prev, rev}
+use Rattle.delaunay_legalization.specs.half_edge_links.Mesh.{IsValidMesh}
+use Rattle.delaunay_legalization.specs.half_edge_links.Flip.{IsFlippable, flipped}
+use Rattle.delaunay_legalization.proofs.half_edge_links_lemmas.Faces.FlipLemmas.{flips}
+use Rattle.delaunay_legalization.specs.plane.Fraction.{Point}
+use Rattle.delaunay_legalization.specs.plane_theorems.Tiling.Local.{LocalMesh, IsMesh}
+use Rattle.delaunay_legalization.specs.plane.Delaunay.{IsLocallyDelaunay}
+use Rattle.delaunay_legalization.specs.plane_theorems.Edits.Legal.{AllPassBut}
+use Rattle.delaunay_legalization.proofs.plane_theorems.Edits.Legalization.Flipping.{none_left}
 use Rattle.std.proofs.lemmas.List.{length-map}
-use Rattle.mesh_embedding.specs.Drawn.{drawn, faces_of, edges_of, outer_of}
-use Rattle.mesh_embedding.specs.Legal.{AreEdges, IsFailing, IsPartlyLegal, Gains, GainsRound}
-use Rattle.mesh_embedding.specs.Legal.{pairs_at, steps_left}
-use Rattle.mesh_embedding.specs.Stays.{KeepsIndexes}
-use Rattle.mesh_embedding.proofs.MeshLegal as M
-use Rattle.mesh_embedding.proofs.WorkLists.{contains_last}
+use Rattle.delaunay_legalization.specs.Drawn.{drawn, faces_of, edges_of, outer_of}
+use Rattle.delaunay_legalization.specs.Legal.{AreEdges, IsFailing, IsPartlyLegal, Gains, GainsRound}
+use Rattle.delaunay_legalization.specs.Legal.{pairs_at, steps_left}
+use Rattle.delaunay_legalization.specs.Stays.{KeepsIndexes}
+use Rattle.delaunay_legalization.proofs.MeshLegal as M
+use Rattle.delaunay_legalization.proofs.WorkLists.{contains_last}
 use Rattle.delaunay_legalization.specs.Constraints.{constraint_pairs}
 use Rattle.delaunay_legalization.specs.Shape.{IsTriangulated}
 use Rattle.delaunay_legalization.specs.State.{State}

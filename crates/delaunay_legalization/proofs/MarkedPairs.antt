@@ -7,13 +7,13 @@ use Rattle.std.proofs.Common.{get_or, set, refl, sym, ap, ◌∙◌, subst, inl,
 use Rattle.std.specs.Prelude.{Contains, Some, slice_get}
 use Rattle.std.proofs.lemmas.Bool.{cases_eq}
 use Rattle.std.proofs.lemmas.Option.{slice_get_within, slice_get-get_or}
-use Rattle.mesh_embedding.specs.half_edge_mesh.Mesh.{Mesh, origin, rev}
-use Rattle.mesh_embedding.specs.plane.Pairs.{Joins, IsSamePair}
-use Rattle.mesh_embedding.specs.Legal.{pair_at}
-use Rattle.mesh_embedding.specs.Stays.{GoSameWay}
-use Rattle.mesh_embedding.proofs.Entries.{one_value, some_entry}
-use Rattle.mesh_embedding.proofs.MeshStays.{slice_get-set_other}
-use Rattle.mesh_embedding.proofs.WorkLists.{contains_map, contains_map_from, same_map}
+use Rattle.delaunay_legalization.specs.half_edge_links.Mesh.{Mesh, origin, rev}
+use Rattle.delaunay_legalization.specs.plane.Pairs.{Joins, IsSamePair}
+use Rattle.delaunay_legalization.specs.Legal.{pair_at}
+use Rattle.delaunay_legalization.specs.Stays.{GoSameWay}
+use Rattle.delaunay_legalization.proofs.Entries.{one_value, some_entry}
+use Rattle.delaunay_legalization.proofs.MeshStays.{slice_get-set_other}
+use Rattle.delaunay_legalization.proofs.WorkLists.{contains_map, contains_map_from, same_map}
 use Rattle.delaunay_legalization.specs.Constraints.{marked_edges, constraint_pairs, not_both}
 use Rattle.delaunay_legalization.proofs.Constraints.{is_constraint_edge, fixed_edge_is}
 use Rattle.delaunay_legalization.proofs.Constraints.{fixed_within}

@@ -5,25 +5,26 @@ use Rattle.std.proofs.Common.{ℕ, List, length, map, refl, ap, subst, inl, inr,
 use Rattle.std.specs.Prelude.{Contains, pos}
 use Rattle.std.proofs.lemmas.List.Elements.{All-get_or, All-map}
 use Rattle.std.proofs.lemmas.List.{length-map, get_or-map}
-use Rattle.mesh_embedding.specs.half_edge_mesh.Mesh.{Mesh, origin, next, prev, face_edge, rev}
-use Rattle.mesh_embedding.specs.half_edge_mesh.Triangles.{triangle_at, triangles}
-use Rattle.mesh_embedding.proofs.half_edge_links.Lists.Rev.{rev_within}
-use Rattle.mesh_embedding.specs.plane.Fraction.{Point}
-use Rattle.mesh_embedding.specs.plane.Tests.{InRange}
-use Rattle.mesh_embedding.specs.plane.Pairs.{place}
-use Rattle.mesh_embedding.specs.plane.Side.{TurnsLeft}
-use Rattle.mesh_embedding.specs.plane.Tiling.{IsTiling, IsFace, HasFace}
-use Rattle.mesh_embedding.specs.plane.Tiling as T
-use Rattle.mesh_embedding.specs.plane_tiling.Local.{IsMesh}
-use Rattle.mesh_embedding.proofs.plane_tiling.Totals.{Contains-none}
-use Rattle.mesh_embedding.proofs.plane_tiling.Tiles.{by_signs, point_at}
-use Rattle.mesh_embedding.proofs.plane_tiling.Loops as L
-use Rattle.mesh_embedding.specs.Drawn.{drawn, faces_of, outer_of, corners_of}
-use Rattle.mesh_embedding.proofs.OuterEdges.{listed}
+use Rattle.delaunay_legalization.specs.half_edge_links.Mesh.{Mesh, origin, next, prev, face_edge}
+use Rattle.delaunay_legalization.specs.half_edge_links.Mesh.{rev}
+use Rattle.delaunay_legalization.specs.half_edge_links.Triangles.{triangle_at, triangles}
+use Rattle.delaunay_legalization.proofs.half_edge_links_lemmas.Lists.Rev.{rev_within}
+use Rattle.delaunay_legalization.specs.plane.Fraction.{Point}
+use Rattle.delaunay_legalization.specs.plane.Tests.{InRange}
+use Rattle.delaunay_legalization.specs.plane.Pairs.{place}
+use Rattle.delaunay_legalization.specs.plane.Side.{TurnsLeft}
+use Rattle.delaunay_legalization.specs.plane.Tiling.{IsTiling, IsFace, HasFace}
+use Rattle.delaunay_legalization.specs.plane.Tiling as T
+use Rattle.delaunay_legalization.specs.plane_theorems.Tiling.Local.{IsMesh}
+use Rattle.delaunay_legalization.proofs.plane_theorems.Tiling.Totals.{Contains-none}
+use Rattle.delaunay_legalization.proofs.plane_theorems.Tiling.Tiles.{by_signs, point_at}
+use Rattle.delaunay_legalization.proofs.plane_theorems.Tiling.Loops as L
+use Rattle.delaunay_legalization.specs.Drawn.{drawn, faces_of, outer_of, corners_of}
+use Rattle.delaunay_legalization.proofs.OuterEdges.{listed}
 use Rattle.delaunay_legalization.specs.State.{State}
 use Rattle.delaunay_legalization.specs.Shape.{IsTriangulated}
 use Rattle.delaunay_legalization.specs.Parts.{IsMeshEdge, IsMeshFace}
-use Rattle.mesh_embedding.proofs.EdgePairs.{edge_joins, Contains-map}
+use Rattle.delaunay_legalization.proofs.EdgePairs.{edge_joins, Contains-map}
 use Rattle.delaunay_legalization.proofs.Shapes.{laid_out_tiles, laid_out_distinct}
 
 -- there is no face where there is none in the list

@@ -2,20 +2,21 @@
 -- Notions: HasOpposite; opposite_begins.
 use Rattle.std.proofs.Common.{◌<◌, ◌≡◌, length, ℕ, ◌/◌, List, ◌∙◌, subst}
 use Rattle.std.specs.Prelude.{Contains}
-use Rattle.mesh_embedding.specs.half_edge_mesh.Mesh.{Mesh, AreSoundLinks, origin, next, prev, rev}
-use Rattle.mesh_embedding.proofs.half_edge_links.Sound.Triangles as T
-use Rattle.mesh_embedding.specs.plane.Fraction.{Point}
-use Rattle.mesh_embedding.specs.plane.Pairs.{Joins}
-use Rattle.mesh_embedding.specs.plane_tiling.Local.{IsMesh}
-use Rattle.mesh_embedding.specs.plane_edits.Change.{IsFaceOf}
-use Rattle.mesh_embedding.specs.plane_edits.EmptyRound.{IsEmptyRound}
-use Rattle.mesh_embedding.specs.plane_edits.Legal.{AllPassBut}
-use Rattle.mesh_embedding.proofs.plane_edits.Legalization.EmptyRound.{opposite_left}
-use Rattle.mesh_embedding.specs.Drawn.{faces_of, outer_of}
-use Rattle.mesh_embedding.specs.Legal.{pairs_at}
-use Rattle.mesh_embedding.proofs.MeshLegal.{joins_directed}
-use Rattle.mesh_embedding.proofs.MeshStars.{edge_of_face}
-use Rattle.mesh_embedding.proofs.TurnedEnds.{ends_at_next}
+use Rattle.delaunay_legalization.specs.half_edge_links.Mesh.{Mesh, AreSoundLinks, origin, next}
+use Rattle.delaunay_legalization.specs.half_edge_links.Mesh.{prev, rev}
+use Rattle.delaunay_legalization.proofs.half_edge_links_lemmas.Sound.Triangles as T
+use Rattle.delaunay_legalization.specs.plane.Fraction.{Point}
+use Rattle.delaunay_legalization.specs.plane.Pairs.{Joins}
+use Rattle.delaunay_legalization.specs.plane_theorems.Tiling.Local.{IsMesh}
+use Rattle.delaunay_legalization.specs.plane_theorems.Edits.Change.{IsFaceOf}
+use Rattle.delaunay_legalization.specs.plane_theorems.Edits.EmptyRound.{IsEmptyRound}
+use Rattle.delaunay_legalization.specs.plane_theorems.Edits.Legal.{AllPassBut}
+use Rattle.delaunay_legalization.proofs.plane_theorems.Edits.Legalization.EmptyRound.{opposite_left}
+use Rattle.delaunay_legalization.specs.Drawn.{faces_of, outer_of}
+use Rattle.delaunay_legalization.specs.Legal.{pairs_at}
+use Rattle.delaunay_legalization.proofs.MeshLegal.{joins_directed}
+use Rattle.delaunay_legalization.proofs.MeshStars.{edge_of_face}
+use Rattle.delaunay_legalization.proofs.TurnedEnds.{ends_at_next}
 
 -- the edges opposite vertex v, in the loops of the edges that start there, are among ks
 abbrev pub HasOpposite : Mesh → ℕ → List ℕ → Type 0

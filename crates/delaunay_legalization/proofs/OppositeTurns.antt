@@ -4,26 +4,27 @@
 use Rattle.std.proofs.Common.{◌≡◌, ℕ, ◌*◌, ◌/◌, ◌<◌, List, length, sym, ap, ◌∙◌, subst}
 use mathlib.Core.Logic.{◌≢◌, inl, inr}
 use Rattle.std.proofs.lemmas.Bool.{cases_eq}
-use Rattle.mesh_embedding.specs.half_edge_mesh.Mesh.{Mesh, origin, next, prev, face, rev, edge_at}
-use Rattle.mesh_embedding.specs.half_edge_mesh.Mesh.{HasLinks, IsValidMesh}
-use Rattle.mesh_embedding.specs.half_edge_mesh.Flip.{Flips, flipped}
-use Rattle.mesh_embedding.specs.half_edge_links.declared.records.HalfEdge.{HalfEdge}
-use Rattle.mesh_embedding.proofs.half_edge_links.Faces.FlipLemmas.{flips_is}
-use Rattle.mesh_embedding.proofs.half_edge_links.Faces.FlipSound.{IsOffFlip}
-use Rattle.mesh_embedding.proofs.half_edge_links.Lists.Rev.{rev-rev, rev_within}
-use Rattle.mesh_embedding.proofs.half_edge_links.Sound.Triangles as T
-use Rattle.mesh_embedding.specs.plane.Circle.{InsideCircle}
-use Rattle.mesh_embedding.specs.plane.Fraction.{Point}
-use Rattle.mesh_embedding.specs.plane.Pairs.{place}
-use Rattle.mesh_embedding.specs.plane_tiling.Local.{LocalMesh, IsMesh}
-use Rattle.mesh_embedding.proofs.plane_tiling.Counting.{corners_differ}
-use Rattle.mesh_embedding.proofs.plane_tiling.Covering as C
-use Rattle.mesh_embedding.proofs.plane_tiling.Tiles.{point_at, by_signs}
-use Rattle.mesh_embedding.specs.Drawn.{faces_of, outer_of}
-use Rattle.mesh_embedding.specs.Legal.{IsFailing}
-use Rattle.mesh_embedding.proofs.MeshEdits.{face_before}
-use Rattle.mesh_embedding.proofs.MeshLegal as M
-use Rattle.mesh_embedding.proofs.MeshStays.{halved}
+use Rattle.delaunay_legalization.specs.half_edge_links.Mesh.{Mesh, origin, next, prev, face, rev}
+use Rattle.delaunay_legalization.specs.half_edge_links.Mesh.{edge_at}
+use Rattle.delaunay_legalization.specs.half_edge_links.Mesh.{HasLinks, IsValidMesh}
+use Rattle.delaunay_legalization.specs.half_edge_links.Flip.{Flips, flipped}
+use Rattle.delaunay_legalization.specs.half_edge_links.declared.records.HalfEdge.{HalfEdge}
+use Rattle.delaunay_legalization.proofs.half_edge_links_lemmas.Faces.FlipLemmas.{flips_is}
+use Rattle.delaunay_legalization.proofs.half_edge_links_lemmas.Faces.FlipSound.{IsOffFlip}
+use Rattle.delaunay_legalization.proofs.half_edge_links_lemmas.Lists.Rev.{rev-rev, rev_within}
+use Rattle.delaunay_legalization.proofs.half_edge_links_lemmas.Sound.Triangles as T
+use Rattle.delaunay_legalization.specs.plane.Circle.{InsideCircle}
+use Rattle.delaunay_legalization.specs.plane.Fraction.{Point}
+use Rattle.delaunay_legalization.specs.plane.Pairs.{place}
+use Rattle.delaunay_legalization.specs.plane_theorems.Tiling.Local.{LocalMesh, IsMesh}
+use Rattle.delaunay_legalization.proofs.plane_theorems.Tiling.Counting.{corners_differ}
+use Rattle.delaunay_legalization.proofs.plane_theorems.Tiling.Covering as C
+use Rattle.delaunay_legalization.proofs.plane_theorems.Tiling.Tiles.{point_at, by_signs}
+use Rattle.delaunay_legalization.specs.Drawn.{faces_of, outer_of}
+use Rattle.delaunay_legalization.specs.Legal.{IsFailing}
+use Rattle.delaunay_legalization.proofs.MeshEdits.{face_before}
+use Rattle.delaunay_legalization.proofs.MeshLegal as M
+use Rattle.delaunay_legalization.proofs.MeshStays.{halved}
 use Rattle.delaunay_legalization.proofs.AmongSteps.{right_by_edges}
 use Rattle.delaunay_legalization.proofs.Spokes.{ComesBetween}
 

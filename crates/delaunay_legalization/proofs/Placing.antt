@@ -1,14 +1,14 @@
 -- A mesh over its points through a flip.
 -- Lemma: kept_flipped.
 use Rattle.std.proofs.Common.{◌≡◌, ℕ, ◌<◌, length, map, sym, subst, inl}
-use Rattle.mesh_embedding.specs.half_edge_mesh.Contents.{Contents, FitsMesh, IsMeshWithData}
-use Rattle.mesh_embedding.specs.half_edge_mesh.Mesh.{Mesh}
-use Rattle.mesh_embedding.specs.half_edge_mesh.Flip.{flipped}
-use Rattle.mesh_embedding.specs.plane.Fraction.{Point}
-use Rattle.mesh_embedding.specs.plane_tiling.Local.{IsMesh}
-use Rattle.mesh_embedding.specs.Drawn.{faces_of, outer_of}
-use Rattle.mesh_embedding.specs.Legal.{IsFailing}
-use Rattle.mesh_embedding.proofs.MeshLegal.{flip_is_local, local_of}
+use Rattle.delaunay_legalization.specs.half_edge_dcel.Contents.{Contents, FitsMesh, IsMeshWithData}
+use Rattle.delaunay_legalization.specs.half_edge_links.Mesh.{Mesh}
+use Rattle.delaunay_legalization.specs.half_edge_links.Flip.{flipped}
+use Rattle.delaunay_legalization.specs.plane.Fraction.{Point}
+use Rattle.delaunay_legalization.specs.plane_theorems.Tiling.Local.{IsMesh}
+use Rattle.delaunay_legalization.specs.Drawn.{faces_of, outer_of}
+use Rattle.delaunay_legalization.specs.Legal.{IsFailing}
+use Rattle.delaunay_legalization.proofs.MeshLegal.{flip_is_local, local_of}
 use Rattle.delaunay_legalization.specs.Shape.{IsTriangulated}
 use Rattle.delaunay_legalization.specs.State.{state_of}
 

@@ -4,12 +4,12 @@
 use Rattle.std.proofs.Common.{◌≡◌, ℕ, List, [], ◌∷◌, length, ◌<◌, ◌/◌, sym, ◌∙◌, subst}
 use Rattle.std.specs.Prelude.{Contains}
 use Rattle.std.specs.Borrow.{Bor}
-use Rattle.mesh_embedding.specs.half_edge_mesh.Mesh.{Mesh, IsValidMesh, next}
-use Rattle.mesh_embedding.specs.half_edge_mesh.Contents.{Contents, IsMeshWithData}
-use Rattle.mesh_embedding.specs.half_edge_mesh.Rounds.{GivesRound}
-use Rattle.mesh_embedding.proofs.plane_tiling.Totals.{Contains-none}
-use Rattle.mesh_embedding.proofs.plane_edits.LocalMesh.Changes.{once_none}
-use Rattle.mesh_embedding.specs.Legal.{AreEdges, Gains}
+use Rattle.delaunay_legalization.specs.half_edge_links.Mesh.{Mesh, IsValidMesh, next}
+use Rattle.delaunay_legalization.specs.half_edge_dcel.Contents.{Contents, IsMeshWithData}
+use Rattle.delaunay_legalization.specs.half_edge_dcel.Rounds.{GivesRound}
+use Rattle.delaunay_legalization.proofs.plane_theorems.Tiling.Totals.{Contains-none}
+use Rattle.delaunay_legalization.proofs.plane_theorems.Edits.LocalMesh.Changes.{once_none}
+use Rattle.delaunay_legalization.specs.Legal.{AreEdges, Gains}
 use Rattle.delaunay_legalization.specs.Star.{HasSidesAt, HasStar}
 use Rattle.delaunay_legalization.proofs.Rounds.{IsGoingRound, next_within, round_begins}
 use Rattle.delaunay_legalization.proofs.Rounds.{round_goes_on, round_ends, seen_as}

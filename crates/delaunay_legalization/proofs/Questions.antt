@@ -2,10 +2,10 @@
 -- Lemmas: within_if, if_within, both_ways, covered_in.
 use Rattle.std.proofs.Common.{◌≡◌, ◌≢◌, Bool, true, false, List, subst}
 use Rattle.std.specs.Prelude.{All, Contains}
-use Rattle.mesh_embedding.specs.plane.Fraction.{Point, whole, WithinSegment}
-use Rattle.mesh_embedding.specs.plane.Side.{side, on}
-use Rattle.mesh_embedding.proofs.plane.Sides.{on_if, if_on}
-use Rattle.mesh_embedding.proofs.plane_tiling.Edges.{within_on}
+use Rattle.delaunay_legalization.specs.plane.Fraction.{Point, whole, WithinSegment}
+use Rattle.delaunay_legalization.specs.plane.Side.{side, on}
+use Rattle.delaunay_legalization.proofs.plane.Sides.{on_if, if_on}
+use Rattle.delaunay_legalization.proofs.plane_theorems.Tiling.Edges.{within_on}
 use Rattle.delaunay_legalization.specs.Between.{IsInBox}
 use Rattle.delaunay_legalization.proofs.Between.{within_of_box, box_of_within}
 

@@ -4,15 +4,18 @@ use Rattle.std.proofs.Common.{◌≡◌, ◌≢◌, ◌⊎◌, ℕ, ◌/◌, ◌
 use Rattle.std.proofs.Common.{length, refl, sym, ◌∙◌, subst, inl, inr}
 use Rattle.std.specs.Prelude.{Contains}
 use Rattle.std.proofs.lemmas.Bool.{cases_eq}
-use Rattle.mesh_embedding.specs.half_edge_mesh.Mesh.{Mesh, IsValidMesh, next}
-use Rattle.mesh_embedding.specs.plane.Fraction.{Point}
-use Rattle.mesh_embedding.specs.plane.Pairs.{Joins}
-use Rattle.mesh_embedding.proofs.plane_tiling.Totals.{Contains-head, Contains-later, Contains-none}
-use Rattle.mesh_embedding.proofs.plane_tiling.Totals.{Contains-cases}
-use Rattle.mesh_embedding.proofs.plane_edits.LocalMesh.Changes.{IsOnce, once_none, once_head}
-use Rattle.mesh_embedding.proofs.plane_edits.LocalMesh.Changes.{once_tail, once_cons}
-use Rattle.mesh_embedding.specs.Legal.{AreEdges, Gains, IsPartlyLegal, pair_at, pairs_at}
-use Rattle.mesh_embedding.proofs.WorkLists.{contains_last, contains_map, contains_map_from}
+use Rattle.delaunay_legalization.specs.half_edge_links.Mesh.{Mesh, IsValidMesh, next}
+use Rattle.delaunay_legalization.specs.plane.Fraction.{Point}
+use Rattle.delaunay_legalization.specs.plane.Pairs.{Joins}
+use Rattle.delaunay_legalization.proofs.plane_theorems.Tiling.Totals.{Contains-head, Contains-later}
+use Rattle.delaunay_legalization.proofs.plane_theorems.Tiling.Totals.{Contains-none}
+use Rattle.delaunay_legalization.proofs.plane_theorems.Tiling.Totals.{Contains-cases}
+use Rattle.delaunay_legalization.proofs.plane_theorems.Edits.LocalMesh.Changes.{IsOnce, once_none}
+use Rattle.delaunay_legalization.proofs.plane_theorems.Edits.LocalMesh.Changes.{once_head}
+use Rattle.delaunay_legalization.proofs.plane_theorems.Edits.LocalMesh.Changes.{once_tail}
+use Rattle.delaunay_legalization.proofs.plane_theorems.Edits.LocalMesh.Changes.{once_cons}
+use Rattle.delaunay_legalization.specs.Legal.{AreEdges, Gains, IsPartlyLegal, pair_at, pairs_at}
+use Rattle.delaunay_legalization.proofs.WorkLists.{contains_last, contains_map, contains_map_from}
 use Rattle.delaunay_legalization.proofs.FarSides.{with_one}
 use Rattle.delaunay_legalization.proofs.Legalizing.{edges_gained}
 use Rattle.delaunay_legalization.proofs.Pushing.{no_edges}

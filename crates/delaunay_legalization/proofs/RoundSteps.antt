@@ -5,25 +5,27 @@ use Rattle.std.proofs.Common.{◌≡◌, ◌≢◌, ℕ, suc, ◌+◌, ◌*◌, 
 use Rattle.std.proofs.Common.{length, map, Option, Some, None, IsSome, IsNone, refl, sym, ap, ◌∙◌}
 use Rattle.std.proofs.Common.{subst, inl, inr, arith}
 use Rattle.std.specs.Prelude.{Contains}
-use Rattle.mesh_embedding.specs.half_edge_mesh.Contents.{Contents}
-use Rattle.mesh_embedding.specs.half_edge_mesh.Flip.{flipped}
-use Rattle.mesh_embedding.specs.half_edge_mesh.Mesh.{Mesh, IsValidMesh, origin, next, prev, rev}
-use Rattle.mesh_embedding.specs.half_edge_mesh.Mesh.{out_edge}
-use Rattle.mesh_embedding.specs.half_edge_mesh.Peel.{turn}
-use Rattle.mesh_embedding.proofs.half_edge_links.Lists.Rev.{rev-rev, rev_within}
-use Rattle.mesh_embedding.specs.plane.Fraction.{Point}
-use Rattle.mesh_embedding.specs.plane.Pairs.{Joins}
-use Rattle.mesh_embedding.specs.plane_tiling.Local.{IsMesh}
-use Rattle.mesh_embedding.proofs.plane_tiling.Totals.{Contains-head, Contains-later, Contains-none}
-use Rattle.mesh_embedding.proofs.plane_tiling.Totals.{Contains-cases}
-use Rattle.mesh_embedding.specs.plane_edits.EmptyRound.{IsEmptyRound}
-use Rattle.mesh_embedding.specs.plane_edits.Legal.{lifted_volume}
-use Rattle.mesh_embedding.proofs.plane_edits.LocalMesh.Changes.{once_head}
-use Rattle.mesh_embedding.specs.Drawn.{faces_of, outer_of}
-use Rattle.mesh_embedding.specs.Legal.{AreEdges, Gains, IsFailing, IsPartlyLegal}
-use Rattle.mesh_embedding.proofs.MeshLegal as M
-use Rattle.mesh_embedding.proofs.MeshStays.{halved}
-use Rattle.mesh_embedding.proofs.WorkLists.{last_or_before, once_after}
+use Rattle.delaunay_legalization.specs.half_edge_dcel.Contents.{Contents}
+use Rattle.delaunay_legalization.specs.half_edge_links.Flip.{flipped}
+use Rattle.delaunay_legalization.specs.half_edge_links.Mesh.{Mesh, IsValidMesh, origin, next, prev}
+use Rattle.delaunay_legalization.specs.half_edge_links.Mesh.{rev}
+use Rattle.delaunay_legalization.specs.half_edge_links.Mesh.{out_edge}
+use Rattle.delaunay_legalization.specs.half_edge_links.Peel.{turn}
+use Rattle.delaunay_legalization.proofs.half_edge_links_lemmas.Lists.Rev.{rev-rev, rev_within}
+use Rattle.delaunay_legalization.specs.plane.Fraction.{Point}
+use Rattle.delaunay_legalization.specs.plane.Pairs.{Joins}
+use Rattle.delaunay_legalization.specs.plane_theorems.Tiling.Local.{IsMesh}
+use Rattle.delaunay_legalization.proofs.plane_theorems.Tiling.Totals.{Contains-head, Contains-later}
+use Rattle.delaunay_legalization.proofs.plane_theorems.Tiling.Totals.{Contains-none}
+use Rattle.delaunay_legalization.proofs.plane_theorems.Tiling.Totals.{Contains-cases}
+use Rattle.delaunay_legalization.specs.plane_theorems.Edits.EmptyRound.{IsEmptyRound}
+use Rattle.delaunay_legalization.specs.plane_theorems.Edits.Legal.{lifted_volume}
+use Rattle.delaunay_legalization.proofs.plane_theorems.Edits.LocalMesh.Changes.{once_head}
+use Rattle.delaunay_legalization.specs.Drawn.{faces_of, outer_of}
+use Rattle.delaunay_legalization.specs.Legal.{AreEdges, Gains, IsFailing, IsPartlyLegal}
+use Rattle.delaunay_legalization.proofs.MeshLegal as M
+use Rattle.delaunay_legalization.proofs.MeshStays.{halved}
+use Rattle.delaunay_legalization.proofs.WorkLists.{last_or_before, once_after}
 use Rattle.delaunay_legalization.specs.declared.sides.Sides.TheVariants.{Round}
 use Rattle.delaunay_legalization.specs.Around.{CanGoRound, Stays, Turns}
 use Rattle.delaunay_legalization.specs.Constraints.{constraint_pairs}
@@ -43,7 +45,7 @@ use Rattle.delaunay_legalization.proofs.OppositeTurns.{failing_either}
 use Rattle.delaunay_legalization.proofs.OppositeTurns.{failing_twin, opposite_behind, opposite_here}
 use Rattle.delaunay_legalization.proofs.OppositeTurns.{opposite_others}
 use Rattle.delaunay_legalization.proofs.Pushing.{no_edges}
-use Rattle.mesh_embedding.proofs.plane.Indexes.{turned_join}
+use Rattle.delaunay_legalization.proofs.plane.Indexes.{turned_join}
 use Rattle.delaunay_legalization.proofs.Spokes.{AreNext, ComesBetween, all_left, count_left}
 use Rattle.delaunay_legalization.proofs.Spokes.{how_many_left, next_is_left}
 use Rattle.delaunay_legalization.proofs.Spokes.{none_behind, one_fewer, one_more_left}

@@ -9,20 +9,22 @@ use Rattle.std.specs.Prelude.{Contains}
 use Rattle.std.specs.Borrow.{Bor}
 use Rattle.std.specs.List.{range_with_len}
 use Rattle.std.proofs.lemmas.List.FromFn.{length-map-range_with_len, get_or-map-range_with_len}
-use Rattle.mesh_embedding.specs.half_edge_mesh.Mesh.{Mesh, IsValidMesh, origin, out_edge}
-use Rattle.mesh_embedding.specs.half_edge_mesh.Peel.{spoke}
-use Rattle.mesh_embedding.specs.half_edge_mesh.Round.{IsRound}
-use Rattle.mesh_embedding.specs.half_edge_mesh.Contents.{Contents}
-use Rattle.mesh_embedding.specs.half_edge_mesh.Left.{each_in}
-use Rattle.mesh_embedding.specs.half_edge_mesh.Rounds.{GivesRound}
-use Rattle.mesh_embedding.proofs.half_edge_links.Lists.OneOrbit.{edges_go_round}
-use Rattle.mesh_embedding.proofs.half_edge_links.Removing.CollapseLemmas.{some_of}
-use Rattle.mesh_embedding.proofs.plane_tiling.Totals.{Contains-head, Contains-later, Contains-none}
-use Rattle.mesh_embedding.proofs.plane_tiling.Totals.{Contains-cases}
-use Rattle.mesh_embedding.proofs.plane_edits.LocalMesh.Changes.{IsOnce, once_none, once_tail}
-use Rattle.mesh_embedding.proofs.Entries.{not_some, index_listed}
-use Rattle.mesh_embedding.proofs.RoundShift.{round_from}
-use Rattle.mesh_embedding.proofs.WorkLists.{contains_map, contains_map_from}
+use Rattle.delaunay_legalization.specs.half_edge_links.Mesh.{Mesh, IsValidMesh, origin, out_edge}
+use Rattle.delaunay_legalization.specs.half_edge_links.Peel.{spoke}
+use Rattle.delaunay_legalization.specs.half_edge_links.Round.{IsRound}
+use Rattle.delaunay_legalization.specs.half_edge_dcel.Contents.{Contents}
+use Rattle.delaunay_legalization.specs.half_edge_dcel.Left.{each_in}
+use Rattle.delaunay_legalization.specs.half_edge_dcel.Rounds.{GivesRound}
+use Rattle.delaunay_legalization.proofs.half_edge_links_lemmas.Lists.OneOrbit.{edges_go_round}
+use Rattle.delaunay_legalization.proofs.half_edge_links_lemmas.Removing.CollapseLemmas.{some_of}
+use Rattle.delaunay_legalization.proofs.plane_theorems.Tiling.Totals.{Contains-head, Contains-later}
+use Rattle.delaunay_legalization.proofs.plane_theorems.Tiling.Totals.{Contains-none}
+use Rattle.delaunay_legalization.proofs.plane_theorems.Tiling.Totals.{Contains-cases}
+use Rattle.delaunay_legalization.proofs.plane_theorems.Edits.LocalMesh.Changes.{IsOnce, once_none}
+use Rattle.delaunay_legalization.proofs.plane_theorems.Edits.LocalMesh.Changes.{once_tail}
+use Rattle.delaunay_legalization.proofs.Entries.{not_some, index_listed}
+use Rattle.delaunay_legalization.proofs.RoundShift.{round_from}
+use Rattle.delaunay_legalization.proofs.WorkLists.{contains_map, contains_map_from}
 
 -- the first of what is left
 pub first_left : {C : Type 0} (m : Bor C) (rest : List ℕ) (x : Bor C × ℕ) (left : List (Bor C × ℕ))

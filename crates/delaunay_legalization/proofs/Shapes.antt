@@ -3,18 +3,18 @@
 use Rattle.std.proofs.Common.{◌≡◌, ◌≢◌, ◌<◌, []}
 use Rattle.std.proofs.Common.{ℕ, List, length, refl, sym, ap, subst, inl, inr, arith}
 use Rattle.std.specs.Prelude.{All}
-use Rattle.mesh_embedding.specs.half_edge_mesh.Mesh.{Mesh, IsValidMesh, empty}
-use Rattle.mesh_embedding.specs.half_edge_mesh.Contents.{Contents, IsMeshWithData}
-use Rattle.mesh_embedding.specs.plane.Fraction.{Point, whole}
-use Rattle.mesh_embedding.specs.plane.Tests.{InRange}
-use Rattle.mesh_embedding.specs.plane.Pairs.{place}
-use Rattle.mesh_embedding.specs.plane.Tiling.{Face, IsTiling}
-use Rattle.mesh_embedding.specs.plane_tiling.Local.{IsMesh}
-use Rattle.mesh_embedding.proofs.plane_tiling.Meshes.{meshes_tile}
-use Rattle.mesh_embedding.proofs.plane_tiling.LineMeshes.{no_vertex}
+use Rattle.delaunay_legalization.specs.half_edge_links.Mesh.{Mesh, IsValidMesh, empty}
+use Rattle.delaunay_legalization.specs.half_edge_dcel.Contents.{Contents, IsMeshWithData}
+use Rattle.delaunay_legalization.specs.plane.Fraction.{Point, whole}
+use Rattle.delaunay_legalization.specs.plane.Tests.{InRange}
+use Rattle.delaunay_legalization.specs.plane.Pairs.{place}
+use Rattle.delaunay_legalization.specs.plane.Tiling.{Face, IsTiling}
+use Rattle.delaunay_legalization.specs.plane_theorems.Tiling.Local.{IsMesh}
+use Rattle.delaunay_legalization.proofs.plane_theorems.Tiling.Meshes.{meshes_tile}
+use Rattle.delaunay_legalization.proofs.plane_theorems.Tiling.LineMeshes.{no_vertex}
 use Rattle.delaunay_legalization.specs.Known.{point_at}
-use Rattle.mesh_embedding.specs.Drawn.{drawn, faces_of, edges_of, outer_of}
-use Rattle.mesh_embedding.proofs.OwnEdges.{own_edges}
+use Rattle.delaunay_legalization.specs.Drawn.{drawn, faces_of, edges_of, outer_of}
+use Rattle.delaunay_legalization.proofs.OwnEdges.{own_edges}
 use Rattle.delaunay_legalization.specs.State.{state_of}
 use Rattle.delaunay_legalization.specs.Shape.{IsTriangulated}
 

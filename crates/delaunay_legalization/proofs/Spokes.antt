@@ -8,16 +8,18 @@ use Rattle.std.specs.Prelude.{Contains}
 use Rattle.std.specs.List.{range_with_len}
 use Rattle.std.proofs.lemmas.Bool.{eq-eqb}
 use Rattle.std.proofs.lemmas.Bool.Decides.{eqb_tells}
-use Rattle.mesh_embedding.specs.half_edge_mesh.Mesh.{Mesh, IsValidMesh, origin, out_edge}
-use Rattle.mesh_embedding.specs.half_edge_mesh.Peel.{turn, spoke}
-use Rattle.mesh_embedding.specs.half_edge_mesh.Round.{IsRound}
-use Rattle.mesh_embedding.specs.half_edge_mesh.Walks.{walk}
-use Rattle.mesh_embedding.proofs.half_edge_links.Lists.OneOrbit.{edges_go_round}
-use Rattle.mesh_embedding.proofs.plane_tiling.Totals.{Contains-head, Contains-later, Contains-cases}
-use Rattle.mesh_embedding.proofs.plane_edits.LocalMesh.Changes.{IsOnce, once_head, once_tail}
-use Rattle.mesh_embedding.proofs.plane_edits.LocalMesh.Changes.{once_cons}
-use Rattle.mesh_embedding.proofs.Entries.{index_listed}
-use Rattle.mesh_embedding.proofs.WorkLists.{contains_map, contains_map_from, at_most_so_many}
+use Rattle.delaunay_legalization.specs.half_edge_links.Mesh.{Mesh, IsValidMesh, origin, out_edge}
+use Rattle.delaunay_legalization.specs.half_edge_links.Peel.{turn, spoke}
+use Rattle.delaunay_legalization.specs.half_edge_links.Round.{IsRound}
+use Rattle.delaunay_legalization.specs.half_edge_dcel.Walks.{walk}
+use Rattle.delaunay_legalization.proofs.half_edge_links_lemmas.Lists.OneOrbit.{edges_go_round}
+use Rattle.delaunay_legalization.proofs.plane_theorems.Tiling.Totals.{Contains-head, Contains-later}
+use Rattle.delaunay_legalization.proofs.plane_theorems.Tiling.Totals.{Contains-cases}
+use Rattle.delaunay_legalization.proofs.plane_theorems.Edits.LocalMesh.Changes.{IsOnce, once_head}
+use Rattle.delaunay_legalization.proofs.plane_theorems.Edits.LocalMesh.Changes.{once_tail}
+use Rattle.delaunay_legalization.proofs.plane_theorems.Edits.LocalMesh.Changes.{once_cons}
+use Rattle.delaunay_legalization.proofs.Entries.{index_listed}
+use Rattle.delaunay_legalization.proofs.WorkLists.{contains_map, contains_map_from, at_most_so_many}
 use Rattle.delaunay_legalization.proofs.Rounds.{spokes_once}
 
 -- from edge h on these edges come, and then edge first

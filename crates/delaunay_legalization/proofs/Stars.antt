@@ -5,26 +5,26 @@ use Rattle.std.proofs.Common.{◌≡◌, ◌⊎◌, ◌/◌, ◌<◌, [], ◌∷
 use Rattle.std.proofs.Common.{ℕ, List, length, sym, ap, subst, inl, inr, arith}
 use Rattle.std.specs.Prelude.{Contains}
 use Rattle.std.proofs.lemmas.Bool.{cases_eq}
-use Rattle.mesh_embedding.specs.half_edge_mesh.Mesh.{Mesh, AreSoundLinks, next, prev, rev}
-use Rattle.mesh_embedding.proofs.half_edge_links.Lists.Rev.{rev_within}
-use Rattle.mesh_embedding.proofs.half_edge_links.Sound.Triangles as T
-use Rattle.mesh_embedding.specs.plane.Fraction.{Point, Fraction, whole}
-use Rattle.mesh_embedding.specs.plane.Circle.{InsideCircle}
-use Rattle.mesh_embedding.specs.plane.Pairs.{place, Joins}
-use Rattle.mesh_embedding.specs.plane.Tiling.{Face}
-use Rattle.mesh_embedding.specs.plane_tiling.Local.{IsMesh}
-use Rattle.mesh_embedding.proofs.plane_tiling.Appended.{kept_point}
-use Rattle.mesh_embedding.proofs.plane_tiling.Totals.{Contains-none}
-use Rattle.mesh_embedding.specs.plane_edits.Change.{IsFaceOf}
-use Rattle.mesh_embedding.specs.plane_edits.Legal.{Pass, AllPassBut}
-use Rattle.mesh_embedding.specs.Drawn.{faces_of}
-use Rattle.mesh_embedding.specs.Legal.{pairs_at}
-use Rattle.mesh_embedding.proofs.MeshLegal.{joins_directed}
-use Rattle.mesh_embedding.proofs.MeshStars.{IsEdgeOfFace, edge_of_face}
+use Rattle.delaunay_legalization.specs.half_edge_links.Mesh.{Mesh, AreSoundLinks, next, prev, rev}
+use Rattle.delaunay_legalization.proofs.half_edge_links_lemmas.Lists.Rev.{rev_within}
+use Rattle.delaunay_legalization.proofs.half_edge_links_lemmas.Sound.Triangles as T
+use Rattle.delaunay_legalization.specs.plane.Fraction.{Point, Fraction, whole}
+use Rattle.delaunay_legalization.specs.plane.Circle.{InsideCircle}
+use Rattle.delaunay_legalization.specs.plane.Pairs.{place, Joins}
+use Rattle.delaunay_legalization.specs.plane.Tiling.{Face}
+use Rattle.delaunay_legalization.specs.plane_theorems.Tiling.Local.{IsMesh}
+use Rattle.delaunay_legalization.proofs.plane_theorems.Tiling.Appended.{kept_point}
+use Rattle.delaunay_legalization.proofs.plane_theorems.Tiling.Totals.{Contains-none}
+use Rattle.delaunay_legalization.specs.plane_theorems.Edits.Change.{IsFaceOf}
+use Rattle.delaunay_legalization.specs.plane_theorems.Edits.Legal.{Pass, AllPassBut}
+use Rattle.delaunay_legalization.specs.Drawn.{faces_of}
+use Rattle.delaunay_legalization.specs.Legal.{pairs_at}
+use Rattle.delaunay_legalization.proofs.MeshLegal.{joins_directed}
+use Rattle.delaunay_legalization.proofs.MeshStars.{IsEdgeOfFace, edge_of_face}
 use Rattle.delaunay_legalization.specs.Star.{IsOneOf, MakesFacesAt, AllPassBeside, HasSidesAt}
 use Rattle.delaunay_legalization.specs.Star.{HasStar}
-use Rattle.mesh_embedding.proofs.plane_edits.LocalMesh.Kept.{index_of}
-use Rattle.mesh_embedding.proofs.plane_edits.Legalization.NewPoint.{none_in_empty}
+use Rattle.delaunay_legalization.proofs.plane_theorems.Edits.LocalMesh.Kept.{index_of}
+use Rattle.delaunay_legalization.proofs.plane_theorems.Edits.Legalization.NewPoint.{none_in_empty}
 
 -- the corners of a face are points
 pub face_corners : (points : List Point) (faces : List Face) (outer : List (ℕ × ℕ))

@@ -6,18 +6,19 @@ use Rattle.std.proofs.Common.{◌≡◌, ℕ, ◌+◌, ◌*◌, ◌<◌, ◌≤�
 use Rattle.std.proofs.Common.{length, map, refl, sym, ap, subst, arith}
 use Rattle.std.specs.Prelude.{◌^◌, Contains}
 use Rattle.std.proofs.lemmas.List.{length-append}
-use Rattle.mesh_embedding.specs.half_edge_mesh.Contents.{Contents}
-use Rattle.mesh_embedding.specs.half_edge_mesh.Flip.{flipped}
-use Rattle.mesh_embedding.specs.half_edge_mesh.Mesh.{Mesh, IsValidMesh, origin, rev}
-use Rattle.mesh_embedding.specs.plane.Delaunay.{IsLocallyDelaunay}
-use Rattle.mesh_embedding.specs.plane.Fraction.{Point}
-use Rattle.mesh_embedding.specs.plane.Pairs.{Joins}
-use Rattle.mesh_embedding.specs.plane_tiling.Local.{IsMesh}
-use Rattle.mesh_embedding.specs.Drawn.{drawn, faces_of, outer_of}
-use Rattle.mesh_embedding.specs.Legal.{AreEdges, GainsRound, IsFailing, IsPartlyLegal, steps_left}
-use Rattle.mesh_embedding.proofs.half_edge_links.Sound.Valid.{valid_flipped}
-use Rattle.mesh_embedding.proofs.MeshLegal.{dropped}
-use Rattle.mesh_embedding.proofs.WorkLists.{contains_last, contains_before, once_before}
+use Rattle.delaunay_legalization.specs.half_edge_dcel.Contents.{Contents}
+use Rattle.delaunay_legalization.specs.half_edge_links.Flip.{flipped}
+use Rattle.delaunay_legalization.specs.half_edge_links.Mesh.{Mesh, IsValidMesh, origin, rev}
+use Rattle.delaunay_legalization.specs.plane.Delaunay.{IsLocallyDelaunay}
+use Rattle.delaunay_legalization.specs.plane.Fraction.{Point}
+use Rattle.delaunay_legalization.specs.plane.Pairs.{Joins}
+use Rattle.delaunay_legalization.specs.plane_theorems.Tiling.Local.{IsMesh}
+use Rattle.delaunay_legalization.specs.Drawn.{drawn, faces_of, outer_of}
+use Rattle.delaunay_legalization.specs.Legal.{AreEdges, GainsRound, IsFailing, IsPartlyLegal}
+use Rattle.delaunay_legalization.specs.Legal.{steps_left}
+use Rattle.delaunay_legalization.proofs.half_edge_links_lemmas.Sound.Valid.{valid_flipped}
+use Rattle.delaunay_legalization.proofs.MeshLegal.{dropped}
+use Rattle.delaunay_legalization.proofs.WorkLists.{contains_last, contains_before, once_before}
 use Rattle.delaunay_legalization.specs.declared.sides.Sides.{Sides}
 use Rattle.delaunay_legalization.specs.declared.sides.Sides.TheVariants.{Round, Among}
 use Rattle.delaunay_legalization.specs.Constraints.{constraint_pairs}

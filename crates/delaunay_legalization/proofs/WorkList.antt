@@ -4,12 +4,13 @@ use Rattle.std.proofs.Common.{◌≡◌, ℕ, ◌*◌, ◌<◌, length, sym, ap,
 use Rattle.std.specs.List.{range_with_len}
 use Rattle.std.proofs.lemmas.List.{same_lists, length-map, get_or-map}
 use Rattle.std.proofs.lemmas.List.FromFn.{length-map-range_with_len, get_or-map-range_with_len}
-use Rattle.mesh_embedding.specs.half_edge_mesh.Mesh.{Mesh, origin, IsValidMesh}
-use Rattle.mesh_embedding.specs.half_edge_mesh.Outline.{Ends, ends}
-use Rattle.mesh_embedding.proofs.half_edge_links.Sound.Ends.{length-ends_twice, get_or-ends}
-use Rattle.mesh_embedding.specs.Drawn.{pair_of, edges_of}
-use Rattle.mesh_embedding.specs.Legal.{pair_at, pairs_at}
-use Rattle.mesh_embedding.proofs.EdgePairs.{rev_of_even}
+use Rattle.delaunay_legalization.specs.half_edge_links.Mesh.{Mesh, origin, IsValidMesh}
+use Rattle.delaunay_legalization.specs.half_edge_links.Outline.{Ends, ends}
+use Rattle.delaunay_legalization.proofs.half_edge_links_lemmas.Sound.Ends.{length-ends_twice}
+use Rattle.delaunay_legalization.proofs.half_edge_links_lemmas.Sound.Ends.{get_or-ends}
+use Rattle.delaunay_legalization.specs.Drawn.{pair_of, edges_of}
+use Rattle.delaunay_legalization.specs.Legal.{pair_at, pairs_at}
+use Rattle.delaunay_legalization.proofs.EdgePairs.{rev_of_even}
 
 module _ (m : Mesh) (n : ℕ) (count : 2 * n ≡ length m.half_edges) where
   -- the pairs of all indexes of edges are the edges

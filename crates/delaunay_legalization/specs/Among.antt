@@ -1,10 +1,10 @@
 -- Meshes where only some edges may fail: each other edge between two faces has an empty circle on
 -- one of its sides.
 use Rattle.std.specs.Prelude.{◌≡◌, ◌⊎◌, ℕ, ◌*◌, ◌<◌, List, length, Contains}
-use Rattle.mesh_embedding.specs.half_edge_mesh.Mesh.{Mesh, origin, next, prev, face, rev}
-use Rattle.mesh_embedding.specs.plane.Circle.{InsideCircle}
-use Rattle.mesh_embedding.specs.plane.Fraction.{Point}
-use Rattle.mesh_embedding.specs.plane.Pairs.{place}
+use Rattle.delaunay_legalization.specs.half_edge_links.Mesh.{Mesh, origin, next, prev, face, rev}
+use Rattle.delaunay_legalization.specs.plane.Circle.{InsideCircle}
+use Rattle.delaunay_legalization.specs.plane.Fraction.{Point}
+use Rattle.delaunay_legalization.specs.plane.Pairs.{place}
 
 -- no point is inside the circle of the face on the left of directed edge h
 abbrev HasEmptyCircle : List Point → Mesh → ℕ → Type 0

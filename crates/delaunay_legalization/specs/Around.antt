@@ -2,14 +2,15 @@
 -- edges.
 use Rattle.std.specs.Prelude.{◌≡◌, ◌↔◌, ◌⊎◌, ◌+◌, ◌*◌, ◌/◌, ◌<◌, ◌^◌}
 use Rattle.std.specs.Prelude.{ℕ, ℤ, List, length, map, IsTrue, Some}
-use Rattle.mesh_embedding.specs.half_edge_mesh.Contents.{Contents}
-use Rattle.mesh_embedding.specs.half_edge_mesh.Flip.{flipped}
-use Rattle.mesh_embedding.specs.half_edge_mesh.Mesh.{Mesh, origin, next, prev, face, rev, out_edge}
-use Rattle.mesh_embedding.specs.plane.Fraction.{Point}
-use Rattle.mesh_embedding.specs.plane.Pairs.{Joins}
-use Rattle.mesh_embedding.specs.plane_edits.EmptyRound.{IsEmptyRound}
-use Rattle.mesh_embedding.specs.Drawn.{faces_of}
-use Rattle.mesh_embedding.specs.Legal.{IsFailing}
+use Rattle.delaunay_legalization.specs.half_edge_dcel.Contents.{Contents}
+use Rattle.delaunay_legalization.specs.half_edge_links.Flip.{flipped}
+use Rattle.delaunay_legalization.specs.half_edge_links.Mesh.{Mesh, origin, next, prev, face, rev}
+use Rattle.delaunay_legalization.specs.half_edge_links.Mesh.{out_edge}
+use Rattle.delaunay_legalization.specs.plane.Fraction.{Point}
+use Rattle.delaunay_legalization.specs.plane.Pairs.{Joins}
+use Rattle.delaunay_legalization.specs.plane_theorems.Edits.EmptyRound.{IsEmptyRound}
+use Rattle.delaunay_legalization.specs.Drawn.{faces_of}
+use Rattle.delaunay_legalization.specs.Legal.{IsFailing}
 use Rattle.delaunay_core.specs.Place.{place_of}
 use Rattle.delaunay_legalization.specs.Flips.{FlipsFit}
 use Rattle.delaunay_legalization.specs.Known.{IsVertexSite}

@@ -1,9 +1,9 @@
 -- Which edges are constraints, so that no legalising flips them: those whose data are marked.
 use Rattle.std.specs.Prelude.{◌≡◌, ℕ, suc, Bool, true, false, List, [], ◌∷◌, if◌then◌else◌, refl}
-use Rattle.mesh_embedding.specs.half_edge_mesh.Contents.{Contents}
-use Rattle.mesh_embedding.specs.half_edge_mesh.Mesh.{Mesh}
-use Rattle.mesh_embedding.specs.Legal.{pairs_at}
-use Rattle.mesh_embedding.specs.plane.Plain.{Plain}
+use Rattle.delaunay_legalization.specs.half_edge_dcel.Contents.{Contents}
+use Rattle.delaunay_legalization.specs.half_edge_links.Mesh.{Mesh}
+use Rattle.delaunay_legalization.specs.Legal.{pairs_at}
+use Rattle.delaunay_legalization.specs.plane.Plain.{Plain}
 use Rattle.delaunay_legalization.specs.State.{State}
 
 -- the indexes of the marked data, where the first has this index

@@ -1,6 +1,6 @@
 -- Positions by index.
 use Rattle.std.specs.Prelude.{◌≡◌, ℕ, ◌<◌, List, length, pos, slice_index_or}
-use Rattle.mesh_embedding.specs.plane.Fraction.{Point}
+use Rattle.delaunay_legalization.specs.plane.Fraction.{Point}
 
 -- the point of an index (at an index past the end, (0, 0))
 abbrev pub point_at : List Point → ℕ → Point

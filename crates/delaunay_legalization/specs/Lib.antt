@@ -1,11 +1,11 @@
-pub use Rattle.mesh_embedding.specs.plane as plane
-pub use Rattle.mesh_embedding.specs.plane_tiling as plane_tiling
-pub use Rattle.mesh_embedding.specs.plane_edits as plane_edits
-pub use Rattle.mesh_embedding.specs.half_edge_links as half_edge_links
-pub use Rattle.mesh_embedding.specs.half_edge_dcel as half_edge_dcel
-pub use Rattle.mesh_embedding.specs.half_edge_mesh as half_edge_mesh
+pub use Rattle.plane.specs as plane
+pub use Rattle.plane_theorems.specs as plane_theorems
+pub use Rattle.half_edge_dcel.specs.half_edge_links as half_edge_links
+pub use Rattle.half_edge_dcel.specs as half_edge_dcel
 pub use Rattle.delaunay_core.specs as delaunay_core
-pub use Rattle.mesh_embedding.specs as mesh_embedding
+pub mod Drawn
+pub mod Stays
+pub mod Legal
 pub mod Between
 pub mod State
 pub mod Constraints

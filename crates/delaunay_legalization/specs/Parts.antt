@@ -1,14 +1,15 @@
 -- Edges and faces of a mesh by the points of its vertices, and where a further point is.
 use Rattle.std.specs.Prelude.{◌≡◌, ◌≢◌, ℕ, ◌<◌, List, length}
-use Rattle.mesh_embedding.specs.half_edge_mesh.Mesh.{Mesh, origin, next, prev, face, face_edge, rev}
-use Rattle.mesh_embedding.specs.half_edge_mesh.Triangles.{triangle_at}
-use Rattle.mesh_embedding.specs.plane.Fraction.{Point, whole, WithinSegment, InsideTriangle}
-use Rattle.mesh_embedding.specs.plane.Side.{TurnsLeft}
-use Rattle.mesh_embedding.specs.plane.Tests.{InRange}
-use Rattle.mesh_embedding.specs.plane.Pairs.{place}
-use Rattle.mesh_embedding.specs.plane.Tiling.{IsEdge, IsFace, HasFace}
+use Rattle.delaunay_legalization.specs.half_edge_links.Mesh.{Mesh, origin, next, prev, face}
+use Rattle.delaunay_legalization.specs.half_edge_links.Mesh.{face_edge, rev}
+use Rattle.delaunay_legalization.specs.half_edge_links.Triangles.{triangle_at}
+use Rattle.delaunay_legalization.specs.plane.Fraction.{Point, whole, WithinSegment, InsideTriangle}
+use Rattle.delaunay_legalization.specs.plane.Side.{TurnsLeft}
+use Rattle.delaunay_legalization.specs.plane.Tests.{InRange}
+use Rattle.delaunay_legalization.specs.plane.Pairs.{place}
+use Rattle.delaunay_legalization.specs.plane.Tiling.{IsEdge, IsFace, HasFace}
 use Rattle.delaunay_legalization.specs.Known.{point_at}
-use Rattle.mesh_embedding.specs.Drawn.{drawn}
+use Rattle.delaunay_legalization.specs.Drawn.{drawn}
 
 -- p is at none of the points
 pub record IsApart (points : List Point) (p : Point) : Type 0 where

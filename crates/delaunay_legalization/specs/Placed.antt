@@ -1,7 +1,7 @@
 -- A mesh with tests that have its vertices as sites.
 use Rattle.std.specs.Prelude.{map, All}
-use Rattle.mesh_embedding.specs.half_edge_mesh.Contents.{Contents}
-use Rattle.mesh_embedding.specs.plane.Fraction.{Point}
+use Rattle.delaunay_legalization.specs.half_edge_dcel.Contents.{Contents}
+use Rattle.delaunay_legalization.specs.plane.Fraction.{Point}
 use Rattle.delaunay_legalization.specs.Shape.{IsTriangulated}
 use Rattle.delaunay_legalization.specs.State.{state_of}
 

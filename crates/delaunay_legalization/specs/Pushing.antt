@@ -1,6 +1,6 @@
 -- What is put into work lists of undirected edges.
 use Rattle.std.specs.Prelude.{ℕ, ◌/◌, List, Contains}
-use Rattle.mesh_embedding.specs.half_edge_mesh.Mesh.{Mesh, next, prev, rev}
+use Rattle.delaunay_legalization.specs.half_edge_links.Mesh.{Mesh, next, prev, rev}
 
 -- the entries of old are there
 abbrev pub KeepsEntries : List ℕ → List ℕ → Type 0

@@ -1,14 +1,14 @@
 -- What always holds of the positions of the vertices and of the mesh of their indexes.
 use Rattle.std.specs.Prelude.{◌*◌, ◌≤◌, ℕ, List, length, map, All}
-use Rattle.mesh_embedding.specs.half_edge_mesh.Mesh.{IsValidMesh}
-use Rattle.mesh_embedding.specs.half_edge_mesh.Contents.{FitsMesh}
-use Rattle.mesh_embedding.specs.plane.Fraction.{Point}
-use Rattle.mesh_embedding.specs.plane.Tests.{InRange}
-use Rattle.mesh_embedding.specs.plane.Delaunay.{IsLocallyDelaunay}
-use Rattle.mesh_embedding.specs.plane_tiling.Local.{IsMesh}
+use Rattle.delaunay_legalization.specs.half_edge_links.Mesh.{IsValidMesh}
+use Rattle.delaunay_legalization.specs.half_edge_dcel.Contents.{FitsMesh}
+use Rattle.delaunay_legalization.specs.plane.Fraction.{Point}
+use Rattle.delaunay_legalization.specs.plane.Tests.{InRange}
+use Rattle.delaunay_legalization.specs.plane.Delaunay.{IsLocallyDelaunay}
+use Rattle.delaunay_legalization.specs.plane_theorems.Tiling.Local.{IsMesh}
 use Rattle.delaunay_legalization.specs.Constraints.{constraints_by}
 use Rattle.delaunay_legalization.specs.State.{State, triangulation_of}
-use Rattle.mesh_embedding.specs.Drawn.{faces_of, outer_of}
+use Rattle.delaunay_legalization.specs.Drawn.{faces_of, outer_of}
 
 -- what a triangulation keeps through each change
 pub record IsTriangulated {V D U F : Type 0} (place : V → Point) (s : State V D U F) : Type 0 where

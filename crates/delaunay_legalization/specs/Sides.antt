@@ -1,11 +1,11 @@
 -- The flips of a legalization, by the sides of a turned edge that it leaves to test.
 use Rattle.std.specs.Prelude.{ℕ, List, map, ⊤}
-use Rattle.mesh_embedding.specs.half_edge_mesh.Contents.{Contents}
-use Rattle.mesh_embedding.specs.half_edge_mesh.Mesh.{Mesh}
-use Rattle.mesh_embedding.specs.plane.Fraction.{Point}
-use Rattle.mesh_embedding.specs.plane_edits.Legal.{AllPassBut}
-use Rattle.mesh_embedding.specs.Drawn.{faces_of}
-use Rattle.mesh_embedding.specs.Legal.{AreEdges, GainsRound, pairs_at}
+use Rattle.delaunay_legalization.specs.half_edge_dcel.Contents.{Contents}
+use Rattle.delaunay_legalization.specs.half_edge_links.Mesh.{Mesh}
+use Rattle.delaunay_legalization.specs.plane.Fraction.{Point}
+use Rattle.delaunay_legalization.specs.plane_theorems.Edits.Legal.{AllPassBut}
+use Rattle.delaunay_legalization.specs.Drawn.{faces_of}
+use Rattle.delaunay_legalization.specs.Legal.{AreEdges, GainsRound, pairs_at}
 use Rattle.delaunay_legalization.specs.declared.sides.Sides.{Sides}
 use Rattle.delaunay_legalization.specs.declared.sides.Sides.TheVariants.{Round, Among}
 use Rattle.delaunay_legalization.specs.Among.{FailOnlyOf}

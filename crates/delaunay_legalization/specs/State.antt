@@ -1,11 +1,11 @@
 -- What a contract sees of a triangulation.
 use Rattle.std.specs.Prelude.{List, [], map}
-use Rattle.mesh_embedding.specs.half_edge_mesh.Mesh.{Mesh}
-use Rattle.mesh_embedding.specs.Drawn.{drawn}
-use Rattle.mesh_embedding.specs.half_edge_mesh.Contents.{Contents}
-use Rattle.mesh_embedding.specs.plane.Fraction.{Point}
-use Rattle.mesh_embedding.specs.plane.Plain.{Plain}
-use Rattle.mesh_embedding.specs.plane.Tiling.{Triangulation}
+use Rattle.delaunay_legalization.specs.half_edge_links.Mesh.{Mesh}
+use Rattle.delaunay_legalization.specs.Drawn.{drawn}
+use Rattle.delaunay_legalization.specs.half_edge_dcel.Contents.{Contents}
+use Rattle.delaunay_legalization.specs.plane.Fraction.{Point}
+use Rattle.delaunay_legalization.specs.plane.Plain.{Plain}
+use Rattle.delaunay_legalization.specs.plane.Tiling.{Triangulation}
 
 -- the vertices, the mesh of their indexes, and the data of its directed and undirected edges, of
 -- the outer face and of the faces from face 1 on

@@ -14,7 +14,7 @@ use crate::legalization::legalize;
 use crate::sides::Sides;
 use delaunay_core::math::PlaneTests;
 use delaunay_core::point::HasPosition;
-use mesh_embedding::half_edge_mesh::Dcel;
+use half_edge_dcel::Dcel;
 
 /// Tests the edges of a work list, where each other edge passes, and flips those that fail and are
 /// no constraints until none does; each flip adds 1 to `flips`. Where each other edge has an empty

@@ -1,6 +1,6 @@
 //! A legalization round a vertex, where only edges opposite it may fail.
 ghost use Rattle.std.specs.Prelude.{◌≡◌, ◌<◌, length, map, IsTrue, IsFalse};
-ghost use Rattle.mesh_embedding.specs.half_edge_mesh.Mesh.{origin};
+ghost use Rattle.delaunay_legalization.specs.half_edge_links.Mesh.{origin};
 ghost use Rattle.delaunay_core.specs.Place.{place_of};
 ghost use Rattle.delaunay_legalization.specs.Around.{CanGoRound, CanTurn, IsOpposite, Stays};
 ghost use Rattle.delaunay_legalization.specs.Around.{Turns};
@@ -14,7 +14,7 @@ use crate::legalization::{flip, is_constraint_edge, position_of};
 use crate::placed::Placed;
 use delaunay_core::math::PlaneTests;
 use delaunay_core::point::{HasPosition, Point2};
-use mesh_embedding::half_edge_mesh::{Dcel, FixedDirectedEdgeHandle, MeshViews};
+use half_edge_dcel::{Dcel, FixedDirectedEdgeHandle, MeshViews};
 
 // What a test of the edge opposite a vertex reads, in the face on the left of one of the vertex's
 // edges: whether a face beside the edge is the outer one, the positions of the edge's ends, and

@@ -1,9 +1,9 @@
 //! Lists of edges that are marked while they are listed, so that none is searched for.
 ghost use Rattle.std.specs.Prelude.{◌≡◌, ℕ, ◌<◌, ◌≤◌, ◌++◌, ◌∷◌, []};
 ghost use Rattle.std.specs.Prelude.{◌↔◌, Contains, IfNone, IfSome, IsTrue, OnOk};
-ghost use Rattle.mesh_embedding.specs.Legal.{Gains};
+ghost use Rattle.delaunay_legalization.specs.Legal.{Gains};
 
-use mesh_embedding::half_edge_mesh::FixedUndirectedEdgeHandle;
+use half_edge_dcel::FixedUndirectedEdgeHandle;
 use std::alloc::{AllocError, Global};
 use std::marker::Model;
 

@@ -1,10 +1,10 @@
 //! Flips of edges that fail the circle test, until each edge passes but the constraints.
 ghost use Rattle.std.specs.Prelude.{◌≡◌, ◌↔◌, ◌+◌, ◌*◌, ◌/◌, ◌<◌, ◌≤◌, ◌^◌, []};
 ghost use Rattle.std.specs.Prelude.{length, map, All, Contains, IsTrue};
-ghost use Rattle.mesh_embedding.specs.half_edge_mesh.Mesh.{face};
-ghost use Rattle.mesh_embedding.specs.half_edge_mesh.Flip.{flipped};
-ghost use Rattle.mesh_embedding.specs.half_edge_mesh.Peel.{turn};
-ghost use Rattle.mesh_embedding.specs.Legal.{AreEdges, Gains, IsFailing};
+ghost use Rattle.delaunay_legalization.specs.half_edge_links.Mesh.{face};
+ghost use Rattle.delaunay_legalization.specs.half_edge_links.Flip.{flipped};
+ghost use Rattle.delaunay_legalization.specs.half_edge_links.Peel.{turn};
+ghost use Rattle.delaunay_legalization.specs.Legal.{AreEdges, Gains, IsFailing};
 ghost use Rattle.delaunay_core.specs.Place.{place_of};
 ghost use Rattle.delaunay_legalization.specs.Flips.{FlipsFit};
 ghost use Rattle.delaunay_legalization.specs.Known.{point_at};
@@ -19,7 +19,7 @@ use crate::placed::Placed;
 use crate::sides::{Sides, push_sides};
 use delaunay_core::math::PlaneTests;
 use delaunay_core::point::{HasPosition, Point2};
-use mesh_embedding::half_edge_mesh::{
+use half_edge_dcel::{
     Dcel, FixedDirectedEdgeHandle, FixedUndirectedEdgeHandle, FixedVertexHandle, MeshViews,
 };
 

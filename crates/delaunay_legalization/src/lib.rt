@@ -1,9 +1,10 @@
-//! What the edits of a triangulation share: questions about a few of its points, which of its edges
-//! are constraints, and flips until each other edge passes the circle test.
+//! What the links of a mesh draw in the plane, by the vertices of its faces and edges (proofs/),
+//! and what the edits of a triangulation share: questions about a few of its points, which of its
+//! edges are constraints, and flips until each other edge passes the circle test.
 #![tactic(auto)]
 
 pub use delaunay_core;
-pub use mesh_embedding::half_edge_mesh;
+pub use half_edge_dcel;
 
 mod among;
 mod around;

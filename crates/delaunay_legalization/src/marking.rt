@@ -3,7 +3,7 @@ ghost use Rattle.std.specs.Prelude.{◌<◌, length};
 ghost use Rattle.delaunay_legalization.specs.Marking.{HasEdgeData};
 
 use crate::constraint_marker::ConstraintMarker;
-use mesh_embedding::half_edge_mesh::{Dcel, FixedUndirectedEdgeHandle};
+use half_edge_dcel::{Dcel, FixedUndirectedEdgeHandle};
 
 /// Makes an edge a constraint, where data can have the mark.
 pub fn make_constraint<M: ConstraintMarker<UE>, V, DE, UE, F>(

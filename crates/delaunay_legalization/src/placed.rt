@@ -1,11 +1,11 @@
 //! A mesh with its points, for reads.
 ghost use Rattle.std.specs.Prelude.{◌≡◌, ◌↔◌, ◌<◌, ◌≤◌, length, map, IsTrue};
-ghost use Rattle.mesh_embedding.specs.half_edge_mesh.Mesh.{origin, prev, face_edge, rev};
-ghost use Rattle.mesh_embedding.specs.half_edge_mesh.Triangles.{triangle_at};
-ghost use Rattle.mesh_embedding.specs.plane.Fraction.{whole as fraction};
-ghost use Rattle.mesh_embedding.specs.plane.Pairs.{place};
-ghost use Rattle.mesh_embedding.specs.plane.Side.{side};
-ghost use Rattle.mesh_embedding.specs.Legal.{IsFailing};
+ghost use Rattle.delaunay_legalization.specs.half_edge_links.Mesh.{origin, prev, face_edge, rev};
+ghost use Rattle.delaunay_legalization.specs.half_edge_links.Triangles.{triangle_at};
+ghost use Rattle.delaunay_legalization.specs.plane.Fraction.{whole as fraction};
+ghost use Rattle.delaunay_legalization.specs.plane.Pairs.{place};
+ghost use Rattle.delaunay_legalization.specs.plane.Side.{side};
+ghost use Rattle.delaunay_legalization.specs.Legal.{IsFailing};
 ghost use Rattle.delaunay_core.specs.Place.{place_of};
 ghost use Rattle.delaunay_legalization.specs.Known.{point_at};
 ghost use Rattle.delaunay_legalization.specs.Parts.{IsMeshFace};
@@ -14,7 +14,7 @@ use crate::legalization::position_of;
 use delaunay_core::line_side_info::LineSideInfo;
 use delaunay_core::math::PlaneTests;
 use delaunay_core::point::{HasPosition, Point2};
-use mesh_embedding::half_edge_mesh::{Dcel, FixedDirectedEdgeHandle, FixedFaceHandle, MeshViews};
+use half_edge_dcel::{Dcel, FixedDirectedEdgeHandle, FixedFaceHandle, MeshViews};
 use std::marker::Model;
 
 /// The mesh of a triangulation whose vertices are sites of tests.

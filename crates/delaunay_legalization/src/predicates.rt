@@ -1,8 +1,8 @@
 //! Questions about a few points.
 ghost use Rattle.std.specs.Prelude.{◌≡◌, ◌≢◌, ◌↔◌, IsTrue};
-ghost use Rattle.mesh_embedding.specs.plane.Fraction.{whole as fraction, WithinSegment};
-ghost use Rattle.mesh_embedding.specs.plane.Fraction.{InsideTriangle};
-ghost use Rattle.mesh_embedding.specs.plane.Side.{TurnsLeft};
+ghost use Rattle.delaunay_legalization.specs.plane.Fraction.{whole as fraction, WithinSegment};
+ghost use Rattle.delaunay_legalization.specs.plane.Fraction.{InsideTriangle};
+ghost use Rattle.delaunay_legalization.specs.plane.Side.{TurnsLeft};
 ghost use Rattle.delaunay_core.specs.Place.{place_of};
 ghost use Rattle.delaunay_legalization.specs.Between.{IsFrom};
 

@@ -1,12 +1,12 @@
 //! Which of the four edges round a turned edge are left to test.
 ghost use Rattle.std.specs.Prelude.{◌≡◌, ◌<◌, ◌≤◌, length};
-ghost use Rattle.mesh_embedding.specs.Legal.{AreEdges};
+ghost use Rattle.delaunay_legalization.specs.Legal.{AreEdges};
 ghost use Rattle.delaunay_legalization.specs.Pushing.{GainsAmong};
 ghost use Rattle.delaunay_legalization.specs.Sides.{GainsSides};
 
 use crate::edge_set::EdgeSet;
 use crate::legalization::push_side;
-use mesh_embedding::half_edge_mesh::{Dcel, FixedDirectedEdgeHandle, MeshViews};
+use half_edge_dcel::{Dcel, FixedDirectedEdgeHandle, MeshViews};
 
 /// Which of them may fail then.
 #[derive(Clone, Copy)]

@@ -1,10 +1,10 @@
 //! A legalization that begins at one vertex, where only edges of the faces there may fail.
 ghost use Rattle.std.specs.Prelude.{◌≡◌, ◌*◌, ◌<◌, ◌≤◌};
 ghost use Rattle.std.specs.Prelude.{length, map, All, IsFalse, IsTrue};
-ghost use Rattle.mesh_embedding.specs.Drawn.{faces_of};
-ghost use Rattle.mesh_embedding.specs.Legal.{AreEdges};
+ghost use Rattle.delaunay_legalization.specs.Drawn.{faces_of};
+ghost use Rattle.delaunay_legalization.specs.Legal.{AreEdges};
 ghost use Rattle.delaunay_legalization.specs.Constraints.{constraints_by};
-ghost use Rattle.mesh_embedding.specs.plane_edits.EmptyRound.{IsEmptyRound};
+ghost use Rattle.delaunay_legalization.specs.plane_theorems.Edits.EmptyRound.{IsEmptyRound};
 ghost use Rattle.delaunay_legalization.specs.Flips.{FlipsFit};
 ghost use Rattle.delaunay_legalization.specs.Legalized.{Legalizes};
 ghost use Rattle.delaunay_legalization.specs.Shape.{IsTriangulated};
@@ -18,7 +18,7 @@ use crate::legalization::{legalize, push_side};
 use crate::sides::Sides;
 use delaunay_core::math::PlaneTests;
 use delaunay_core::point::HasPosition;
-use mesh_embedding::half_edge_mesh::{Dcel, FixedVertexHandle, MeshViews};
+use half_edge_dcel::{Dcel, FixedVertexHandle, MeshViews};
 
 // Puts the edges of a vertex into a work list, and those of the faces there that lie opposite it,
 // in place of what was in the list.

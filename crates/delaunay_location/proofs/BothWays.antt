@@ -13,14 +13,14 @@ use Rattle.std.proofs.lemmas.Bool.{cases_lt}
 use Rattle.std.proofs.lemmas.Bool.{eq-eqb}
 use Rattle.std.proofs.lemmas.Bool.Decides.{eqb_tells}
 use Rattle.std.proofs.lemmas.List.FromFn.{length-map-range_with_len}
-use Rattle.delaunay_legalization.specs.half_edge_mesh.Mesh.{Mesh, IsValidMesh, AreSoundLinks}
-use Rattle.delaunay_legalization.specs.half_edge_mesh.Mesh.{origin, next, prev, rev, out_edge}
-use Rattle.delaunay_legalization.specs.half_edge_mesh.Peel.{turn, spoke}
-use Rattle.delaunay_legalization.specs.half_edge_mesh.Round.{IsRound}
-use Rattle.delaunay_legalization.specs.half_edge_mesh.Walks.{walk}
-use Rattle.delaunay_legalization.proofs.half_edge_links.Lists.Rev.{rev-rev}
-use Rattle.delaunay_legalization.proofs.mesh_embedding.WorkLists.{contains_map_from}
-use Rattle.delaunay_legalization.proofs.mesh_embedding.WorkLists.{at_most_so_many}
+use Rattle.delaunay_legalization.specs.half_edge_links.Mesh.{Mesh, IsValidMesh, AreSoundLinks}
+use Rattle.delaunay_legalization.specs.half_edge_links.Mesh.{origin, next, prev, rev, out_edge}
+use Rattle.delaunay_legalization.specs.half_edge_links.Peel.{turn, spoke}
+use Rattle.delaunay_legalization.specs.half_edge_links.Round.{IsRound}
+use Rattle.delaunay_legalization.specs.half_edge_dcel.Walks.{walk}
+use Rattle.delaunay_legalization.proofs.half_edge_links_lemmas.Lists.Rev.{rev-rev}
+use Rattle.delaunay_legalization.proofs.WorkLists.{contains_map_from}
+use Rattle.delaunay_legalization.proofs.WorkLists.{at_most_so_many}
 use Rattle.delaunay_legalization.proofs.Rounds.{round_at, spokes_once}
 
 -- edges left and right of vertex v lie at two places of the round against the clock that begins

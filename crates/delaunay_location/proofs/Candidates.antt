@@ -7,13 +7,13 @@ use Rattle.std.proofs.Common.{arith}
 use Rattle.std.proofs.lemmas.List.{length-map}
 use Rattle.std.proofs.lemmas.List.Elements.{All-get_or, All-map}
 use Rattle.std.specs.Prelude.{pos, ◌<ℤ◌}
-use Rattle.delaunay_legalization.specs.half_edge_mesh.Mesh.{Mesh, origin, rev}
-use Rattle.delaunay_legalization.proofs.half_edge_links.Lists.Rev.{rev-rev}
+use Rattle.delaunay_legalization.specs.half_edge_links.Mesh.{Mesh, origin, rev}
+use Rattle.delaunay_legalization.proofs.half_edge_links_lemmas.Lists.Rev.{rev-rev}
 use Rattle.delaunay_legalization.specs.plane.Fraction.{Point, whole}
 use Rattle.delaunay_legalization.specs.plane.Circle.{gap, IsNearer}
 use Rattle.delaunay_legalization.specs.plane.Pairs.{place}
 use Rattle.delaunay_legalization.specs.plane.Tests.{InRange}
-use Rattle.plane_delaunay.specs.Nearer.{nearer_count}
+use Rattle.plane_theorems.specs.Delaunay.Nearer.{nearer_count}
 use Rattle.delaunay_legalization.proofs.plane.Signs.{at_most_and_more, less_is_at_most}
 use Rattle.delaunay_legalization.proofs.plane.Signs.{less_with_ones}
 use Rattle.delaunay_legalization.proofs.delaunay_core_lemmas.Projections.{gap_passes}

@@ -1,12 +1,8 @@
 pub use Rattle.delaunay_legalization.proofs.plane as plane
-pub use Rattle.delaunay_legalization.proofs.plane_tiling as plane_tiling
-pub use Rattle.delaunay_legalization.proofs.plane_edits as plane_edits
-pub use Rattle.plane_delaunay.proofs as plane_delaunay
-pub use Rattle.delaunay_legalization.proofs.half_edge_links as half_edge_links
-pub use Rattle.delaunay_legalization.proofs.half_edge_dcel as half_edge_dcel
-pub use Rattle.delaunay_legalization.proofs.half_edge_views as half_edge_views
+pub use Rattle.plane_theorems.proofs as plane_theorems
+pub use Rattle.delaunay_legalization.proofs.half_edge_links_lemmas as half_edge_links_lemmas
+pub use Rattle.delaunay_legalization.proofs.half_edge_dcel_lemmas as half_edge_dcel_lemmas
 pub use Rattle.delaunay_legalization.proofs.delaunay_core_lemmas as delaunay_core_lemmas
-pub use Rattle.delaunay_legalization.proofs.mesh_embedding as mesh_embedding
 pub use Rattle.delaunay_legalization.proofs as delaunay_legalization_lemmas
 -- What answers to tests say.
 pub mod Distances
@@ -15,9 +11,25 @@ pub mod Sides
 -- Where a position is: the walk from face to face, and points on one line.
 pub mod Walking
 pub mod Locating
-pub mod Lines
+pub mod OneLine
 -- The vertex nearest to a position.
 pub mod Nearest
 pub mod Neighbours
 pub mod Candidates
 pub mod BothWays
+-- What a segment meets first.
+pub mod SegmentTests
+pub mod Located
+pub mod FirstItems
+pub mod OutsideItems
+pub mod LineOutline
+pub mod OutlineWalk
+pub mod PastEnd
+pub mod EitherWay
+-- From one item to the next.
+pub mod MeshSteps
+pub mod Advance
+pub mod Turn
+-- The constraints that a segment meets.
+pub mod ConflictSearch
+pub mod Intersecting

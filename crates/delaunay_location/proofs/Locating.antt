@@ -7,8 +7,8 @@ use Rattle.std.specs.Prelude.{ℤ, pos, ◌*ℤ◌, ◌≤ℤ◌, Contains}
 use Rattle.std.proofs.lemmas.Int.{ints}
 use Rattle.std.proofs.lemmas.Bool.{cases_eq}
 use Rattle.std.proofs.lemmas.List.{length-map, get_or-map}
-use Rattle.delaunay_legalization.specs.half_edge_mesh.Mesh.{Mesh, origin, face, face_edge, rev}
-use Rattle.delaunay_legalization.specs.half_edge_mesh.Triangles.{triangle_at, triangles}
+use Rattle.delaunay_legalization.specs.half_edge_links.Mesh.{Mesh, origin, face, face_edge, rev}
+use Rattle.delaunay_legalization.specs.half_edge_links.Triangles.{triangle_at, triangles}
 use Rattle.delaunay_legalization.specs.plane.Fraction.{Point, whole, IsSame, WithinSegment}
 use Rattle.delaunay_legalization.specs.plane.Fraction.{InsideTriangle}
 use Rattle.delaunay_legalization.specs.plane.Side.{TurnsLeft}
@@ -20,25 +20,25 @@ use Rattle.delaunay_legalization.specs.plane.Location.{Location, on_vertex, on_e
 use Rattle.delaunay_legalization.specs.plane.Location.{outside_hull, no_triangulation, IsLocation}
 use Rattle.delaunay_legalization.specs.plane.Location.{IsOuter, IsPast}
 use Rattle.delaunay_legalization.proofs.plane.Triangles.{turned_inside}
-use Rattle.delaunay_legalization.specs.plane_tiling.Local.{IsMesh}
-use Rattle.delaunay_legalization.proofs.plane_tiling.Tiles.{by_signs, point_at}
-use Rattle.delaunay_legalization.proofs.plane_tiling.Loops as L
-use Rattle.delaunay_legalization.proofs.plane_tiling.Places as P
-use Rattle.delaunay_legalization.proofs.plane_tiling.Locations.{each_point_has_one_location}
+use Rattle.delaunay_legalization.specs.plane_theorems.Tiling.Local.{IsMesh}
+use Rattle.delaunay_legalization.proofs.plane_theorems.Tiling.Tiles.{by_signs, point_at}
+use Rattle.delaunay_legalization.proofs.plane_theorems.Tiling.Loops as L
+use Rattle.delaunay_legalization.proofs.plane_theorems.Tiling.Places as P
+use Rattle.delaunay_legalization.proofs.plane_theorems.Tiling.Locations.{each_point_has_one_location}
 use Rattle.delaunay_location.specs.declared.position_in_triangulation.PositionInTriangulation.TheVariants.{
   OnVertex,
   OnFace,
   OutsideOfConvexHull,
 }
-use Rattle.delaunay_legalization.specs.mesh_embedding.Drawn.{drawn, faces_of, edges_of, outer_of}
-use Rattle.delaunay_legalization.specs.mesh_embedding.Drawn.{corners_of}
-use Rattle.delaunay_legalization.proofs.mesh_embedding.OwnEdges.{own_edges}
-use Rattle.delaunay_legalization.proofs.mesh_embedding.OuterEdges.{real}
+use Rattle.delaunay_legalization.specs.Drawn.{drawn, faces_of, edges_of, outer_of}
+use Rattle.delaunay_legalization.specs.Drawn.{corners_of}
+use Rattle.delaunay_legalization.proofs.OwnEdges.{own_edges}
+use Rattle.delaunay_legalization.proofs.OuterEdges.{real}
 use Rattle.delaunay_legalization.specs.State.{State}
 use Rattle.delaunay_legalization.specs.Shape.{IsTriangulated}
 use Rattle.delaunay_legalization.specs.Parts.{IsApart, IsInsideFaceOf}
 use Rattle.delaunay_location.specs.Location.{Locates, IsClearOfEdge, StartsNearest}
-use Rattle.delaunay_legalization.proofs.mesh_embedding.EdgePairs.{joins_edge, Contains-map_from}
+use Rattle.delaunay_legalization.proofs.EdgePairs.{joins_edge, Contains-map_from}
 use Rattle.delaunay_legalization.proofs.Shapes.{laid_out_distinct}
 use Rattle.delaunay_legalization.proofs.MeshParts.{mesh_edge, mesh_face, no_side}
 use Rattle.delaunay_location.proofs.Distances.{nearer_of_within}

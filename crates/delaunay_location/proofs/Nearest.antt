@@ -4,7 +4,7 @@ use Rattle.std.proofs.Common.{◌≡◌, ◌⊎◌, ℕ, ◌+◌, ◌<◌, ◌�
 use Rattle.std.proofs.Common.{subst, inl, inr}
 use Rattle.std.specs.Prelude.{ℤ, ◌<ℤ◌, ◌≤ℤ◌}
 use Rattle.std.proofs.lemmas.Int.{ints}
-use Rattle.delaunay_legalization.specs.half_edge_mesh.Mesh.{Mesh, origin}
+use Rattle.delaunay_legalization.specs.half_edge_links.Mesh.{Mesh, origin}
 use Rattle.delaunay_legalization.specs.plane.Fraction.{Point, whole}
 use Rattle.delaunay_legalization.specs.plane.Circle.{gap}
 use Rattle.delaunay_legalization.specs.plane.Pairs.{place}

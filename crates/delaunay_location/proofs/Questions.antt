@@ -3,8 +3,8 @@
 -- next_face.
 use Rattle.std.proofs.Common.{◌≡◌, ◌↔◌, ℕ, ◌+◌, ◌<◌, ◌≤◌, arith, List, sym, subst, inl, inr}
 use Rattle.std.proofs.lemmas.Bool.{cases_eq}
-use Rattle.delaunay_legalization.specs.half_edge_mesh.Mesh.{Mesh, origin, next, prev, face}
-use Rattle.delaunay_legalization.specs.half_edge_mesh.Mesh.{face_edge, rev}
+use Rattle.delaunay_legalization.specs.half_edge_links.Mesh.{Mesh, origin, next, prev, face}
+use Rattle.delaunay_legalization.specs.half_edge_links.Mesh.{face_edge, rev}
 use Rattle.delaunay_legalization.specs.plane.Fraction.{Point, whole, WithinSegment, InsideTriangle}
 use Rattle.delaunay_legalization.specs.plane.Side.{TurnsLeft}
 use Rattle.delaunay_legalization.specs.plane.Pairs.{place}

@@ -4,10 +4,10 @@ use Rattle.std.proofs.Common.{◌≡◌, ℕ, List, map, refl, sym, ap}
 use Rattle.std.specs.Prelude.{pos, ◌*ℤ◌}
 use Rattle.delaunay_legalization.specs.plane.Fraction.{Point, IsSame, whole}
 use Rattle.delaunay_legalization.specs.plane.Location.{Location, IsLocation, on_vertex}
-use Rattle.delaunay_legalization.specs.plane_tiling.Laws.{IsSameLocation}
-use Rattle.delaunay_legalization.proofs.plane_tiling.Locations.{each_point_has_one_location}
-use Rattle.delaunay_legalization.specs.mesh_embedding.Drawn.{drawn, faces_of, outer_of, edges_of}
-use Rattle.delaunay_legalization.proofs.mesh_embedding.OwnEdges.{own_edges}
+use Rattle.delaunay_legalization.specs.plane_theorems.Tiling.Laws.{IsSameLocation}
+use Rattle.delaunay_legalization.proofs.plane_theorems.Tiling.Locations.{each_point_has_one_location}
+use Rattle.delaunay_legalization.specs.Drawn.{drawn, faces_of, outer_of, edges_of}
+use Rattle.delaunay_legalization.proofs.OwnEdges.{own_edges}
 use Rattle.delaunay_location.specs.declared.position_in_triangulation.PositionInTriangulation.{PositionInTriangulation}
 use Rattle.delaunay_location.specs.declared.position_in_triangulation.PositionInTriangulation.TheVariants.{OnVertex}
 use Rattle.delaunay_location.specs.declared.position_in_triangulation.PositionInTriangulation.TheVariants.{OnEdge}

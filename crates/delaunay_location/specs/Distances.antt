@@ -1,5 +1,5 @@
 -- Distances from a position to vertices.
-use Rattle.delaunay_legalization.specs.half_edge_mesh.Contents.{Contents}
+use Rattle.delaunay_legalization.specs.half_edge_dcel.Contents.{Contents}
 use Rattle.delaunay_legalization.specs.plane.Fraction.{Point}
 use Rattle.delaunay_legalization.specs.plane.Tests.{InRange}
 use Rattle.delaunay_legalization.specs.Shape.{IsTriangulated}

@@ -1,8 +1,8 @@
 -- What an answer to a location says: vertices in place of handles.
 use Rattle.std.specs.Prelude.{◌≡◌, ℕ, ℤ, ◌<◌, ◌≤◌, ◌≤ℤ◌, List, length, map, Option, Some, None}
-use Rattle.delaunay_legalization.specs.half_edge_mesh.Mesh.{Mesh, origin, face, face_edge, rev}
-use Rattle.delaunay_legalization.specs.half_edge_mesh.Mesh.{IsInner}
-use Rattle.delaunay_legalization.specs.half_edge_mesh.Triangles.{triangle_at}
+use Rattle.delaunay_legalization.specs.half_edge_links.Mesh.{Mesh, origin, face, face_edge, rev}
+use Rattle.delaunay_legalization.specs.half_edge_links.Mesh.{IsInner}
+use Rattle.delaunay_legalization.specs.half_edge_links.Triangles.{triangle_at}
 use Rattle.delaunay_legalization.specs.plane.Fraction.{Point, whole}
 use Rattle.delaunay_legalization.specs.plane.Side.{TurnsLeft}
 use Rattle.delaunay_legalization.specs.plane.Circle.{gap}
@@ -19,7 +19,7 @@ use Rattle.delaunay_legalization.specs.delaunay_core.Place.{place_of}
 use Rattle.delaunay_legalization.specs.delaunay_core.declared.point.Point2.{Point2}
 use Rattle.delaunay_legalization.specs.Parts.{IsApart, IsInsideFaceOf, IsWithinEdge}
 use Rattle.delaunay_legalization.specs.Placed.{Reading}
-use Rattle.delaunay_legalization.specs.mesh_embedding.Drawn.{drawn}
+use Rattle.delaunay_legalization.specs.Drawn.{drawn}
 
 -- the location that an answer says, by the vertices of the part that it names
 abbrev pub location_of : Mesh → PositionInTriangulation → Location

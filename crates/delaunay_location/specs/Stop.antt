@@ -1,6 +1,6 @@
 -- Where a walk from face to face is.
 use Rattle.std.specs.Prelude.{◌≡◌, ℕ, ℤ, ◌<◌, List, length, map, IfSome}
-use Rattle.delaunay_legalization.specs.half_edge_mesh.Mesh.{Mesh, origin, rev}
+use Rattle.delaunay_legalization.specs.half_edge_links.Mesh.{Mesh, origin, rev}
 use Rattle.delaunay_legalization.specs.plane.Fraction.{Point}
 use Rattle.delaunay_legalization.specs.delaunay_core.Place.{place_of}
 use Rattle.delaunay_legalization.specs.delaunay_core.declared.point.Point2.{Point2}

@@ -10,7 +10,7 @@ use crate::vertex_distance::is_nearer;
 use crate::walk::{FEW_STEPS, Walked, nearer_edge, place_on_edge};
 use delaunay_legalization::delaunay_core::math::PlaneTests;
 use delaunay_legalization::delaunay_core::point::{HasPosition, Point2};
-use delaunay_legalization::half_edge_mesh::{FixedDirectedEdgeHandle, MeshViews};
+use delaunay_legalization::half_edge_dcel::{FixedDirectedEdgeHandle, MeshViews};
 use delaunay_legalization::{Placed, is_same_point, is_strictly_within};
 
 // The location of a position near the start of an edge of the line: on one of its edges, or past

@@ -10,7 +10,7 @@ use crate::steps::ends_of;
 use crate::vertex_distance::is_nearer;
 use delaunay_legalization::delaunay_core::math::PlaneTests;
 use delaunay_legalization::delaunay_core::point::{HasPosition, Point2};
-use delaunay_legalization::half_edge_mesh::{
+use delaunay_legalization::half_edge_dcel::{
     Dcel, FixedDirectedEdgeHandle, FixedFaceHandle, FixedVertexHandle, MeshViews,
 };
 use delaunay_legalization::{

@@ -1,5 +1,5 @@
 //! The answer to a location.
-use delaunay_legalization::half_edge_mesh::{
+use delaunay_legalization::half_edge_dcel::{
     FixedDirectedEdgeHandle, FixedFaceHandle, FixedVertexHandle,
 };
 

@@ -9,7 +9,7 @@ ghost use Rattle.delaunay_location.specs.Distances.{CanMeasure};
 
 use crate::vertex_distance::is_nearer;
 use delaunay_legalization::delaunay_core::point::{HasPosition, Point2};
-use delaunay_legalization::half_edge_mesh::{Dcel, FixedVertexHandle};
+use delaunay_legalization::half_edge_dcel::{Dcel, FixedVertexHandle};
 
 // The nearest to a position of some vertices all over the mesh, or the vertex `from`, where none of
 // them is nearer. Of so many vertices about the cube root is taken.

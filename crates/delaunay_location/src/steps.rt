@@ -1,6 +1,6 @@
 //! The steps of a walk from face to face towards a position.
 ghost use Rattle.std.specs.Prelude.{◌<◌, length, map};
-ghost use Rattle.delaunay_legalization.specs.half_edge_mesh.Mesh.{face};
+ghost use Rattle.delaunay_legalization.specs.half_edge_links.Mesh.{face};
 ghost use Rattle.delaunay_legalization.specs.delaunay_core.Place.{place_of};
 ghost use Rattle.delaunay_legalization.specs.Parts.{IsMeshEdge};
 ghost use Rattle.delaunay_location.specs.Stop.{IsStepOf, IsStopOf};
@@ -8,7 +8,7 @@ ghost use Rattle.delaunay_location.specs.Stop.{IsStepOf, IsStopOf};
 use crate::position_in_triangulation::PositionInTriangulation;
 use delaunay_legalization::delaunay_core::math::PlaneTests;
 use delaunay_legalization::delaunay_core::point::{HasPosition, Point2};
-use delaunay_legalization::half_edge_mesh::{FixedDirectedEdgeHandle, MeshViews};
+use delaunay_legalization::half_edge_dcel::{FixedDirectedEdgeHandle, MeshViews};
 use delaunay_legalization::{Placed, is_outer, turns_left};
 
 // Where a walk is: in the face on the left of an edge. The positions of its ends are kept, so that

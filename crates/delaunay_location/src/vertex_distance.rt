@@ -7,7 +7,7 @@ ghost use Rattle.delaunay_legalization.specs.delaunay_core.Place.{place_of};
 ghost use Rattle.delaunay_location.specs.Distances.{CanMeasure};
 
 use delaunay_legalization::delaunay_core::point::{HasPosition, Point2};
-use delaunay_legalization::half_edge_mesh::{Dcel, FixedVertexHandle};
+use delaunay_legalization::half_edge_dcel::{Dcel, FixedVertexHandle};
 use delaunay_legalization::position_of;
 
 // The squared distance from a position to a vertex.

@@ -13,7 +13,7 @@ use crate::samples::nearer_sample;
 use crate::steps::{Step, Stop, ends_of, way_near_hull, way_through};
 use delaunay_legalization::delaunay_core::math::PlaneTests;
 use delaunay_legalization::delaunay_core::point::{HasPosition, Point2};
-use delaunay_legalization::half_edge_mesh::{
+use delaunay_legalization::half_edge_dcel::{
     Dcel, FixedDirectedEdgeHandle, FixedVertexHandle, MeshViews,
 };
 use delaunay_legalization::{Placed, is_same_point, is_strictly_within};

@@ -10,9 +10,10 @@ use Rattle.delaunay_location.specs.plane.Fraction.{Point, whole}
 use Rattle.delaunay_location.specs.plane.Circle.{gap}
 use Rattle.delaunay_location.specs.plane.Shape.{InClosedCircle}
 use Rattle.delaunay_location.proofs.plane.Solver.{num, ◌⊕◌, ◌⊖◌, ◌⊗◌, ring_in}
-use Rattle.delaunay_location.specs.plane_delaunay.EdgeTests.{distance_2, factor, MeetsCircle}
-use Rattle.delaunay_location.specs.plane_delaunay.EdgeTests.{HasPointIn}
-use Rattle.delaunay_location.proofs.plane_delaunay.Floods.EdgeInCircle.{edge_meets_circle}
+use Rattle.delaunay_location.specs.plane_theorems.Delaunay.EdgeTests.{distance_2, factor}
+use Rattle.delaunay_location.specs.plane_theorems.Delaunay.EdgeTests.{MeetsCircle}
+use Rattle.delaunay_location.specs.plane_theorems.Delaunay.EdgeTests.{HasPointIn}
+use Rattle.delaunay_location.proofs.plane_theorems.Delaunay.Floods.EdgeInCircle.{edge_meets_circle}
 use Rattle.delaunay_shapes.specs.Tests.{circle_distance, meets_circle, IsEdgeNear}
 use Rattle.delaunay_location.specs.delaunay_core.Projection.{along}
 use Rattle.delaunay_shapes.proofs.Decided.{decides_le, decides_lt, decides_or, decides_and_4}

@@ -2,7 +2,7 @@
 -- Lemmas: three_sides, if_ok, on_ok.
 use Rattle.std.proofs.Common.{◌≡◌, ℕ, ◌/◌, [], ◌∷◌, arith}
 use Rattle.std.specs.Prelude.{Result, Ok, Err, IfOk, OnOk}
-use Rattle.delaunay_location.specs.half_edge_mesh.Mesh.{Mesh, next, prev}
+use Rattle.delaunay_location.specs.half_edge_links.Mesh.{Mesh, next, prev}
 use Rattle.delaunay_shapes.specs.Start.{HasSides}
 
 -- the three sides of a face, each by its index

@@ -9,29 +9,31 @@ use mathlib.Core.Bool.{Bool}
 use Rattle.std.specs.Prelude.{Contains, ◌==◌}
 use Rattle.std.proofs.lemmas.Bool.{cases_eq, eqb-true}
 use Rattle.std.proofs.lemmas.Grind.{common_steps}
-use Rattle.delaunay_location.specs.half_edge_mesh.Mesh.{Mesh, origin, next, prev, face, rev}
-use Rattle.delaunay_location.specs.half_edge_mesh.Mesh.{IsValidMesh, IsClosed, IsInnerEdge}
-use Rattle.delaunay_location.proofs.half_edge_links.Lists.Rev.{rev-rev, rev_same, rev_within}
+use Rattle.delaunay_location.specs.half_edge_links.Mesh.{Mesh, origin, next, prev, face, rev}
+use Rattle.delaunay_location.specs.half_edge_links.Mesh.{IsValidMesh, IsClosed, IsInnerEdge}
+use Rattle.delaunay_location.proofs.half_edge_links_lemmas.Lists.Rev.{rev-rev, rev_same, rev_within}
 use Rattle.delaunay_location.specs.plane.Fraction.{Point, Fraction}
 use Rattle.delaunay_location.specs.plane.Pairs.{Joins}
 use Rattle.delaunay_location.specs.plane.Shape.{IsEdgeIn}
 use Rattle.delaunay_location.specs.plane.Tiling.{Triangulation, IsEdge, IsFace, IsTiling, JoinsLine}
-use Rattle.delaunay_location.specs.plane_tiling.Local.{IsMesh, LineMesh}
-use Rattle.delaunay_location.specs.plane_delaunay.EdgeTests.{HasPointIn}
-use Rattle.delaunay_location.specs.plane_delaunay.Flood.{Region, InRegion, IsFloodedAround}
-use Rattle.delaunay_location.proofs.plane_delaunay.Floods.FloodOnLine.{turned_join, turned_edge}
-use Rattle.delaunay_location.proofs.plane_delaunay.Floods.FloodOnLine.{flood_finds_on_line}
-use Rattle.delaunay_location.proofs.plane_delaunay.Floods.Flooded.{flood_finds_region}
-use Rattle.delaunay_location.specs.mesh_embedding.Drawn.{drawn, faces_of, edges_of, outer_of}
-use Rattle.delaunay_location.specs.mesh_embedding.Legal.{pair_at, pairs_at}
-use Rattle.delaunay_location.proofs.mesh_embedding.OwnEdges.{own_edges}
-use Rattle.delaunay_location.proofs.plane_tiling.Meshes.{meshes_tile}
-use Rattle.delaunay_location.proofs.mesh_embedding.EdgePairs.{edge_joins, joins_edge}
-use Rattle.delaunay_location.proofs.mesh_embedding.MeshStars.{edge_of_face}
-use Rattle.delaunay_location.proofs.mesh_embedding.MeshStays.{halved, half_same}
-use Rattle.delaunay_location.proofs.mesh_embedding.MeshLegal.{own_indexes}
-use Rattle.delaunay_location.proofs.mesh_embedding.LineNeighbours.{two_neighbours}
-use Rattle.delaunay_location.proofs.mesh_embedding.WorkLists.{contains_map, contains_map_from}
+use Rattle.delaunay_location.specs.plane_theorems.Tiling.Local.{IsMesh, LineMesh}
+use Rattle.delaunay_location.specs.plane_theorems.Delaunay.EdgeTests.{HasPointIn}
+use Rattle.delaunay_location.specs.plane_theorems.Delaunay.Flood.{Region, InRegion, IsFloodedAround}
+use Rattle.delaunay_location.proofs.plane_theorems.Delaunay.Floods.FloodOnLine.{turned_join}
+use Rattle.delaunay_location.proofs.plane_theorems.Delaunay.Floods.FloodOnLine.{turned_edge}
+use Rattle.delaunay_location.proofs.plane_theorems.Delaunay.Floods.FloodOnLine.{flood_finds_on_line}
+use Rattle.delaunay_location.proofs.plane_theorems.Delaunay.Floods.Flooded.{flood_finds_region}
+use Rattle.delaunay_location.specs.delaunay_legalization.Drawn.{drawn, faces_of, edges_of, outer_of}
+use Rattle.delaunay_location.specs.delaunay_legalization.Legal.{pair_at, pairs_at}
+use Rattle.delaunay_location.proofs.delaunay_legalization_lemmas.OwnEdges.{own_edges}
+use Rattle.delaunay_location.proofs.plane_theorems.Tiling.Meshes.{meshes_tile}
+use Rattle.delaunay_location.proofs.delaunay_legalization_lemmas.EdgePairs.{edge_joins, joins_edge}
+use Rattle.delaunay_location.proofs.delaunay_legalization_lemmas.MeshStars.{edge_of_face}
+use Rattle.delaunay_location.proofs.delaunay_legalization_lemmas.MeshStays.{halved, half_same}
+use Rattle.delaunay_location.proofs.delaunay_legalization_lemmas.MeshLegal.{own_indexes}
+use Rattle.delaunay_location.proofs.delaunay_legalization_lemmas.LineNeighbours.{two_neighbours}
+use Rattle.delaunay_location.proofs.delaunay_legalization_lemmas.WorkLists.{contains_map}
+use Rattle.delaunay_location.proofs.delaunay_legalization_lemmas.WorkLists.{contains_map_from}
 use Rattle.delaunay_shapes.specs.Known.{point_at}
 use Rattle.delaunay_shapes.specs.InShape.{IsEdgeInShape, AreEdgesInShape, undirected_of}
 use Rattle.delaunay_shapes.specs.Flood.{IsAsked, IsFlooding, AreAskedBeside, IsSpread}

@@ -8,13 +8,14 @@ use mathlib.Core.Bool.{Bool, true, false}
 use Rattle.std.specs.Prelude.{pos, All, IsTrue}
 use Rattle.std.specs.Borrow.{Bor}
 use Rattle.std.proofs.lemmas.List.{length-map}
-use Rattle.delaunay_location.specs.half_edge_mesh.Mesh.{Mesh, origin, next, prev, rev}
-use Rattle.delaunay_location.specs.half_edge_mesh.Contents.{Contents, IsMeshWithData}
-use Rattle.delaunay_location.proofs.half_edge_links.Lists.Rev.{rev_within}
+use Rattle.delaunay_location.specs.half_edge_links.Mesh.{Mesh, origin, next, prev, rev}
+use Rattle.delaunay_location.specs.half_edge_dcel.Contents.{Contents, IsMeshWithData}
+use Rattle.delaunay_location.proofs.half_edge_links_lemmas.Lists.Rev.{rev_within}
 use Rattle.delaunay_location.specs.plane.Fraction.{Point, Fraction, whole}
-use Rattle.delaunay_location.specs.plane_delaunay.EdgeTests.{HasPointIn}
-use Rattle.delaunay_location.proofs.plane_tiling.Totals.{get_or_any}
-use Rattle.delaunay_location.proofs.mesh_embedding.WorkLists.{at_most_so_many, contains_map}
+use Rattle.delaunay_location.specs.plane_theorems.Delaunay.EdgeTests.{HasPointIn}
+use Rattle.delaunay_location.proofs.plane_theorems.Tiling.Totals.{get_or_any}
+use Rattle.delaunay_location.proofs.delaunay_legalization_lemmas.WorkLists.{at_most_so_many}
+use Rattle.delaunay_location.proofs.delaunay_legalization_lemmas.WorkLists.{contains_map}
 use Rattle.delaunay_shapes.specs.Known.{point_at}
 use Rattle.delaunay_shapes.specs.InShape.{IsEdgeInShape, AreEdgesInShape, AreVerticesInShape}
 use Rattle.delaunay_shapes.specs.InShape.{IsInside, undirected_of}

@@ -14,3 +14,7 @@ pub mod VertexFlood
 pub mod Searches
 pub mod Shapes
 pub mod Marking
+mod MeshFaces
+mod Crossed
+mod Walks
+mod SightDecided

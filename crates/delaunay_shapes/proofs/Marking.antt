@@ -13,7 +13,7 @@ use Rattle.std.proofs.lemmas.List.{ext_get_or, get_or-set_same, get_or-set_other
 use Rattle.std.proofs.lemmas.List.{get_or_append_left, get_or-append_right, length-append}
 use Rattle.std.proofs.lemmas.List.{length-set, length-replicate, get_or-replicate}
 use Rattle.std.proofs.lemmas.List.FromFn.{length-map-range_with_len, get_or-map-range_with_len}
-use Rattle.delaunay_location.proofs.plane_tiling.Totals.{get_or_any}
+use Rattle.delaunay_location.proofs.plane_theorems.Tiling.Totals.{get_or_any}
 use Rattle.delaunay_location.specs.delaunay_legalization.Bits.{has_bit}
 use Rattle.delaunay_location.proofs.delaunay_legalization_lemmas.Bits.{no_bit, no_bits}
 use Rattle.delaunay_shapes.specs.Marks.{tests_below, has_mark, count_others, IsDirectory}

@@ -13,9 +13,9 @@ use Rattle.delaunay_location.specs.plane.Shape.{InClosedRectangle}
 use Rattle.delaunay_location.proofs.plane.IntegerOrder.{lt_or_ge_ℤ, mul-lt-mul_ℤ}
 use Rattle.delaunay_location.proofs.plane.Segments.{start_on_segment, end_on_segment}
 use Rattle.delaunay_location.proofs.plane.Solver.{◌⊗◌, ring_in}
-use Rattle.delaunay_location.specs.plane_delaunay.EdgeTests.{RangeMeets, AreCornersOn}
-use Rattle.delaunay_location.specs.plane_delaunay.EdgeTests.{MeetsRectangle, HasPointIn}
-use Rattle.delaunay_location.proofs.plane_delaunay.Floods.EdgeInRectangle.{edge_meets_rectangle}
+use Rattle.delaunay_location.specs.plane_theorems.Delaunay.EdgeTests.{RangeMeets, AreCornersOn}
+use Rattle.delaunay_location.specs.plane_theorems.Delaunay.EdgeTests.{MeetsRectangle, HasPointIn}
+use Rattle.delaunay_location.proofs.plane_theorems.Delaunay.Floods.EdgeInRectangle.{edge_meets_rectangle}
 use Rattle.delaunay_shapes.specs.Tests.{IsReversed, is_reversed, range_meets, is_left, is_right}
 use Rattle.delaunay_shapes.specs.Tests.{are_corners, meets_rectangle}
 use Rattle.delaunay_shapes.proofs.Decided.{decides_le, decides_lt, decides_not, decides_or}

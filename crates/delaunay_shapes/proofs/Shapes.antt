@@ -4,7 +4,7 @@ use Rattle.std.proofs.Common.{refl}
 use Rattle.std.specs.Prelude.{ℤ}
 use Rattle.delaunay_location.specs.plane.Fraction.{Point}
 use Rattle.delaunay_location.specs.plane.Shape.{InClosedCircle, InClosedRectangle}
-use Rattle.delaunay_location.specs.plane_delaunay.Flood.{circle, rectangle}
+use Rattle.delaunay_location.specs.plane_theorems.Delaunay.Flood.{circle, rectangle}
 use Rattle.delaunay_shapes.specs.Start.{HasStartAt}
 
 -- a closed circle and a closed rectangle are regions with a start

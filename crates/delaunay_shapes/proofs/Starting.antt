@@ -5,10 +5,10 @@ use Rattle.std.proofs.Common.{◌≡◌, ◌↔◌, ◌*◌, ◌/◌, ◌<◌, �
 use Rattle.std.proofs.Common.{ℕ, List, length, refl, sym, ap, subst, arith, None}
 use mathlib.Core.Logic.{inl, inr, ◌≢◌}
 use Rattle.std.specs.Prelude.{Contains, IsSome, Option, Some}
-use Rattle.delaunay_location.specs.plane_edits.Change.{IsFaceOf}
+use Rattle.delaunay_location.specs.plane_theorems.Edits.Change.{IsFaceOf}
 use Rattle.std.proofs.lemmas.Bool.{cases_eq}
-use Rattle.delaunay_location.specs.half_edge_mesh.Mesh.{Mesh, origin, next, prev, face, rev}
-use Rattle.delaunay_location.specs.half_edge_mesh.Mesh.{out_edge, face_edge, IsInner, IsValidMesh}
+use Rattle.delaunay_location.specs.half_edge_links.Mesh.{Mesh, origin, next, prev, face, rev}
+use Rattle.delaunay_location.specs.half_edge_links.Mesh.{out_edge, face_edge, IsInner, IsValidMesh}
 use Rattle.delaunay_location.specs.plane.Fraction.{Point, Fraction, whole, IsSame}
 use Rattle.delaunay_location.specs.plane.Pairs.{IsSamePair}
 use Rattle.delaunay_location.specs.plane.Shape.{IsEdgeIn}
@@ -16,15 +16,17 @@ use Rattle.delaunay_location.specs.plane.Location.{Location, on_vertex, on_edge,
 use Rattle.delaunay_location.specs.plane.Location.{outside_hull, IsLocation, IsOuter}
 use Rattle.delaunay_location.specs.plane.Tiling.{IsEdge, vertex}
 use Rattle.delaunay_location.proofs.plane.Segments.{start_on_segment, on_segment-same}
-use Rattle.delaunay_location.specs.plane_tiling.Local.{IsMesh}
-use Rattle.delaunay_location.specs.plane_delaunay.Flood.{Region, InRegion, IsTried, start_point}
-use Rattle.delaunay_location.proofs.plane_delaunay.Floods.Regions.{region_convex}
-use Rattle.delaunay_location.proofs.plane_delaunay.Floods.FloodOnLine.{turned_edge, edge_at}
-use Rattle.delaunay_location.proofs.plane_delaunay.Floods.FloodRules.{region_has_start}
-use Rattle.delaunay_location.proofs.plane_delaunay.Floods.FloodRules.{start_is_exact}
-use Rattle.delaunay_location.specs.mesh_embedding.Drawn.{drawn, faces_of, outer_of}
-use Rattle.delaunay_location.proofs.mesh_embedding.EdgePairs.{edge_joins, joins_edge}
-use Rattle.delaunay_location.proofs.mesh_embedding.MeshEdits.{face_before}
+use Rattle.delaunay_location.specs.plane_theorems.Tiling.Local.{IsMesh}
+use Rattle.delaunay_location.specs.plane_theorems.Delaunay.Flood.{Region, InRegion, IsTried}
+use Rattle.delaunay_location.specs.plane_theorems.Delaunay.Flood.{start_point}
+use Rattle.delaunay_location.proofs.plane_theorems.Delaunay.Floods.Regions.{region_convex}
+use Rattle.delaunay_location.proofs.plane_theorems.Delaunay.Floods.FloodOnLine.{turned_edge}
+use Rattle.delaunay_location.proofs.plane_theorems.Delaunay.Floods.FloodOnLine.{edge_at}
+use Rattle.delaunay_location.proofs.plane_theorems.Delaunay.Floods.FloodRules.{region_has_start}
+use Rattle.delaunay_location.proofs.plane_theorems.Delaunay.Floods.FloodRules.{start_is_exact}
+use Rattle.delaunay_location.specs.delaunay_legalization.Drawn.{drawn, faces_of, outer_of}
+use Rattle.delaunay_location.proofs.delaunay_legalization_lemmas.EdgePairs.{edge_joins, joins_edge}
+use Rattle.delaunay_location.proofs.delaunay_legalization_lemmas.MeshEdits.{face_before}
 use Rattle.delaunay_shapes.specs.InShape.{IsEdgeInShape}
 use Rattle.delaunay_location.specs.declared.position_in_triangulation.PositionInTriangulation.{PositionInTriangulation}
 use Rattle.delaunay_location.specs.declared.position_in_triangulation.PositionInTriangulation.TheVariants.{OnVertex}

@@ -9,22 +9,24 @@ use Rattle.std.specs.Prelude.{ℤ, pos, ◌*ℤ◌, Contains, Some, IsSome, IsTr
 use Rattle.std.proofs.lemmas.Int.{ints}
 use Rattle.std.proofs.lemmas.Bool.{cases_eq}
 use Rattle.std.proofs.lemmas.List.{get_or-map, get_or_append_left, length-map, map-append}
-use Rattle.delaunay_location.specs.half_edge_mesh.Mesh.{Mesh, origin, out_edge, rev, IsValidMesh}
-use Rattle.delaunay_location.proofs.half_edge_links.Lists.Rev.{rev_differs}
-use Rattle.delaunay_location.proofs.half_edge_links.Removing.CollapseLemmas.{some_of}
+use Rattle.delaunay_location.specs.half_edge_links.Mesh.{Mesh, origin, out_edge, rev, IsValidMesh}
+use Rattle.delaunay_location.proofs.half_edge_links_lemmas.Lists.Rev.{rev_differs}
+use Rattle.delaunay_location.proofs.half_edge_links_lemmas.Removing.CollapseLemmas.{some_of}
 use Rattle.delaunay_location.specs.plane.Fraction.{Point, Fraction, whole, IsSame}
 use Rattle.delaunay_location.specs.plane.Pairs.{place}
 use Rattle.delaunay_location.proofs.plane.Segments.{start_on_segment}
-use Rattle.delaunay_location.specs.plane_tiling.Local.{IsMesh}
-use Rattle.delaunay_location.proofs.plane_tiling.Totals.{Contains-none, get_or_any}
-use Rattle.delaunay_location.proofs.plane_edits.LocalMesh.Changes.{IsOnce, once_none}
-use Rattle.delaunay_location.proofs.plane_delaunay.Floods.FloodRules.{vertices_are_ends}
-use Rattle.delaunay_location.specs.mesh_embedding.Drawn.{drawn, faces_of, outer_of}
-use Rattle.delaunay_location.proofs.mesh_embedding.EdgePairs.{joins_edge}
-use Rattle.delaunay_location.proofs.mesh_embedding.Entries.{one_value}
-use Rattle.delaunay_location.proofs.mesh_embedding.MeshStays.{half_same}
-use Rattle.delaunay_location.proofs.mesh_embedding.WorkLists.{contains_last, contains_before}
-use Rattle.delaunay_location.proofs.mesh_embedding.WorkLists.{last_or_before, once_after}
+use Rattle.delaunay_location.specs.plane_theorems.Tiling.Local.{IsMesh}
+use Rattle.delaunay_location.proofs.plane_theorems.Tiling.Totals.{Contains-none, get_or_any}
+use Rattle.delaunay_location.proofs.plane_theorems.Edits.LocalMesh.Changes.{IsOnce, once_none}
+use Rattle.delaunay_location.proofs.plane_theorems.Delaunay.Floods.FloodRules.{vertices_are_ends}
+use Rattle.delaunay_location.specs.delaunay_legalization.Drawn.{drawn, faces_of, outer_of}
+use Rattle.delaunay_location.proofs.delaunay_legalization_lemmas.EdgePairs.{joins_edge}
+use Rattle.delaunay_location.proofs.delaunay_legalization_lemmas.Entries.{one_value}
+use Rattle.delaunay_location.proofs.delaunay_legalization_lemmas.MeshStays.{half_same}
+use Rattle.delaunay_location.proofs.delaunay_legalization_lemmas.WorkLists.{contains_last}
+use Rattle.delaunay_location.proofs.delaunay_legalization_lemmas.WorkLists.{contains_before}
+use Rattle.delaunay_location.proofs.delaunay_legalization_lemmas.WorkLists.{last_or_before}
+use Rattle.delaunay_location.proofs.delaunay_legalization_lemmas.WorkLists.{once_after}
 use Rattle.delaunay_shapes.specs.Known.{point_at}
 use Rattle.delaunay_shapes.specs.InShape.{AreEdgesInShape, AreVerticesInShape, undirected_of}
 use Rattle.delaunay_shapes.specs.Flood.{AreNamedIn, IsNamedIn, IsStartKept, KeepsEnds, KeepsStart}

@@ -1,6 +1,6 @@
 -- A search for what has a point in a shape: what a contract sees of it.
 use Rattle.std.specs.Prelude.{List, All}
-use Rattle.delaunay_location.specs.half_edge_mesh.Contents.{Contents}
+use Rattle.delaunay_location.specs.half_edge_dcel.Contents.{Contents}
 use Rattle.delaunay_location.specs.plane.Fraction.{Point, Fraction}
 use Rattle.delaunay_location.specs.delaunay_legalization.Shape.{IsTriangulated}
 use Rattle.delaunay_location.specs.delaunay_legalization.State.{state_of}

@@ -1,13 +1,13 @@
 -- A flood over the edges of a mesh: which were asked of, and which of them were found.
 use Rattle.std.specs.Prelude.{◌≡◌, ◌≢◌, ◌↔◌, ◌⊎◌, ℕ, ◌*◌, ◌/◌, ◌<◌, List, [], ◌∷◌, ◌++◌, length}
 use Rattle.std.specs.Prelude.{Some, Bool, true, false, All, Contains, AllPairs, slice_index_or, ◌≤◌}
-use Rattle.delaunay_location.specs.half_edge_mesh.Mesh.{Mesh, origin, next, prev, face, rev}
-use Rattle.delaunay_location.specs.half_edge_mesh.Mesh.{out_edge}
+use Rattle.delaunay_location.specs.half_edge_links.Mesh.{Mesh, origin, next, prev, face, rev}
+use Rattle.delaunay_location.specs.half_edge_links.Mesh.{out_edge}
 use Rattle.delaunay_location.specs.plane.Fraction.{Point, Fraction}
 use Rattle.delaunay_location.specs.plane.Shape.{IsEdgeIn}
 use Rattle.delaunay_location.specs.plane.Location.{Location}
-use Rattle.delaunay_location.specs.plane_delaunay.Flood.{IsTried}
-use Rattle.delaunay_location.specs.mesh_embedding.Drawn.{drawn}
+use Rattle.delaunay_location.specs.plane_theorems.Delaunay.Flood.{IsTried}
+use Rattle.delaunay_location.specs.delaunay_legalization.Drawn.{drawn}
 use Rattle.delaunay_shapes.specs.InShape.{IsEdgeInShape, undirected_of}
 
 -- the flood has asked of edge or vertex k

@@ -1,9 +1,9 @@
 -- Which edges and vertices of a mesh have a point in a shape.
 use Rattle.std.specs.Prelude.{◌≢◌, ◌↔◌, ℕ, ◌*◌, ◌/◌, ◌<◌, List, length, map, Contains, AllPairs}
-use Rattle.delaunay_location.specs.half_edge_mesh.Contents.{Contents}
-use Rattle.delaunay_location.specs.half_edge_mesh.Mesh.{Mesh, origin, rev}
+use Rattle.delaunay_location.specs.half_edge_dcel.Contents.{Contents}
+use Rattle.delaunay_location.specs.half_edge_links.Mesh.{Mesh, origin, rev}
 use Rattle.delaunay_location.specs.plane.Fraction.{Point, Fraction, whole}
-use Rattle.delaunay_location.specs.plane_delaunay.EdgeTests.{HasPointIn}
+use Rattle.delaunay_location.specs.plane_theorems.Delaunay.EdgeTests.{HasPointIn}
 use Rattle.delaunay_shapes.specs.Known.{point_at}
 
 -- directed edges, each without its direction

@@ -8,3 +8,5 @@ pub mod Left
 pub mod Start
 pub mod Enclosing
 pub mod ShapeSearch
+pub mod Beside
+pub mod Passing

@@ -1,8 +1,9 @@
 -- Where a flood begins: at the location of a point that the shape has, if it has any.
 use Rattle.std.specs.Prelude.{◌≡◌, ◌↔◌, ℕ, ◌/◌, ◌<◌, List, length, Some, Contains}
-use Rattle.delaunay_location.specs.half_edge_mesh.Mesh.{Mesh, face, next, prev, face_edge, out_edge}
+use Rattle.delaunay_location.specs.half_edge_links.Mesh.{Mesh, face, next, prev, face_edge}
+use Rattle.delaunay_location.specs.half_edge_links.Mesh.{out_edge}
 use Rattle.delaunay_location.specs.plane.Fraction.{Point, Fraction}
-use Rattle.delaunay_location.specs.plane_delaunay.Flood.{Region, InRegion, start_point}
+use Rattle.delaunay_location.specs.plane_theorems.Delaunay.Flood.{Region, InRegion, start_point}
 use Rattle.delaunay_location.specs.declared.position_in_triangulation.PositionInTriangulation.{PositionInTriangulation}
 use Rattle.delaunay_location.specs.declared.position_in_triangulation.PositionInTriangulation.TheVariants.{OnVertex}
 use Rattle.delaunay_location.specs.declared.position_in_triangulation.PositionInTriangulation.TheVariants.{OnEdge}

@@ -5,7 +5,7 @@ use Rattle.delaunay_location.specs.plane.Fraction.{Point, whole}
 use Rattle.delaunay_location.specs.plane.Side.{Side, left, right, on, side}
 use Rattle.delaunay_location.specs.plane.Circle.{gap}
 use Rattle.delaunay_location.specs.delaunay_core.Projection.{along}
-use Rattle.delaunay_location.specs.plane_delaunay.EdgeTests.{distance_2, factor}
+use Rattle.delaunay_location.specs.plane_theorems.Delaunay.EdgeTests.{distance_2, factor}
 
 -- the squared distance from the centre, less the squared radius
 abbrev pub circle_distance : Point → ℤ → Point → ℤ

@@ -4,7 +4,7 @@ ghost use Rattle.delaunay_location.specs.plane.Fraction.{whole as fraction};
 ghost use Rattle.delaunay_location.specs.plane.Circle.{gap};
 ghost use Rattle.delaunay_location.specs.plane.Shape.{InClosedCircle};
 ghost use Rattle.delaunay_location.specs.plane.Tests.{InRange};
-ghost use Rattle.delaunay_location.specs.plane_delaunay.EdgeTests.{HasPointIn};
+ghost use Rattle.delaunay_location.specs.plane_theorems.Delaunay.EdgeTests.{HasPointIn};
 ghost use Rattle.delaunay_location.specs.delaunay_core.Place.{place_of};
 ghost use Rattle.delaunay_shapes.specs.Tests.{circle_distance, FallsOn, IsEdgeNear, meets_circle};
 

@@ -8,7 +8,7 @@ use crate::in_shape::{EdgesInShapeIterator, VerticesInShapeIterator};
 use crate::positions::spot_of;
 use delaunay_location::delaunay_core::math::PlaneTests;
 use delaunay_location::delaunay_core::point::HasPosition;
-use delaunay_location::half_edge_mesh::{
+use delaunay_location::half_edge_dcel::{
     Dcel, FixedUndirectedEdgeHandle, FixedVertexHandle, MeshViews,
 };
 use std::alloc::{AllocError, Global};

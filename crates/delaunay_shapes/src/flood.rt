@@ -13,7 +13,7 @@ use crate::shape_search::ShapeSearch;
 use delaunay_location::LocationViews;
 use delaunay_location::delaunay_core::math::PlaneTests;
 use delaunay_location::delaunay_core::point::HasPosition;
-use delaunay_location::half_edge_mesh::{FixedDirectedEdgeHandle, FixedVertexHandle, MeshViews};
+use delaunay_location::half_edge_dcel::{FixedDirectedEdgeHandle, FixedVertexHandle, MeshViews};
 use std::alloc::{AllocError, Global};
 
 // The edges that a flood has asked of, and those of them that have a point in the shape, each in

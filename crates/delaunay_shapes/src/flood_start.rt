@@ -1,7 +1,7 @@
 //! The edges that a flood begins with, by the location of the shape's start.
 ghost use Rattle.std.specs.Prelude.{◌≡◌, ℕ, ◌/◌, ◌<◌, ◌≤◌};
 ghost use Rattle.std.specs.Prelude.{length, All, IfNone, IfOk, IfSome, Contains, Some};
-ghost use Rattle.delaunay_location.specs.half_edge_mesh.Mesh.{face, face_edge, out_edge};
+ghost use Rattle.delaunay_location.specs.half_edge_links.Mesh.{face, face_edge, out_edge};
 ghost use Rattle.delaunay_location.specs.Location.{HasHandle};
 ghost use Rattle.delaunay_shapes.specs.ShapeSearch.{EnclosesEdge};
 ghost use Rattle.delaunay_shapes.specs.Start.{HasSides, HasStarts};
@@ -11,7 +11,7 @@ use crate::shape_search::ShapeSearch;
 use delaunay_location::PositionInTriangulation;
 use delaunay_location::delaunay_core::math::PlaneTests;
 use delaunay_location::delaunay_core::point::HasPosition;
-use delaunay_location::half_edge_mesh::{
+use delaunay_location::half_edge_dcel::{
     Dcel, FixedDirectedEdgeHandle, FixedFaceHandle, FixedUndirectedEdgeHandle, FixedVertexHandle,
     MeshViews,
 };

@@ -2,7 +2,7 @@
 //! looks at its ends as it goes on from it.
 ghost use Rattle.std.specs.Prelude.{◌≡◌, ◌↔◌, ◌<◌, length, map, IfOk};
 ghost use Rattle.std.specs.Prelude.{IsTrue, OnOk, Some};
-ghost use Rattle.delaunay_location.specs.half_edge_mesh.Mesh.{origin, out_edge};
+ghost use Rattle.delaunay_location.specs.half_edge_links.Mesh.{origin, out_edge};
 ghost use Rattle.delaunay_shapes.specs.Flood.{AreNamedIn, IsSpread, KeepsEnds, KeepsStart, Spreads};
 ghost use Rattle.delaunay_shapes.specs.InShape.{AreVerticesInShape, undirected_of};
 ghost use Rattle.delaunay_shapes.specs.ShapeSearch.{EnclosesVertex, IsFloodFor};
@@ -13,7 +13,7 @@ use crate::positions::spot_of;
 use crate::shape_search::ShapeSearch;
 use delaunay_location::delaunay_core::math::PlaneTests;
 use delaunay_location::delaunay_core::point::HasPosition;
-use delaunay_location::half_edge_mesh::{
+use delaunay_location::half_edge_dcel::{
     Dcel, FixedDirectedEdgeHandle, FixedVertexHandle, MeshViews,
 };
 use std::alloc::{AllocError, Global};

@@ -2,7 +2,7 @@
 ghost use Rattle.std.specs.Prelude.{◌<◌, length, All};
 ghost use Rattle.std.specs.Iterator.{YieldsFirstBy, item_count};
 
-use delaunay_location::half_edge_mesh::{
+use delaunay_location::half_edge_dcel::{
     Dcel, FixedDirectedEdgeHandle, FixedVertexHandle, MeshViews, UndirectedEdgeHandle, VertexHandle,
 };
 

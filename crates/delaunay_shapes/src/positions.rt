@@ -4,7 +4,7 @@ ghost use Rattle.delaunay_location.specs.delaunay_core.Place.{place_of};
 ghost use Rattle.delaunay_shapes.specs.Known.{point_at};
 
 use delaunay_location::delaunay_core::point::{HasPosition, Point2};
-use delaunay_location::half_edge_mesh::VertexHandle;
+use delaunay_location::half_edge_dcel::VertexHandle;
 
 pub(crate) fn spot_of<V: HasPosition, DE, UE, F>(
     vertex: VertexHandle<'_, V, DE, UE, F>,

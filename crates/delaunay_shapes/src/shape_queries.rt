@@ -14,7 +14,7 @@ use crate::shape_search::ShapeSearch;
 use delaunay_location::delaunay_core::math::PlaneTests;
 use delaunay_location::delaunay_core::point::{HasPosition, Point2};
 use delaunay_location::delaunay_legalization::Placed;
-use delaunay_location::half_edge_mesh::{Dcel, FixedVertexHandle};
+use delaunay_location::half_edge_dcel::{Dcel, FixedVertexHandle};
 use std::alloc::{AllocError, Global};
 
 /// The edges with a point in a shape, each once. The shape is a closed circle, and `start` its

@@ -6,7 +6,7 @@ use crate::distance_metric::DistanceMetric;
 use delaunay_location::delaunay_core::math::PlaneTests;
 use delaunay_location::delaunay_core::point::{HasPosition, Point2};
 use delaunay_location::delaunay_legalization::Placed;
-use delaunay_location::half_edge_mesh::{FixedUndirectedEdgeHandle, MeshViews};
+use delaunay_location::half_edge_dcel::{FixedUndirectedEdgeHandle, MeshViews};
 use std::marker::Model;
 
 /// A search for the edges and vertices of a triangulation that have a point in a closed shape. It

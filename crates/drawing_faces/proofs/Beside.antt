@@ -8,15 +8,16 @@ use Rattle.std.specs.Prelude.{ℤ, All, slice_index}
 use Rattle.std.specs.Borrow.{Bor}
 use Rattle.std.proofs.lemmas.List.{get_or_read, map_more}
 use Rattle.std.proofs.lemmas.List.Elements.{All-append, All-nil}
-use Rattle.delaunay_interface.specs.half_edge_mesh.Contents.{Contents}
+use Rattle.delaunay_interface.specs.half_edge_dcel.Contents.{Contents}
 use Rattle.delaunay_interface.specs.plane.Fraction.{Point}
 use Rattle.delaunay_interface.specs.plane.Line.{Item, at_vertex, across, along}
 use Rattle.delaunay_interface.specs.delaunay_core.declared.point.Point2.{Point2}
 use Rattle.delaunay_interface.specs.delaunay_legalization.State.{State, state_of}
-use Rattle.delaunay_interface.specs.delaunay_lines.declared.intersection.Intersection.{Intersection}
-use Rattle.delaunay_interface.specs.delaunay_lines.declared.iterator.LineIntersectionIterator.{LineIntersectionIterator}
-use Rattle.delaunay_interface.specs.delaunay_lines.Items.{item_in, mesh_of}
-use Rattle.delaunay_interface.specs.delaunay_lines.Walk.{AreLeft, GivesNext, IsReady, WalksBetween}
+use Rattle.delaunay_interface.specs.delaunay_location.declared.intersection.Intersection.{Intersection}
+use Rattle.delaunay_interface.specs.delaunay_location.declared.iterator.LineIntersectionIterator.{LineIntersectionIterator}
+use Rattle.delaunay_interface.specs.delaunay_location.Items.{item_in, mesh_of}
+use Rattle.delaunay_interface.specs.delaunay_location.Walk.{AreLeft, GivesNext, IsReady}
+use Rattle.delaunay_interface.specs.delaunay_location.Walk.{WalksBetween}
 use Rattle.drawing_faces.specs.declared.edits.DrawnSegment.{DrawnSegment}
 use Rattle.drawing_faces.specs.Drawing.{ends_of}
 use Rattle.drawing_faces.specs.Names.{position}

@@ -11,12 +11,12 @@ use Rattle.std.proofs.lemmas.List.{get_or-set_same, get_or-set_other, length-set
 use Rattle.std.proofs.lemmas.List.Elements.{Contains-push, Contains-push_cases}
 use Rattle.std.proofs.lemmas.List.Elements.{Contains-append_left}
 use Rattle.std.proofs.lemmas.List.Sums.{sum_by-append}
-use Rattle.delaunay_interface.specs.half_edge_mesh.Mesh.{Mesh, face, rev, AreSoundLinks}
-use Rattle.delaunay_interface.proofs.half_edge_links.Lists.Rev.{rev_within}
+use Rattle.delaunay_interface.specs.half_edge_links.Mesh.{Mesh, face, rev, AreSoundLinks}
+use Rattle.delaunay_interface.proofs.half_edge_links_lemmas.Lists.Rev.{rev_within}
 use Rattle.delaunay_interface.proofs.plane.Indexes.{below_or_last}
-use Rattle.delaunay_interface.proofs.plane_tiling.Totals.{get_or_any}
-use Rattle.delaunay_layers.specs.Layers.{AreLayers, Leads, crossed, is_constrained}
-use Rattle.delaunay_layers.specs.Search.{weight}
+use Rattle.delaunay_interface.proofs.plane_theorems.Tiling.Totals.{get_or_any}
+use Rattle.delaunay_queries.specs.Layers.{AreLayers, Leads, crossed, is_constrained}
+use Rattle.delaunay_queries.specs.Search.{weight}
 use Rattle.drawing_faces.specs.Flood.{Enters, IsFlood, IsReached, MarkOpenFaces}
 use Rattle.drawing_faces.specs.Kept.{IsOpenFace}
 

@@ -9,7 +9,7 @@ use Rattle.std.proofs.lemmas.List.Elements.{All-append}
 use Rattle.delaunay_interface.specs.delaunay_core.declared.point.Point2.{Point2}
 use Rattle.delaunay_interface.specs.delaunay_legalization.State.{State}
 use Rattle.delaunay_interface.specs.delaunay_location.declared.position_in_triangulation.PositionInTriangulation.{PositionInTriangulation}
-use Rattle.delaunay_interface.specs.Elements.{FindsLocation}
+use Rattle.delaunay_interface.specs.delaunay_edit.Elements.{FindsLocation}
 use Rattle.drawing_faces.specs.Holes.{AddsFacesAt, AreIn, faces_at}
 use Rattle.drawing_faces.specs.Names.{position}
 

@@ -1,7 +1,8 @@
 -- The faces of a layer above 0, taken off the front of a list.
 -- Lemmas: inside_ends, inside_kept, inside_left.
 use Rattle.std.proofs.Common.{◌≡◌, ◌≢◌, ◌⊎◌, ◌+◌, ◌<◌, ◌≤◌, [], ◌∷◌, ◌++◌, ◌∙◌}
-use Rattle.std.proofs.Common.{ℕ, true, false, eqb, List, length, drop, get_or, inl, inr, refl, sym, ap, arith}
+use Rattle.std.proofs.Common.{ℕ, true, false, eqb, List, length, drop, get_or, inl, inr, refl, sym}
+use Rattle.std.proofs.Common.{ap, arith}
 use Rattle.std.proofs.Common.{append-nil, append_assoc, length-drop, eq-eqb, if◌then◌else◌}
 use Rattle.std.proofs.lemmas.Bool.{ne_eqb}
 use Rattle.std.proofs.lemmas.List.{at_drop_more}

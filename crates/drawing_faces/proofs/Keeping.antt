@@ -6,9 +6,9 @@ use Rattle.std.proofs.Common.{refl, sym, ap, subst, inl, inr, arith, eq-eqb, ifâ
 use Rattle.std.specs.Prelude.{â„¤}
 use Rattle.std.proofs.lemmas.Bool.{cases_eq, ne_eqb}
 use Rattle.std.proofs.lemmas.List.{length-map}
-use Rattle.delaunay_interface.specs.half_edge_mesh.Mesh.{Mesh}
-use Rattle.delaunay_interface.specs.half_edge_mesh.Triangles.{triangles, triangle_at}
-use Rattle.delaunay_interface.specs.mesh_embedding.Drawn.{corners_of}
+use Rattle.delaunay_interface.specs.half_edge_links.Mesh.{Mesh}
+use Rattle.delaunay_interface.specs.half_edge_links.Triangles.{triangles, triangle_at}
+use Rattle.delaunay_interface.specs.delaunay_legalization.Drawn.{corners_of}
 use Rattle.delaunay_interface.specs.plane.Tiling.{Face}
 use Rattle.delaunay_interface.specs.delaunay_core.declared.point.Point2.{Point2}
 use Rattle.delaunay_interface.specs.delaunay_legalization.State.{State, triangulation_of}

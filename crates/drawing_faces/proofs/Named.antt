@@ -18,7 +18,7 @@ use Rattle.delaunay_interface.specs.delaunay_core.declared.point.Point2.{Point2}
 use Rattle.delaunay_interface.specs.delaunay_legalization.Constraints.{points_and_constraints_by}
 use Rattle.delaunay_interface.specs.delaunay_legalization.Known.{IsKnown, point_at}
 use Rattle.delaunay_interface.specs.delaunay_legalization.State.{State}
-use Rattle.delaunay_interface.specs.Headline.{IsWellFormed}
+use Rattle.delaunay_interface.specs.delaunay_edit.Headline.{IsWellFormed}
 use Rattle.delaunay_bulk.specs.Bulk.{HaveHandles, InsertsAll, IsAt}
 use Rattle.delaunay_journal.proofs.Inserted.{appended_points}
 use Rattle.drawing_faces.specs.Names.{AreFirsts, NamesVertices, position}

@@ -1,14 +1,14 @@
 -- The triangulation of a drawing.
 use Rattle.std.specs.Prelude.{◌≡◌, ◌↔◌, [], ◌∷◌, ◌++◌, ℕ, ℤ, Bool, true, false, List, map}
 use Rattle.std.specs.Prelude.{slice_index, if◌then◌else◌, nat_eq}
-use Rattle.delaunay_interface.specs.half_edge_mesh.Mesh.{Mesh, face_edge}
-use Rattle.delaunay_interface.specs.half_edge_mesh.Triangles.{Triangle, triangle_at}
+use Rattle.delaunay_interface.specs.half_edge_links.Mesh.{Mesh, face_edge}
+use Rattle.delaunay_interface.specs.half_edge_links.Triangles.{Triangle, triangle_at}
 use Rattle.delaunay_interface.specs.plane.Pairs.{Joins}
 use Rattle.delaunay_interface.specs.plane.Tiling.{Face, face}
 use Rattle.delaunay_interface.specs.delaunay_core.declared.point.Point2.{Point2}
 use Rattle.delaunay_interface.specs.delaunay_legalization.State.{triangulation_of}
-use Rattle.delaunay_interface.specs.Constrained.{constraint_edges, constraints_of}
-use Rattle.delaunay_interface.specs.Headline.{IsDelaunay}
+use Rattle.delaunay_interface.specs.delaunay_edit.Constrained.{constraint_edges, constraints_of}
+use Rattle.delaunay_interface.specs.delaunay_edit.Headline.{IsDelaunay}
 use Rattle.delaunay_bulk.specs.Bulk.{HaveHandles}
 use Rattle.delaunay_journal.specs.declared.edit.Edit.{Edit}
 use Rattle.delaunay_journal.specs.declared.edit.Edit.TheVariants.{AddConstraint}

@@ -1,6 +1,6 @@
 -- The faces that points in holes are in.
 use Rattle.std.specs.Prelude.{◌≡◌, ◌≤◌, [], ◌∷◌, ◌++◌, ℕ, ℤ, List, length, All}
-use Rattle.delaunay_interface.specs.half_edge_mesh.Mesh.{Mesh, face, rev}
+use Rattle.delaunay_interface.specs.half_edge_links.Mesh.{Mesh, face, rev}
 use Rattle.delaunay_interface.specs.delaunay_core.declared.point.Point2.{Point2}
 use Rattle.delaunay_interface.specs.delaunay_legalization.State.{State}
 use Rattle.delaunay_interface.specs.delaunay_location.declared.position_in_triangulation.PositionInTriangulation.{PositionInTriangulation}
@@ -11,7 +11,7 @@ use Rattle.delaunay_interface.specs.delaunay_location.declared.position_in_trian
   OutsideOfConvexHull,
   NoTriangulation,
 }
-use Rattle.delaunay_interface.specs.Elements.{FindsLocation}
+use Rattle.delaunay_interface.specs.delaunay_edit.Elements.{FindsLocation}
 use Rattle.drawing_faces.specs.Names.{position}
 
 -- the faces that a point is in, by where it is: on an edge those on both sides, on a vertex none

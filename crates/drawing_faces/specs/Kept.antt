@@ -1,8 +1,8 @@
 -- Which faces are kept.
 use Rattle.std.specs.Prelude.{◌≡◌, ◌⊎◌, [], ◌∷◌, ℕ, suc, List, Contains}
-use Rattle.delaunay_interface.specs.half_edge_mesh.Mesh.{Mesh}
+use Rattle.delaunay_interface.specs.half_edge_links.Mesh.{Mesh}
 use Rattle.delaunay_interface.specs.plane.Tiling.{Face}
-use Rattle.delaunay_layers.specs.Layers.{Leads, crossed}
+use Rattle.delaunay_queries.specs.Layers.{Leads, crossed}
 use Rattle.drawing_faces.specs.declared.faces.Kept.{Kept}
 use Rattle.drawing_faces.specs.declared.faces.Kept.TheVariants.{All, Inside}
 

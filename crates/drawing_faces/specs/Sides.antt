@@ -1,6 +1,6 @@
 -- The faces beside the sides of holes.
 use Rattle.std.specs.Prelude.{◌≡◌, ◌<◌, ◌≤◌, [], ◌∷◌, ◌++◌, ℕ, ℤ, List, length, map, All}
-use Rattle.delaunay_interface.specs.half_edge_mesh.Mesh.{face, origin, rev}
+use Rattle.delaunay_interface.specs.half_edge_links.Mesh.{face, origin, rev}
 use Rattle.delaunay_interface.specs.plane.Fraction.{Fraction, whole}
 use Rattle.delaunay_interface.specs.plane.Line.{Item, at_vertex, across, along, IsLineList}
 use Rattle.delaunay_interface.specs.delaunay_core.declared.point.Point2.{Point2}

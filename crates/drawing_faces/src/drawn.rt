@@ -1,6 +1,6 @@
 //! The triangulation of a drawing, from its points and segments to the faces that are kept.
 ghost use Rattle.std.specs.Prelude.{◌≡◌, [], map, IfOk};
-ghost use Rattle.delaunay_interface.specs.Constrained.{constraints_of};
+ghost use Rattle.delaunay_interface.specs.delaunay_edit.Constrained.{constraints_of};
 ghost use Rattle.delaunay_bulk.specs.Bulk.{HaveHandles};
 ghost use Rattle.drawing_faces.specs.Names.{NamesVertices, position};
 ghost use Rattle.drawing_faces.specs.Drawing.{IsDrawn};

@@ -1,6 +1,6 @@
 //! Points that are inserted, and segments between them that become constraints.
 ghost use Rattle.std.specs.Prelude.{◌≡◌, All, map, IfOk, OnOk};
-ghost use Rattle.delaunay_interface.specs.Headline.{IsDelaunay};
+ghost use Rattle.delaunay_interface.specs.delaunay_edit.Headline.{IsDelaunay};
 ghost use Rattle.delaunay_bulk.specs.Bulk.{InsertsAll};
 ghost use Rattle.drawing_faces.specs.Names.{position};
 ghost use Rattle.drawing_faces.specs.Segments.{AddsSegments};

@@ -11,7 +11,7 @@ use crate::flood::reach_faces;
 use delaunay_interface::Triangulation;
 use delaunay_interface::delaunay_core::point::Point2;
 use delaunay_interface::half_edge_mesh::{FaceHandle, FixedFaceHandle};
-use delaunay_layers::face_layers;
+use delaunay_queries::face_layers;
 use std::alloc::{AllocError, Global};
 
 /// The vertices of a face, by index, against the clock.

@@ -1,7 +1,7 @@
 //! A search for the faces that are reached past no constraint: face by face, from the outer face
 //! and from others.
 ghost use Rattle.std.specs.Prelude.{◌≡◌, ◌+◌, ◌<◌, ◌≤◌, ℕ, All, Contains, length, IfOk, OnOk};
-ghost use Rattle.delaunay_layers.specs.Layers.{AreLayers};
+ghost use Rattle.delaunay_queries.specs.Layers.{AreLayers};
 ghost use Rattle.drawing_faces.specs.Flood.{Enters, IsFlood, IsReached, ListsFree, MarkOpenFaces};
 ghost use Rattle.drawing_faces.specs.Flood.{flood_left};
 

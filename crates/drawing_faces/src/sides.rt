@@ -2,8 +2,8 @@
 ghost use Rattle.std.specs.Prelude.{◌≡◌, ◌∷◌, ◌<◌, [], List, map, length, OnOk};
 ghost use Rattle.delaunay_interface.specs.plane.Line.{Item};
 ghost use Rattle.delaunay_interface.specs.delaunay_legalization.State.{state_of};
-ghost use Rattle.delaunay_interface.specs.delaunay_lines.Items.{item_in, mesh_of};
-ghost use Rattle.delaunay_interface.specs.delaunay_lines.Walk.{AreLeft, IsReady};
+ghost use Rattle.delaunay_interface.specs.delaunay_location.Items.{item_in, mesh_of};
+ghost use Rattle.delaunay_interface.specs.delaunay_location.Walk.{AreLeft, IsReady};
 ghost use Rattle.drawing_faces.specs.Drawing.{ends_of};
 ghost use Rattle.drawing_faces.specs.Names.{position};
 ghost use Rattle.drawing_faces.specs.Sides.{AddsBeside, AddsOnLeft};

@@ -1,5 +1,4 @@
 pub use Rattle.half_edge_links.proofs as half_edge_links_lemmas
-pub use Rattle.half_edge_handles.proofs as half_edge_handles_lemmas
 -- Data beside the parts of a mesh: lists that grow, shrink or are turned.
 pub mod Fits
 pub mod EdgeLists
@@ -21,3 +20,9 @@ pub mod StripSteps
 pub mod HoleSteps
 pub mod HoleFilled
 pub mod Dropped
+pub mod Ranges
+pub mod Walks
+pub mod Loops
+pub mod Joined
+pub mod Taken
+pub mod BothEnds

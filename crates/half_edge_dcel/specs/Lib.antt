@@ -10,3 +10,6 @@ pub mod Removal
 pub mod Shapes
 pub mod Taking
 pub mod Writing
+pub mod Left
+pub mod Rounds
+pub mod Walks

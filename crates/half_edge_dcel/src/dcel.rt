@@ -5,10 +5,9 @@ ghost use Rattle.half_edge_links.specs.Mesh.{empty};
 ghost use Rattle.half_edge_links.specs.declared.room.TheConstants.{MAX_ELEMENTS};
 ghost use Rattle.half_edge_dcel.specs.Contents.{IsMeshWithData};
 
-use half_edge_handles::{
-    FixedDirectedEdgeHandle, FixedFaceHandle, FixedUndirectedEdgeHandle, FixedVertexHandle,
+use half_edge_links::{
+    FixedDirectedEdgeHandle, FixedFaceHandle, FixedUndirectedEdgeHandle, FixedVertexHandle, Links,
 };
-use half_edge_links::Links;
 use std::alloc::Global;
 use std::marker::Model;
 

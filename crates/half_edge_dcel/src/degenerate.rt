@@ -7,8 +7,7 @@ ghost use Rattle.half_edge_dcel.specs.Removal.{DropsVertex, HasFewEdges, LeavesL
 ghost use Rattle.half_edge_dcel.specs.Taking.{IsMiddle, PassesVertex};
 
 use crate::dcel::Dcel;
-use half_edge_handles::FixedVertexHandle;
-use half_edge_links::reversed;
+use half_edge_links::{FixedVertexHandle, reversed};
 
 impl<V, DE, UE, F> Dcel<V, DE, UE, F> {
     /// Removes a vertex without edges, and gives its data back. The last vertex takes its index.

@@ -13,7 +13,7 @@ ghost use Rattle.half_edge_dcel.specs.Shapes.{InsertsInFace, SplitsBetweenFaces}
 
 use crate::dcel::Dcel;
 use crate::growth::{move_item, push_defaults};
-use half_edge_handles::{
+use half_edge_links::{
     FixedDirectedEdgeHandle, FixedFaceHandle, FixedUndirectedEdgeHandle, FixedVertexHandle,
 };
 

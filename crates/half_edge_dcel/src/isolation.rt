@@ -10,7 +10,7 @@ ghost use Rattle.half_edge_dcel.specs.Removal.{AreSidesOf, FillsHole, LosesStrip
 ghost use Rattle.half_edge_dcel.specs.Taking.{OpensFullFace};
 
 use crate::dcel::Dcel;
-use half_edge_handles::{FixedDirectedEdgeHandle, FixedVertexHandle};
+use half_edge_links::{FixedDirectedEdgeHandle, FixedVertexHandle};
 
 /// A vertex that has lost its edges.
 #[derive(Clone, Copy, PartialEq, Eq, Debug)]

@@ -10,7 +10,7 @@ ghost use Rattle.half_edge_dcel.specs.Shapes.{JoinsFirst, ExtendsLineTo, SplitsO
 
 use crate::dcel::Dcel;
 use crate::growth::push_defaults;
-use half_edge_handles::{FixedDirectedEdgeHandle, FixedVertexHandle};
+use half_edge_links::{FixedDirectedEdgeHandle, FixedVertexHandle};
 
 impl<V, DE, UE, F> Dcel<V, DE, UE, F> {
     /// A new last vertex without edges, for which there is room.

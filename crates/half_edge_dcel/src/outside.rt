@@ -11,7 +11,7 @@ ghost use Rattle.half_edge_dcel.specs.Shapes.{AddsFaceTo, ClosesTriangle, Splits
 
 use crate::dcel::Dcel;
 use crate::growth::{move_item, push_defaults};
-use half_edge_handles::{FixedDirectedEdgeHandle, FixedVertexHandle};
+use half_edge_links::{FixedDirectedEdgeHandle, FixedVertexHandle};
 
 impl<V, DE: Default, UE: Default, F: Default> Dcel<V, DE, UE, F> {
     /// Makes a face of an outer edge and a new last vertex, with two new edges. There is room for

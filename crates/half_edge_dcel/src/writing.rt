@@ -4,7 +4,7 @@ ghost use Rattle.std.specs.Borrow.{Lends, sem};
 ghost use Rattle.half_edge_dcel.specs.Writing.{with_directed, with_undirected, with_face};
 
 use crate::dcel::Dcel;
-use half_edge_handles::{FixedDirectedEdgeHandle, FixedFaceHandle, FixedUndirectedEdgeHandle};
+use half_edge_links::{FixedDirectedEdgeHandle, FixedFaceHandle, FixedUndirectedEdgeHandle};
 
 impl<V, DE, UE, F> Dcel<V, DE, UE, F> {
     ghost use Rattle.half_edge_dcel.specs.contracts.dcel.Dcel.{the_row};

@@ -8,3 +8,4 @@ pub mod Growing
 pub mod Removing
 pub mod Stars
 pub mod OuterLoop
+pub mod Steps

@@ -1,8 +1,11 @@
-//! How the vertices, edges and faces of a mesh lie to each other, with data on the vertices alone.
+//! How the vertices, edges and faces of a mesh lie to each other, with data on the vertices alone;
+//! fixed handles of these parts, and iterators over the handles.
 #![tactic(auto)]
 
 mod copies;
 mod edge_list;
+mod fixed_iterators;
+mod handles;
 mod inside;
 mod laws;
 mod line;
@@ -16,6 +19,12 @@ mod shrink;
 mod vertex_list;
 mod vertices;
 
+pub use fixed_iterators::{
+    FixedDirectedEdgeIterator, FixedFaceIterator, FixedUndirectedEdgeIterator, FixedVertexIterator,
+};
+pub use handles::{
+    FixedDirectedEdgeHandle, FixedFaceHandle, FixedUndirectedEdgeHandle, FixedVertexHandle,
+};
 pub use laws::{edges_go_round, outline_goes_round, sides_add_up, sides_cancel};
 pub use links::Links;
 pub use records::{HalfEdge, reversed};

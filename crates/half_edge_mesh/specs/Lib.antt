@@ -1,32 +1,31 @@
-pub use Rattle.half_edge_views.specs.half_edge_links as half_edge_links
-pub use Rattle.half_edge_views.specs.half_edge_dcel as half_edge_dcel
-pub use Rattle.half_edge_views.specs as half_edge_views
-pub use Rattle.half_edge_views.specs.Mesh
-pub use Rattle.half_edge_views.specs.Room
-pub use Rattle.half_edge_views.specs.Flip
-pub use Rattle.half_edge_views.specs.Insert
-pub use Rattle.half_edge_views.specs.Triangles
-pub use Rattle.half_edge_views.specs.Grow
-pub use Rattle.half_edge_views.specs.Outline
-pub use Rattle.half_edge_views.specs.Renames
-pub use Rattle.half_edge_views.specs.Remove
-pub use Rattle.half_edge_views.specs.Peel
-pub use Rattle.half_edge_views.specs.Move
-pub use Rattle.half_edge_views.specs.Taken
-pub use Rattle.half_edge_views.specs.Flow
-pub use Rattle.half_edge_views.specs.Round
-pub use Rattle.half_edge_views.specs.Hull
-pub use Rattle.half_edge_views.specs.Pass
-pub use Rattle.half_edge_views.specs.Contents
-pub use Rattle.half_edge_views.specs.Empty
-pub use Rattle.half_edge_views.specs.GrownData
-pub use Rattle.half_edge_views.specs.Growth
-pub use Rattle.half_edge_views.specs.Hole
-pub use Rattle.half_edge_views.specs.Mapped
-pub use Rattle.half_edge_views.specs.Removal
-pub use Rattle.half_edge_views.specs.Shapes
-pub use Rattle.half_edge_views.specs.Writing
-pub use Rattle.half_edge_views.specs.Left
-pub use Rattle.half_edge_views.specs.Rounds
-pub use Rattle.half_edge_views.specs.Walks
-pub use Rattle.half_edge_voronoi.specs.Voronoi
+pub use Rattle.half_edge_dcel.specs.half_edge_links as half_edge_links
+pub use Rattle.half_edge_dcel.specs as half_edge_dcel
+pub use Rattle.half_edge_dcel.specs.half_edge_links.Mesh
+pub use Rattle.half_edge_dcel.specs.half_edge_links.Room
+pub use Rattle.half_edge_dcel.specs.half_edge_links.Flip
+pub use Rattle.half_edge_dcel.specs.half_edge_links.Insert
+pub use Rattle.half_edge_dcel.specs.half_edge_links.Triangles
+pub use Rattle.half_edge_dcel.specs.half_edge_links.Grow
+pub use Rattle.half_edge_dcel.specs.half_edge_links.Outline
+pub use Rattle.half_edge_dcel.specs.half_edge_links.Renames
+pub use Rattle.half_edge_dcel.specs.half_edge_links.Remove
+pub use Rattle.half_edge_dcel.specs.half_edge_links.Peel
+pub use Rattle.half_edge_dcel.specs.half_edge_links.Move
+pub use Rattle.half_edge_dcel.specs.half_edge_links.Taken
+pub use Rattle.half_edge_dcel.specs.half_edge_links.Flow
+pub use Rattle.half_edge_dcel.specs.half_edge_links.Round
+pub use Rattle.half_edge_dcel.specs.half_edge_links.Hull
+pub use Rattle.half_edge_dcel.specs.half_edge_links.Pass
+pub use Rattle.half_edge_dcel.specs.Contents
+pub use Rattle.half_edge_dcel.specs.Empty
+pub use Rattle.half_edge_dcel.specs.GrownData
+pub use Rattle.half_edge_dcel.specs.Growth
+pub use Rattle.half_edge_dcel.specs.Hole
+pub use Rattle.half_edge_dcel.specs.Mapped
+pub use Rattle.half_edge_dcel.specs.Removal
+pub use Rattle.half_edge_dcel.specs.Shapes
+pub use Rattle.half_edge_dcel.specs.Writing
+pub use Rattle.half_edge_dcel.specs.Left
+pub use Rattle.half_edge_dcel.specs.Rounds
+pub use Rattle.half_edge_dcel.specs.Walks
+pub mod Voronoi

@@ -12,8 +12,8 @@ use Rattle.delaunay_interface.specs.plane.Plain.{Plain, Inserts}
 use Rattle.delaunay_interface.specs.delaunay_core.declared.math.InsertionError.{InsertionError}
 use Rattle.delaunay_interface.specs.delaunay_legalization.Constraints.{points_and_constraints_by}
 use Rattle.delaunay_interface.specs.delaunay_legalization.State.{State}
-use Rattle.delaunay_interface.specs.Storage.{IsCopy}
-use Rattle.delaunay_interface.specs.Edits.{InsertsVertex, RemovesVertex}
+use Rattle.delaunay_interface.specs.delaunay_edit.Storage.{IsCopy}
+use Rattle.delaunay_interface.specs.delaunay_edit.Edits.{InsertsVertex, RemovesVertex}
 use Rattle.delaunay_interface.proofs.EditLemmas.{same_image, sites_left}
 use Rattle.hint_hierarchy.proofs.Held.{all_from_each}
 

@@ -3,9 +3,7 @@
 #![tactic(auto)]
 
 pub use delaunay_interface;
-pub use delaunay_interface::{
-    delaunay_core, delaunay_legalization, half_edge_mesh, half_edge_voronoi,
-};
+pub use delaunay_interface::{delaunay_core, delaunay_legalization, half_edge_mesh};
 
 mod bloom;
 mod hierarchy;

@@ -14,10 +14,8 @@
 //! }
 //! ```
 pub use hint_hierarchy::half_edge_mesh::{
-    DirectedEdgeHandle, FaceHandle, FixedDirectedEdgeHandle, FixedFaceHandle,
-    FixedUndirectedEdgeHandle, FixedVertexHandle, UndirectedEdgeHandle, VertexHandle,
-};
-pub use hint_hierarchy::half_edge_voronoi::{
-    AsVoronoiEdge, AsVoronoiFace, AsVoronoiVertex, DirectedVoronoiEdge, UndirectedVoronoiEdge,
-    VoronoiFace, VoronoiVertex,
+    AsVoronoiEdge, AsVoronoiFace, AsVoronoiVertex, DirectedEdgeHandle, DirectedVoronoiEdge,
+    FaceHandle, FixedDirectedEdgeHandle, FixedFaceHandle, FixedUndirectedEdgeHandle,
+    FixedVertexHandle, UndirectedEdgeHandle, UndirectedVoronoiEdge, VertexHandle, VoronoiFace,
+    VoronoiVertex,
 };

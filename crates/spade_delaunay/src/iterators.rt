@@ -9,11 +9,8 @@
 //! ```
 pub use hint_hierarchy::delaunay_interface::InnerFaceIterator;
 pub use hint_hierarchy::half_edge_mesh::{
-    CircularIterator, DirectedEdgeIterator, FaceIterator, FixedDirectedEdgeIterator,
-    FixedFaceIterator, FixedUndirectedEdgeIterator, FixedVertexIterator, HullIterator,
-    UndirectedEdgeIterator, VertexIterator,
-};
-pub use hint_hierarchy::half_edge_voronoi::{
-    DirectedVoronoiEdgeIterator, UndirectedVoronoiEdgeIterator, VoronoiCircularIterator,
-    VoronoiFaceIterator,
+    CircularIterator, DirectedEdgeIterator, DirectedVoronoiEdgeIterator, FaceIterator,
+    FixedDirectedEdgeIterator, FixedFaceIterator, FixedUndirectedEdgeIterator, FixedVertexIterator,
+    HullIterator, UndirectedEdgeIterator, UndirectedVoronoiEdgeIterator, VertexIterator,
+    VoronoiCircularIterator, VoronoiFaceIterator,
 };

@@ -18,12 +18,11 @@ pub mod handles;
 pub mod iterators;
 
 pub use delaunay_bulk::{BulkInsertion, BulkInsertionError, InsertAll};
-pub use delaunay_layers::face_layers;
-pub use delaunay_shape_queries::{
+pub use delaunay_queries::{
     CircleMetric, DistanceMetric, EdgesInShapeIterator, FloatTriangulation, RectangleMetric,
-    VerticesInShapeIterator,
+    VerticesInShapeIterator, face_layers,
 };
-pub use delaunay_sight::{FreeFaces, is_in_sight};
+pub use delaunay_shapes::{FreeFaces, is_in_sight};
 pub use hint_hierarchy::delaunay_core::line_side_info::LineSideInfo;
 pub use hint_hierarchy::delaunay_core::math::{
     InsertionError, MAX_ALLOWED_VALUE, PlaneTests, PointProjection, is_ordered_ccw, project_point,

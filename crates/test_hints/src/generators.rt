@@ -7,7 +7,7 @@ use delaunay_core::HintGenerator;
 use delaunay_core::math::validate_vertex;
 use delaunay_core::point::Point2;
 use exact_predicates::ExactTests;
-use half_edge_handles::FixedVertexHandle;
+use half_edge_links::FixedVertexHandle;
 use std::alloc::Global;
 use std::io;
 

@@ -4,7 +4,7 @@ use delaunay_core::math::validate_vertex;
 use delaunay_core::point::Point2;
 use delaunay_core::{HintGenerator, LastUsedVertexHintGenerator};
 use exact_predicates::ExactTests;
-use half_edge_handles::FixedVertexHandle;
+use half_edge_links::FixedVertexHandle;
 use std::alloc::Global;
 
 pub fn new_generator(alloc: Global) -> LastUsedVertexHintGenerator {

@@ -17,7 +17,7 @@ mod telling;
 use delaunay_core::HintGenerator;
 use delaunay_core::math::PlaneTests;
 use delaunay_core::point::{Point2, SpadeNum};
-use half_edge_handles::FixedVertexHandle;
+use half_edge_links::FixedVertexHandle;
 pub use listing::{Listing, Told};
 use std::alloc::Global;
 use std::cell::Cell;

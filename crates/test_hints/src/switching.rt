@@ -12,7 +12,7 @@ use crate::{Always1000, EachInTurn};
 use delaunay_core::math::PlaneTests;
 use delaunay_core::point::{Point2, SpadeNum};
 use delaunay_core::{HintGenerator, LastUsedVertexHintGenerator};
-use half_edge_handles::FixedVertexHandle;
+use half_edge_links::FixedVertexHandle;
 use std::alloc::Global;
 use std::cell::Cell;
 

@@ -8,7 +8,7 @@ ghost use Rattle.delaunay_core.specs.Place.{place_of};
 use delaunay_core::HintGenerator;
 use delaunay_core::math::PlaneTests;
 use delaunay_core::point::{Point2, SpadeNum};
-use half_edge_handles::FixedVertexHandle;
+use half_edge_links::FixedVertexHandle;
 
 /// Tells a generator of a vertex that was appended, where it is to be told.
 pub fn tell_inserted<S: SpadeNum, L: HintGenerator<S>, P: PlaneTests<S>>(

@@ -2,11 +2,12 @@
 -- Lemmas: one_side, three_sides, four_sides.
 use Rattle.std.proofs.Common.{◌≡◌, ◌≢◌, ℕ, zero, suc, ◌<◌, [], ◌∷◌, length, sym, ap, ◌∙◌, arith}
 use Rattle.std.specs.Prelude.{slice_index}
-use Rattle.half_edge_mesh.specs.Mesh.{Mesh, origin, next, prev, face, rev, AreSoundLinks}
-use Rattle.half_edge_mesh.specs.Peel.{turn, spoke}
-use Rattle.half_edge_mesh.specs.Round.{neighbour}
-use Rattle.half_edge_mesh.specs.Hole.{IsBorder}
-use Rattle.half_edge_mesh.specs.Removal.{AreSidesOf}
+use Rattle.half_edge_mesh.specs.half_edge_links.Mesh.{Mesh, origin, next, prev, face, rev}
+use Rattle.half_edge_mesh.specs.half_edge_links.Mesh.{AreSoundLinks}
+use Rattle.half_edge_mesh.specs.half_edge_links.Peel.{turn, spoke}
+use Rattle.half_edge_mesh.specs.half_edge_links.Round.{neighbour}
+use Rattle.half_edge_mesh.specs.half_edge_dcel.Hole.{IsBorder}
+use Rattle.half_edge_mesh.specs.half_edge_dcel.Removal.{AreSidesOf}
 
 -- one face at a vertex
 pub one_side : (m : Mesh) (e : ℕ) → AreSoundLinks m → e < length m.half_edges

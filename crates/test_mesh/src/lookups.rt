@@ -1,6 +1,6 @@
 //! Whether a part of a mesh is there.
 ghost use Rattle.std.specs.Prelude.{◌≡◌, ◌<◌, ◌≤◌, ◌↔◌, length, IsTrue, IfSome};
-ghost use Rattle.half_edge_mesh.specs.Mesh.{face};
+ghost use Rattle.half_edge_mesh.specs.half_edge_links.Mesh.{face};
 
 use half_edge_mesh::{
     Dcel, DirectedEdgeHandle, DirectedVoronoiEdge, FixedDirectedEdgeHandle, FixedFaceHandle,

@@ -1,8 +1,8 @@
 //! Calls that remove. Each looks first whether it may be made, and gives nothing where it may not.
 ghost use Rattle.std.specs.Prelude.{◌≡◌, ◌≢◌, ◌<◌, length, IsTrue, IfSome};
-ghost use Rattle.half_edge_mesh.specs.Mesh.{face, next, origin, prev, rev};
-ghost use Rattle.half_edge_mesh.specs.Peel.{turn};
-ghost use Rattle.half_edge_mesh.specs.Removal.{HasFewEdges};
+ghost use Rattle.half_edge_mesh.specs.half_edge_links.Mesh.{face, next, origin, prev, rev};
+ghost use Rattle.half_edge_mesh.specs.half_edge_links.Peel.{turn};
+ghost use Rattle.half_edge_mesh.specs.half_edge_dcel.Removal.{HasFewEdges};
 
 use crate::lookups::{Mesh, directed, has_edge, has_vertex, is_inner, is_outer, vertex};
 use half_edge_mesh::{

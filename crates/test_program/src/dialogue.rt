@@ -6,7 +6,7 @@ use std::alloc::{AllocError, Global};
 use test_hints::{Always1000, EachInTurn};
 use triangulate_run::session::run;
 use triangulate_run::sheet::{Sheet, letter_named};
-use triangulate_watched::Watched;
+use triangulate_run::watched::Watched;
 
 /// What the program writes for the input, with the points and answers of a sheet and hints of this
 /// type, if it comes to its end.

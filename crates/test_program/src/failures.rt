@@ -3,7 +3,7 @@ ghost use Rattle.std.specs.Prelude.{IfOk, ◌≤◌};
 
 use std::io;
 use std::io::{ErrorKind, Read, Write};
-use triangulate_watched::{Failed, Watched};
+use triangulate_run::watched::{Failed, Watched};
 
 /// What a fake answers to a call.
 #[derive(Clone, Copy, Drop)]

@@ -8,7 +8,7 @@ use std::io::{ErrorKind, Read, Write};
 use triangulate_run::fault::RunError;
 use triangulate_run::session::run;
 use triangulate_run::sheet::Sheet;
-use triangulate_watched::Watched;
+use triangulate_run::watched::Watched;
 
 /// The lines of the input, and what answers each.
 const ANSWERS: [(&str, &str); 6] = [

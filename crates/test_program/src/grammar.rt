@@ -3,8 +3,8 @@
 use crate::dialogue::written;
 use delaunay_core::LastUsedVertexHintGenerator;
 use std::alloc::Global;
-use triangulate_grammar::command::{Command, Coordinates};
-use triangulate_grammar::parse;
+use triangulate_run::command::{Command, Coordinates};
+use triangulate_run::grammar::parse;
 use triangulate_run::sheet::Sheet;
 
 fn at(x: i64, y: i64) -> Coordinates {

@@ -10,7 +10,7 @@ use crate::shapes::{Found, edges_of, found_in_circle, found_in_rectangle, listed
 use delaunay_interface::Triangulation;
 use delaunay_interface::delaunay_core::point::Point2;
 use delaunay_interface::half_edge_mesh::{Dcel, FixedVertexHandle};
-use delaunay_shape_queries::FloatTriangulation;
+use delaunay_queries::FloatTriangulation;
 use delaunay_shapes::{
     CircleMetric, DistanceMetric, RectangleMetric, edges_by_filter, edges_in_shape,
     vertices_by_filter,

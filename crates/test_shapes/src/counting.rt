@@ -2,7 +2,7 @@
 ghost use Rattle.std.specs.Prelude.{◌≡◌, ◌↔◌, ◌≤ℤ◌, pos, All, IsTrue};
 ghost use Rattle.delaunay_interface.specs.plane.Fraction.{whole as fraction};
 ghost use Rattle.delaunay_interface.specs.plane.Tests.{InRange};
-ghost use Rattle.delaunay_interface.specs.plane_delaunay.EdgeTests.{HasPointIn};
+ghost use Rattle.delaunay_interface.specs.plane_theorems.Delaunay.EdgeTests.{HasPointIn};
 ghost use Rattle.delaunay_interface.specs.delaunay_core.Place.{place_of};
 
 use delaunay_interface::delaunay_core::math::PlaneTests;

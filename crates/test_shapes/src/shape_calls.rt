@@ -3,7 +3,7 @@
 use crate::comparisons::{asks_fewer, compare_circles, compare_rectangles};
 use crate::shapes::{found_in_circle, found_in_rectangle};
 use delaunay_interface::delaunay_core::point::Point2;
-use delaunay_shape_queries::FloatTriangulation;
+use delaunay_queries::FloatTriangulation;
 use delaunay_shapes::{EdgesInShapeIterator, VerticesInShapeIterator};
 use exact_predicates::ExactTests;
 use std::alloc::{AllocError, Global};

@@ -2,7 +2,7 @@
 //! squared radius is negative, or memory was refused.
 
 use delaunay_interface::delaunay_core::point::Point2;
-use delaunay_shape_queries::FloatTriangulation;
+use delaunay_queries::FloatTriangulation;
 use delaunay_shapes::{EdgesInShapeIterator, VerticesInShapeIterator};
 use exact_predicates::ExactTests;
 use std::alloc::{AllocError, Global};

@@ -10,7 +10,7 @@ use std::rt::Env;
 use triangulate_run::fault::{RunError, USAGE, fault_text, status_of};
 use triangulate_run::session::run;
 use triangulate_run::sheet::{Sheet, letter_named};
-use triangulate_watched::Watched;
+use triangulate_run::watched::Watched;
 
 /// The status where the arguments name no sheet.
 const WRONG_ARGUMENTS: u8 = 2;

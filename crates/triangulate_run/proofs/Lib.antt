@@ -1,3 +1,7 @@
+pub mod Digits
+pub mod WordsLemmas
+pub mod Values
+pub mod Exact
 -- The printed tables, and the tests that make them true.
 pub mod Rule
 pub mod Level

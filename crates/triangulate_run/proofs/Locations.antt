@@ -10,7 +10,7 @@ use Rattle.delaunay_edit.specs.plane.Tiling.{Triangulation, IsEdge, IsTiling, ve
 use Rattle.delaunay_edit.specs.plane.Location.{IsLocation, on_edge, on_face}
 use Rattle.delaunay_edit.proofs.plane.Means.{turned_mean_of_two}
 use Rattle.delaunay_edit.proofs.plane.Triangles.{turned_inside, turned_face}
-use Rattle.delaunay_edit.proofs.plane_segments.Items.Begins.{edge_flipped}
+use Rattle.delaunay_edit.proofs.plane_theorems.Segments.Items.Begins.{edge_flipped}
 use Rattle.triangulate_run.specs.Corners.{least_first}
 use Rattle.triangulate_run.specs.Answer.{AreSoMany, IsThere, MayLocate}
 use Rattle.triangulate_run.specs.Points.{IsListed}

@@ -7,9 +7,9 @@ use Rattle.std.specs.Prelude.{ℤ, All, AllPairs}
 use Rattle.std.proofs.lemmas.List.{get_or-map, length-map, get_or_default}
 use Rattle.std.proofs.lemmas.List.Elements.{All-nil, All-cons}
 use Rattle.std.proofs.lemmas.List.Kept.{AllPairs-cons}
-use Rattle.delaunay_edit.specs.half_edge_mesh.Contents.{Contents}
+use Rattle.delaunay_edit.specs.half_edge_dcel.Contents.{Contents}
 use Rattle.delaunay_edit.specs.plane.Pairs.{EachPairOnce, AreDifferent}
-use Rattle.delaunay_edit.specs.mesh_embedding.Legal.{pair_at}
+use Rattle.delaunay_edit.specs.delaunay_legalization.Legal.{pair_at}
 use Rattle.delaunay_edit.specs.delaunay_core.declared.point.Point2.{Point2}
 use Rattle.delaunay_edit.specs.delaunay_legalization.CdtEdge.{is_constraint}
 use Rattle.delaunay_edit.specs.delaunay_legalization.declared.cdt_edge.CdtEdge.{CdtEdge}
@@ -17,7 +17,7 @@ use Rattle.delaunay_edit.specs.delaunay_legalization.Constraints.{marked_from}
 use Rattle.delaunay_edit.specs.delaunay_legalization.Shape.{IsTriangulated}
 use Rattle.delaunay_edit.specs.delaunay_legalization.State.{State}
 use Rattle.delaunay_edit.proofs.delaunay_legalization_lemmas.Constraints.{fixed_within}
-use Rattle.delaunay_edit.proofs.delaunay_paths_lemmas.Releasing.{one_edge}
+use Rattle.delaunay_edit.proofs.Releasing.{one_edge}
 use Rattle.delaunay_edit.specs.Constrained.{constraints_of, constraint_edges}
 use Rattle.triangulate_run.specs.Answer.{AreSoMany}
 use Rattle.triangulate_run.specs.Stage.{position}

@@ -12,13 +12,13 @@ use Rattle.std.proofs.lemmas.List.{nil_from_length}
 use Rattle.std.proofs.lemmas.List.Elements.{All-nil, All-cons}
 use Rattle.delaunay_edit.specs.plane.Fraction.{Point}
 use Rattle.delaunay_edit.specs.plane.Plain.{Plain, CanAdd, AreNeighboursOn}
-use Rattle.delaunay_edit.specs.plane_segments.Constraints.{AreNextOn}
-use Rattle.delaunay_edit.specs.half_edge_mesh.Mesh.{Mesh, origin, rev}
+use Rattle.delaunay_edit.specs.plane_theorems.Segments.Constraints.{AreNextOn}
+use Rattle.delaunay_edit.specs.half_edge_links.Mesh.{Mesh, origin, rev}
 use Rattle.delaunay_edit.specs.delaunay_core.declared.point.Point2.{Point2}
 use Rattle.delaunay_edit.specs.delaunay_core.declared.math.InsertionError.TheVariants.{OutOfMemory}
 use Rattle.delaunay_edit.specs.delaunay_legalization.declared.cdt_edge.CdtEdge.{CdtEdge}
 use Rattle.delaunay_edit.specs.delaunay_legalization.State.{State}
-use Rattle.delaunay_edit.specs.delaunay_paths.PathEdges.{LeadAlong}
+use Rattle.delaunay_edit.specs.PathEdges.{LeadAlong}
 use Rattle.delaunay_edit.specs.Constrained.{constrained, constraint_edges}
 use Rattle.delaunay_edit.specs.ConstraintEdits.{AddsPathIfFree}
 use Rattle.triangulate_run.specs.declared.reply.Reply.TheVariants.{NoPath, Refused}

@@ -3,13 +3,13 @@
 use Rattle.std.proofs.Common.{◌≡◌, ◌*◌, ◌/◌, ◌<◌}
 use Rattle.std.proofs.Common.{ℕ, Bool, true, false, length, refl, inl, inr, ap, sym, subst}
 use Rattle.std.specs.Prelude.{◌↔◌, ℤ, Contains, Result, Ok, Err}
-use Rattle.delaunay_edit.specs.half_edge_mesh.Mesh.{origin, rev}
+use Rattle.delaunay_edit.specs.half_edge_links.Mesh.{origin, rev}
 use Rattle.delaunay_edit.specs.plane.Pairs.{Joins, IsSamePair}
 use Rattle.delaunay_edit.specs.plane.Plain.{Plain, Releases}
 use Rattle.delaunay_edit.specs.plane.Tiling.{IsEdge}
 use Rattle.delaunay_edit.proofs.plane.Indexes.{same_joined}
-use Rattle.delaunay_edit.proofs.plane_edits.Legalization.Flipping.{joins_or_not}
-use Rattle.delaunay_edit.proofs.mesh_embedding.EdgePairs.{edge_joins, joins_edge}
+use Rattle.delaunay_edit.proofs.plane_theorems.Edits.Legalization.Flipping.{joins_or_not}
+use Rattle.delaunay_edit.proofs.delaunay_legalization_lemmas.EdgePairs.{edge_joins, joins_edge}
 use Rattle.delaunay_edit.specs.delaunay_core.declared.point.Point2.{Point2}
 use Rattle.delaunay_edit.specs.delaunay_core.declared.math.InsertionError.TheVariants.{OutOfMemory}
 use Rattle.delaunay_edit.specs.delaunay_legalization.CdtEdge.{is_constraint}
@@ -17,8 +17,8 @@ use Rattle.delaunay_edit.specs.delaunay_legalization.declared.cdt_edge.CdtEdge.{
 use Rattle.delaunay_edit.specs.delaunay_legalization.Shape.{IsTriangulated}
 use Rattle.delaunay_edit.specs.delaunay_legalization.State.{State, triangulation_of}
 use Rattle.delaunay_edit.proofs.delaunay_legalization_lemmas.Questions.{both_ways}
-use Rattle.delaunay_edit.proofs.delaunay_paths_lemmas.AddingPieces.{half_ends}
-use Rattle.delaunay_edit.proofs.delaunay_paths_lemmas.JoinedPairs as joined
+use Rattle.delaunay_edit.proofs.AddingPieces.{half_ends}
+use Rattle.delaunay_edit.proofs.JoinedPairs as joined
 use Rattle.delaunay_edit.specs.Constrained.{constrained, constraints_of, constraint_edges}
 use Rattle.delaunay_edit.specs.ConstraintEdits.{ReleasesConstraint}
 use Rattle.delaunay_interface.specs.Views.{AreNotJoined}

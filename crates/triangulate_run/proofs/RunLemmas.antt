@@ -14,9 +14,9 @@ use Rattle.std.proofs.lemmas.List.Elements.{All-push, All-nil}
 use Rattle.std.proofs.lemmas.Bool.{eqb-true, eqb-false}
 use Rattle.std.proofs.lemmas.List.{length_push, nil_from_length, take_all, take-append-le}
 use Rattle.std.specs.Bool.{◌==◌}
-use Rattle.triangulate_grammar.specs.Grammar.{Spells}
-use Rattle.triangulate_watched.specs.declared.Watched.{Watched}
-use Rattle.triangulate_watched.specs.Watched.{inner_of, has_failed}
+use Rattle.triangulate_run.specs.Grammar.{Spells}
+use Rattle.triangulate_run.specs.declared.watched.Watched.{Watched}
+use Rattle.triangulate_run.specs.Watched.{inner_of, has_failed}
 use Rattle.triangulate_run.specs.declared.points.SheetPoint.{SheetPoint}
 use Rattle.triangulate_run.specs.Stage.{Stage, first_stage, Fits}
 use Rattle.triangulate_run.specs.Line.{kept}

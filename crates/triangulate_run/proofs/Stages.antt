@@ -5,10 +5,10 @@ use Rattle.std.specs.Prelude.{ℕ, ℤ}
 use Rattle.delaunay_edit.specs.delaunay_core.declared.point.Point2.{Point2}
 use Rattle.delaunay_edit.specs.delaunay_legalization.State.{State}
 use Rattle.delaunay_edit.specs.Headline.{IsWellFormed}
-use Rattle.triangulate_grammar.specs.declared.command.Command.{Command}
-use Rattle.triangulate_grammar.specs.declared.command.Command.TheVariants.{Insert, Remove, Release}
-use Rattle.triangulate_grammar.specs.declared.command.Command.TheVariants.{Constrain, Locate, Line}
-use Rattle.triangulate_grammar.specs.declared.command.Command.TheVariants.{Nearest, Counts, Faces}
+use Rattle.triangulate_run.specs.declared.command.Command.{Command}
+use Rattle.triangulate_run.specs.declared.command.Command.TheVariants.{Insert, Remove, Release}
+use Rattle.triangulate_run.specs.declared.command.Command.TheVariants.{Constrain, Locate, Line}
+use Rattle.triangulate_run.specs.declared.command.Command.TheVariants.{Nearest, Counts, Faces}
 use Rattle.triangulate_run.specs.declared.points.SheetPoint.{SheetPoint}
 use Rattle.triangulate_run.specs.declared.reply.Reply.{Reply}
 use Rattle.triangulate_run.specs.Answer.{MayAnswer, MayJoin, MayReply}

@@ -10,10 +10,10 @@ use Rattle.std.proofs.lemmas.Grind.{flat_map-append}
 use Rattle.delaunay_edit.specs.plane.Fraction.{Point, whole}
 use Rattle.delaunay_edit.specs.plane.Line.{Item, IsLineList}
 use Rattle.delaunay_edit.specs.plane.Tiling.{Triangulation}
-use Rattle.delaunay_edit.specs.delaunay_lines.declared.intersection.Intersection.{Intersection}
-use Rattle.delaunay_edit.specs.delaunay_lines.declared.iterator.LineIntersectionIterator.{LineIntersectionIterator}
-use Rattle.delaunay_edit.specs.delaunay_lines.Items.{item_in}
-use Rattle.delaunay_edit.specs.delaunay_lines.Walk.{AreLeft, GivesNext}
+use Rattle.delaunay_edit.specs.delaunay_location.declared.intersection.Intersection.{Intersection}
+use Rattle.delaunay_edit.specs.delaunay_location.declared.iterator.LineIntersectionIterator.{LineIntersectionIterator}
+use Rattle.delaunay_edit.specs.delaunay_location.Items.{item_in}
+use Rattle.delaunay_edit.specs.delaunay_location.Walk.{AreLeft, GivesNext}
 use Rattle.triangulate_run.specs.declared.points.SheetPoint.{SheetPoint}
 use Rattle.triangulate_run.specs.Answer.{MayWalk}
 use Rattle.triangulate_run.specs.Output.{AppendsPart, Sends}

@@ -16,11 +16,11 @@ use Rattle.delaunay_edit.specs.delaunay_core.declared.point.Point2.{Point2}
 use Rattle.delaunay_edit.specs.delaunay_core.declared.math.InsertionError.TheVariants.{TooLarge}
 use Rattle.delaunay_edit.specs.delaunay_core.declared.math.InsertionError.TheVariants.{OutOfMemory}
 use Rattle.delaunay_edit.specs.delaunay_core.declared.math.InsertionError.TheVariants.{OutOfIndexes}
-use Rattle.triangulate_grammar.specs.declared.command.Coordinates.{Coordinates}
-use Rattle.triangulate_grammar.specs.declared.command.Command.{Command}
-use Rattle.triangulate_grammar.specs.declared.command.Command.TheVariants.{Insert, Remove, Release}
-use Rattle.triangulate_grammar.specs.declared.command.Command.TheVariants.{Constrain, Locate, Line}
-use Rattle.triangulate_grammar.specs.declared.command.Command.TheVariants.{Nearest, Counts, Faces}
+use Rattle.triangulate_run.specs.declared.command.Coordinates.{Coordinates}
+use Rattle.triangulate_run.specs.declared.command.Command.{Command}
+use Rattle.triangulate_run.specs.declared.command.Command.TheVariants.{Insert, Remove, Release}
+use Rattle.triangulate_run.specs.declared.command.Command.TheVariants.{Constrain, Locate, Line}
+use Rattle.triangulate_run.specs.declared.command.Command.TheVariants.{Nearest, Counts, Faces}
 use Rattle.triangulate_run.specs.declared.points.SheetPoint.{SheetPoint}
 use Rattle.triangulate_run.specs.declared.corners.Corners.{Corners}
 use Rattle.triangulate_run.specs.declared.reply.Reply.{Reply}

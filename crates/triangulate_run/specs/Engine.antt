@@ -1,7 +1,7 @@
 -- The stage of a triangulation of points, and what it needs to answer commands.
 use Rattle.std.specs.Prelude.{◌≡◌, ℕ, ℤ, true, List, All, map}
 use Rattle.delaunay_edit.specs.plane.Fraction.{Point}
-use Rattle.delaunay_edit.specs.half_edge_mesh.Mesh.{Mesh, origin, rev}
+use Rattle.delaunay_edit.specs.half_edge_links.Mesh.{Mesh, origin, rev}
 use Rattle.delaunay_edit.specs.delaunay_core.declared.point.Point2.{Point2}
 use Rattle.delaunay_edit.specs.delaunay_legalization.Constraints.{points_and_constraints_by}
 use Rattle.delaunay_edit.specs.delaunay_legalization.State.{State, triangulation_of}

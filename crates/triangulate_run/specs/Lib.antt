@@ -1,3 +1,6 @@
+pub mod Watched
+pub mod Grammar
+pub mod Reading
 pub mod Points
 pub mod Sheet
 pub mod Table

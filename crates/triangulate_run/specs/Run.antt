@@ -3,10 +3,10 @@ use Rattle.std.specs.Prelude.{◌≡◌, ◌≢◌, ◌⊎◌, [], ◌∷◌, �
 use Rattle.std.specs.Prelude.{ℕ, true, false, List, codes, Option, Result, Ok, Err, All}
 use Rattle.std.specs.List.{flat_map}
 use Rattle.std.specs.Io.KnownBytes.{Consumes, Appends, IsAtEnd}
-use Rattle.triangulate_watched.specs.declared.Watched.{Watched}
-use Rattle.triangulate_watched.specs.Watched.{inner_of, has_failed}
-use Rattle.triangulate_grammar.specs.Grammar.{Spells, SpellsNone}
-use Rattle.triangulate_grammar.specs.declared.command.Command.{Command}
+use Rattle.triangulate_run.specs.declared.watched.Watched.{Watched}
+use Rattle.triangulate_run.specs.Watched.{inner_of, has_failed}
+use Rattle.triangulate_run.specs.Grammar.{Spells, SpellsNone}
+use Rattle.triangulate_run.specs.declared.command.Command.{Command}
 use Rattle.triangulate_run.specs.declared.points.SheetPoint.{SheetPoint}
 use Rattle.triangulate_run.specs.declared.fault.RunError.{RunError}
 use Rattle.triangulate_run.specs.declared.fault.RunError.TheVariants.{Read, Write}

@@ -4,7 +4,7 @@ use Rattle.delaunay_edit.specs.plane.Fraction.{Point}
 use Rattle.delaunay_edit.specs.plane.Plain.{Plain, IsPlain}
 use Rattle.delaunay_edit.specs.plane.Tiling.{Triangulation, IsFace}
 use Rattle.delaunay_edit.specs.plane.Delaunay.{IsConstrainedDelaunay, IsStrictlyEmpty}
-use Rattle.delaunay_edit.specs.plane_delaunay.History.{IsHistoryFree}
+use Rattle.delaunay_edit.specs.plane_theorems.Delaunay.History.{IsHistoryFree}
 use Rattle.delaunay_edit.specs.delaunay_core.declared.point.Point2.{Point2}
 use Rattle.delaunay_edit.specs.delaunay_core.Place.{place_of}
 

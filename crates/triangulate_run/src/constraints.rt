@@ -1,6 +1,6 @@
 //! Constraints that are added and released.
 ghost use Rattle.std.specs.Prelude.{◌≡◌, ◌<◌, false, length, All};
-ghost use Rattle.triangulate_watched.specs.Watched.{has_failed};
+ghost use Rattle.triangulate_run.specs.Watched.{has_failed};
 ghost use Rattle.delaunay_edit.specs.Constrained.{none, constraint_edges};
 ghost use Rattle.triangulate_run.specs.Answer.{MayJoin, MayRelease};
 ghost use Rattle.triangulate_run.specs.Engine.{stage_by, ends_in, HasSites};
@@ -12,12 +12,12 @@ use crate::line::put_ends;
 use crate::output::Piece::Text;
 use crate::output::{Held, Written, put_pieces};
 use crate::reply::{Reply, put_reply};
+use crate::watched::Watched;
 use delaunay_interface::Triangulation;
 use delaunay_interface::delaunay_core::HintGenerator;
 use delaunay_interface::delaunay_core::math::{InsertionError, PlaneTests};
 use delaunay_interface::half_edge_mesh::{FixedDirectedEdgeHandle, FixedVertexHandle};
 use std::io::Write;
-use triangulate_watched::Watched;
 
 /// Adds the path between two vertices, and puts its edges behind what is held.
 pub(crate) fn constrain<L: HintGenerator<i64>, P: PlaneTests<i64>, W: Write>(

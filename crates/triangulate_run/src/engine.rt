@@ -1,6 +1,6 @@
 //! The answers of a triangulation to commands.
 ghost use Rattle.std.specs.Prelude.{◌≡◌, false, MatchOption};
-ghost use Rattle.triangulate_watched.specs.Watched.{has_failed};
+ghost use Rattle.triangulate_run.specs.Watched.{has_failed};
 ghost use Rattle.triangulate_run.specs.Stage.{position, Fits};
 ghost use Rattle.triangulate_run.specs.Output.{PutsSome};
 ghost use Rattle.triangulate_run.specs.Engine.{stage_of, IsEngineReady};
@@ -8,6 +8,7 @@ ghost use Rattle.triangulate_run.specs.Answer.{AreVertices, IsReplied, MayAnswer
 ghost use Rattle.triangulate_run.specs.Answer.{MayJoin, MayMeasure, MayRelease, MayReply, MayWalk};
 ghost use Rattle.triangulate_run.specs.Answer.{point_at};
 
+use crate::command::{Command, Coordinates};
 use crate::constraints::{constrain, release, release_free};
 use crate::line::put_line;
 use crate::nearest::{distance_reply, nearest_of_all, nearest_of_plain};
@@ -15,6 +16,7 @@ use crate::output::{Held, Written};
 use crate::points::{SheetPoint, index_of};
 use crate::reply::{Reply, put_reply};
 use crate::shared::{count_reply, faces, insert, locate, remove, vertices_at};
+use crate::watched::Watched;
 use delaunay_interface::delaunay_core::HintGenerator;
 use delaunay_interface::delaunay_core::math::{InsertionError, PlaneTests};
 use delaunay_interface::delaunay_core::point::Point2;
@@ -23,8 +25,6 @@ use delaunay_interface::{ConstrainedDelaunayTriangulation, DelaunayTriangulation
 use std::alloc::Global;
 use std::io::Write;
 use std::mem::replace;
-use triangulate_grammar::command::{Command, Coordinates};
-use triangulate_watched::Watched;
 
 /// Vertices that are points and carry no further data.
 pub(crate) type Plain<L> = DelaunayTriangulation<Point2<i64>, (), (), (), L>;

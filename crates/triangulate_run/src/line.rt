@@ -1,12 +1,12 @@
 //! What the way from one point to another meets.
 ghost use Rattle.std.specs.Prelude.{◌≡◌, ◌++◌, List, false};
 ghost use Rattle.std.specs.List.{flat_map};
-ghost use Rattle.delaunay_edit.specs.half_edge_mesh.Mesh.{origin, rev};
-ghost use Rattle.triangulate_watched.specs.Watched.{has_failed};
+ghost use Rattle.delaunay_edit.specs.half_edge_links.Mesh.{origin, rev};
+ghost use Rattle.triangulate_run.specs.Watched.{has_failed};
 ghost use Rattle.delaunay_edit.specs.plane.Line.{Item};
 ghost use Rattle.delaunay_edit.specs.delaunay_legalization.State.{triangulation_of};
-ghost use Rattle.delaunay_edit.specs.delaunay_lines.Items.{item_in};
-ghost use Rattle.delaunay_edit.specs.delaunay_lines.Walk.{AreLeft, IsReady};
+ghost use Rattle.delaunay_edit.specs.delaunay_location.Items.{item_in};
+ghost use Rattle.delaunay_edit.specs.delaunay_location.Walk.{AreLeft, IsReady};
 ghost use Rattle.triangulate_run.specs.Answer.{MayWalk};
 ghost use Rattle.triangulate_run.specs.Engine.{stage_by, IsStageReady};
 ghost use Rattle.triangulate_run.specs.Output.{Puts, PutsSome};
@@ -17,13 +17,13 @@ use crate::output::Piece::{Index, Text};
 use crate::output::{Held, Written, put_pieces};
 use crate::points::{SheetPoint, index_of};
 use crate::reply::{Reply, put_reply};
+use crate::watched::Watched;
 use delaunay_interface::delaunay_core::HintGenerator;
 use delaunay_interface::delaunay_core::math::PlaneTests;
 use delaunay_interface::delaunay_core::point::Point2;
 use delaunay_interface::half_edge_mesh::DirectedEdgeHandle;
 use delaunay_interface::{EdgeData, Intersection, LineIntersectionIterator, TriangulationCore};
 use std::io::Write;
-use triangulate_watched::Watched;
 
 /// Puts what the way from one point of the list to another meets, in order, behind what is held.
 pub(crate) fn put_line<L: HintGenerator<i64>, UE, M: EdgeData<UE>, P: PlaneTests<i64>, W: Write>(

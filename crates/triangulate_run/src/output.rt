@@ -1,14 +1,14 @@
 //! Writing text to a watched writer.
 ghost use Rattle.std.specs.Prelude.{◌≡◌, false};
 ghost use Rattle.std.specs.List.{flat_map};
-ghost use Rattle.triangulate_watched.specs.Watched.{has_failed};
+ghost use Rattle.triangulate_run.specs.Watched.{has_failed};
 ghost use Rattle.triangulate_run.specs.Output.{Writes, Puts};
 ghost use Rattle.triangulate_run.specs.Piece.{text_of};
 
+use crate::watched::{Failed, Watched};
 use arrayvec::ArrayVec;
 use itoa::Buffer;
 use std::io::Write;
-use triangulate_watched::{Failed, Watched};
 
 /// A piece of a reply.
 #[derive(Clone, Copy)]

@@ -1,6 +1,6 @@
 //! Lines in, replies out.
 ghost use Rattle.std.specs.Prelude.{◌≡◌, true, false, All};
-ghost use Rattle.triangulate_watched.specs.Watched.{has_failed};
+ghost use Rattle.triangulate_run.specs.Watched.{has_failed};
 ghost use Rattle.triangulate_run.specs.Points.{place};
 ghost use Rattle.triangulate_run.specs.Output.{Writes, WritesSome};
 ghost use Rattle.triangulate_run.specs.Stage.{first_stage, Fits};
@@ -9,16 +9,16 @@ ghost use Rattle.triangulate_run.specs.Run.{Answers, Ran, bad_line};
 
 use crate::engine::{Either, Plain, PointEngine};
 use crate::fault::RunError;
+use crate::grammar::{MAX_LINE, parse};
 use crate::output::{Held, Written, write_all};
 use crate::points::SheetPoint;
+use crate::watched::{Failed, Watched};
 use arrayvec::ArrayVec;
 use delaunay_interface::Triangulation;
 use delaunay_interface::delaunay_core::HintGenerator;
 use delaunay_interface::delaunay_core::math::PlaneTests;
 use std::alloc::Global;
 use std::io::{Read, Write};
-use triangulate_grammar::{MAX_LINE, parse};
-use triangulate_watched::{Failed, Watched};
 
 /// How many bytes of a line are kept: one more than a command has, so that of a longer line enough
 /// is kept to be none.

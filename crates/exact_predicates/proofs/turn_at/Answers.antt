@@ -1,4 +1,5 @@
-use Rattle.exact_predicates.proofs.Widths.{difference_of, difference_fits, difference_bound, product_of}
+use Rattle.exact_predicates.proofs.Widths.{difference_of, difference_fits, difference_bound}
+use Rattle.exact_predicates.proofs.Widths.{product_of}
 use Rattle.exact_predicates.proofs.turn_at.Goals as goal
 
 pub overflow_sub-result : goal.overflow_sub-result

@@ -1,6 +1,6 @@
 use Rattle.delaunay_edit.specs.delaunay_legalization.Constraints.{constraints_by}
 use Rattle.delaunay_edit.specs.delaunay_legalization.State.{state_of}
-use Rattle.delaunay_edit.specs.delaunay_lines.Walk.{IsReady}
+use Rattle.delaunay_edit.specs.delaunay_location.Walk.{IsReady}
 use Rattle.c_calls.specs.Conflicts.{AreCrossed}
 use Rattle.c_calls.proofs.Walked.{IsToldOf}
 use Rattle.c_calls.proofs.conflicts.write_crossed.Given as goal

@@ -1,7 +1,7 @@
 use Rattle.std.proofs.Common.{◌≡◌, ◌∙◌, ◌<◌, ◌+◌, ℕ, List, length, get_or, sym, subst, arith}
 use Rattle.std.proofs.lemmas.List.{get_or_default}
-use Rattle.delaunay_edit.specs.half_edge_mesh.Mesh.{Mesh}
-use Rattle.delaunay_layers.specs.Layers.{AreLayers}
+use Rattle.delaunay_edit.specs.half_edge_links.Mesh.{Mesh}
+use Rattle.delaunay_queries.specs.Layers.{AreLayers}
 use Rattle.c_calls.specs.Layers.{IsLayerAt}
 use Rattle.c_calls.proofs.Writing.{one_more}
 use Rattle.c_calls.proofs.layers.write_layers.Goals as goal

@@ -2,7 +2,7 @@ use Rattle.std.proofs.Common.{◌+◌, List, length, sym, subst, arith}
 use Rattle.std.specs.List.{AllZip}
 use Rattle.delaunay_edit.specs.delaunay_legalization.Constraints.{constraints_by}
 use Rattle.delaunay_edit.specs.delaunay_legalization.State.{state_of}
-use Rattle.delaunay_edit.specs.delaunay_lines.Items.{item_in}
+use Rattle.delaunay_edit.specs.delaunay_location.Items.{item_in}
 use Rattle.c_calls.specs.declared.raw.RawMeeting.{RawMeeting}
 use Rattle.c_calls.specs.Queries.{IsMeeting}
 use Rattle.c_calls.proofs.Telling.{all_told}

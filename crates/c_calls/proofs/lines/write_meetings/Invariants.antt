@@ -1,7 +1,7 @@
 use Rattle.std.specs.List.{AllZip}
 use Rattle.delaunay_edit.specs.delaunay_legalization.Constraints.{constraints_by}
 use Rattle.delaunay_edit.specs.delaunay_legalization.State.{state_of}
-use Rattle.delaunay_edit.specs.delaunay_lines.Walk.{IsReady}
+use Rattle.delaunay_edit.specs.delaunay_location.Walk.{IsReady}
 use Rattle.c_calls.specs.Queries.{IsMeeting}
 use Rattle.c_calls.proofs.Walked.{IsToldOf}
 use Rattle.c_calls.proofs.lines.write_meetings.Given as goal

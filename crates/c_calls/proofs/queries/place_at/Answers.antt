@@ -1,6 +1,6 @@
 use Rattle.std.proofs.Common.{subst}
 use Rattle.delaunay_edit.specs.delaunay_core.Place.{place_of}
-use Rattle.delaunay_interface.specs.Elements.{FindsLocation}
+use Rattle.delaunay_interface.specs.delaunay_edit.Elements.{FindsLocation}
 use Rattle.c_calls.specs.Kept.{kept_place}
 use Rattle.c_calls.proofs.queries.place_at.Goals as goal
 

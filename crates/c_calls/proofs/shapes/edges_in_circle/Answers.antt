@@ -1,6 +1,6 @@
 use Rattle.std.proofs.Common.{◌∙◌, inr, refl, w64}
 use Rattle.std.proofs.lemmas.Int.{to_z-of_z}
-use Rattle.delaunay_shape_queries.specs.Found.{FindsEdges, edges_left}
+use Rattle.delaunay_queries.specs.Found.{FindsEdges, edges_left}
 use Rattle.c_calls.specs.Kept.{kept_place}
 use Rattle.c_calls.specs.Links.{indexes_in}
 use Rattle.c_calls.specs.Queries.{circle_of}

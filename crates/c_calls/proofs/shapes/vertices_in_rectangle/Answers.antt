@@ -1,5 +1,5 @@
 use Rattle.std.proofs.Common.{inr, refl}
-use Rattle.delaunay_shape_queries.specs.Found.{FindsVertices, vertices_left}
+use Rattle.delaunay_queries.specs.Found.{FindsVertices, vertices_left}
 use Rattle.c_calls.specs.Kept.{kept_place}
 use Rattle.c_calls.specs.Links.{indexes_in}
 use Rattle.c_calls.specs.Queries.{rectangle_of}

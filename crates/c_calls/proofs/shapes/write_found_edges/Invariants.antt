@@ -1,4 +1,4 @@
-use Rattle.delaunay_shape_queries.specs.Found.{edges_left}
+use Rattle.delaunay_queries.specs.Found.{edges_left}
 use Rattle.c_calls.specs.Links.{indexes_in}
 use Rattle.c_calls.proofs.Telling.{IsTelling}
 use Rattle.c_calls.proofs.shapes.write_found_edges.Given as goal

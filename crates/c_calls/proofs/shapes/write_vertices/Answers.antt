@@ -1,6 +1,6 @@
 use Rattle.std.proofs.Common.{◌∙◌, ◌+◌, ℕ, List, length, set, sym, ap, subst, arith}
 use Rattle.std.proofs.lemmas.List.{length-map}
-use Rattle.delaunay_shape_queries.specs.Found.{vertices_left}
+use Rattle.delaunay_queries.specs.Found.{vertices_left}
 use Rattle.c_calls.specs.Links.{indexes_in}
 use Rattle.c_calls.proofs.Telling.{IsTelling, all_told, are_more, telling_begins}
 use Rattle.c_calls.proofs.Telling.{telling_ends, telling_goes_on}

@@ -4,8 +4,8 @@ use Rattle.delaunay_edit.specs.plane.Fraction.{whole}
 use Rattle.delaunay_edit.specs.delaunay_legalization.State.{triangulation_of}
 use Rattle.delaunay_edit.proofs.delaunay_legalization_lemmas.Questions.{both_ways}
 use Rattle.delaunay_edit.specs.delaunay_core.Place.{place_of}
-use Rattle.delaunay_sight.specs.Beside.{by_place}
-use Rattle.plane_sight.specs.Sight.{IsInSight}
+use Rattle.delaunay_shapes.specs.Beside.{by_place}
+use Rattle.plane_theorems.specs.Sight.Sight.{IsInSight}
 use Rattle.c_calls.specs.Kept.{kept_place}
 use Rattle.c_calls.specs.Sight.{sight_told, is_free_face, is_marked}
 use Rattle.c_calls.specs.Written.{plain_point}

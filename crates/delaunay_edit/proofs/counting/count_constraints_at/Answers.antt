@@ -1,6 +1,6 @@
 use Rattle.std.proofs.Common.{ap}
-use Rattle.delaunay_paths.specs.half_edge_mesh.Rounds.{out_edges_left}
-use Rattle.delaunay_paths.proofs.delaunay_legalization_lemmas.Questions.{both_ways}
+use Rattle.delaunay_edit.specs.half_edge_dcel.Rounds.{out_edges_left}
+use Rattle.delaunay_edit.proofs.delaunay_legalization_lemmas.Questions.{both_ways}
 use Rattle.delaunay_edit.proofs.CountingAt.{counting_begins, next_within, counting_goes_past}
 use Rattle.delaunay_edit.proofs.CountingAt.{counting_goes_on, counting_ends}
 use Rattle.delaunay_edit.proofs.CountingWalk.{half_listed, half_unlisted}

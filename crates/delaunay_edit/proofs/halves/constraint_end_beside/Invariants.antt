@@ -1,4 +1,4 @@
-use Rattle.delaunay_paths.specs.half_edge_mesh.Rounds.{out_edges_left}
+use Rattle.delaunay_edit.specs.half_edge_dcel.Rounds.{out_edges_left}
 use Rattle.delaunay_edit.proofs.SeekingEnds.{IsSeekingEnd}
 use Rattle.delaunay_edit.proofs.halves.constraint_end_beside.Given as goal
 

@@ -1,12 +1,12 @@
 use Rattle.std.proofs.Common.{◌∙◌, [], ◌∷◌, ap, arith, length, length-append}
-use Rattle.delaunay_paths.specs.half_edge_mesh.Contents.{edges}
-use Rattle.delaunay_insertion.proofs.Appending.{sites_after}
-use Rattle.delaunay_insertion.proofs.EdgeLists.{adds_nothing, adds_on, adds_only}
-use Rattle.delaunay_insertion.proofs.EdgeSides.{room_inside}
-use Rattle.delaunay_insertion.proofs.FirstVertices.{few_are_legal, first_gains, no_edges}
-use Rattle.delaunay_insertion.proofs.FirstVertices.{second_gains}
-use Rattle.delaunay_insertion.proofs.InsertionCases.{inside_gains}
-use Rattle.delaunay_insertion.proofs.LeftToTest.{passes_beside}
+use Rattle.delaunay_edit.specs.half_edge_dcel.Contents.{edges}
+use Rattle.delaunay_vertices.proofs.Appending.{sites_after}
+use Rattle.delaunay_vertices.proofs.EdgeLists.{adds_nothing, adds_on, adds_only}
+use Rattle.delaunay_vertices.proofs.EdgeSides.{room_inside}
+use Rattle.delaunay_vertices.proofs.FirstVertices.{few_are_legal, first_gains, no_edges}
+use Rattle.delaunay_vertices.proofs.FirstVertices.{second_gains}
+use Rattle.delaunay_vertices.proofs.InsertionCases.{inside_gains}
+use Rattle.delaunay_vertices.proofs.LeftToTest.{passes_beside}
 use Rattle.delaunay_edit.proofs.Cases.{vertex_of_handle, not_on_vertex}
 use Rattle.delaunay_edit.proofs.EmptyRound.{put_in_free}
 use Rattle.delaunay_edit.proofs.Inserting.{PutsIn, appends, puts_beside}

@@ -1,5 +1,5 @@
 use Rattle.std.proofs.Common.{arith, refl}
-use Rattle.delaunay_paths.proofs.MovedEdges.{fewer_fit}
+use Rattle.delaunay_edit.proofs.MovedEdges.{fewer_fit}
 use Rattle.delaunay_edit.proofs.JoinedPath.{path_leaves, path_renamed}
 use Rattle.delaunay_edit.proofs.joining.settle.Goals as goal
 

@@ -1,5 +1,5 @@
 use Rattle.std.proofs.Common.{◌≡◌, sym, ◌∙◌, rules}
-use Rattle.mesh_embedding.specs.half_edge_mesh.Peel.{turn}
+use Rattle.delaunay_legalization.specs.half_edge_links.Peel.{turn}
 use Rattle.delaunay_legalization.proofs.RoundSteps.{turning_begins, turn_fits, centre_is}
 use Rattle.delaunay_legalization.proofs.RoundSteps.{h_in, fewer_turned, turning_goes_on}
 use Rattle.delaunay_legalization.proofs.RoundSteps.{turning_goes_next, fewer_next, turning_ends}

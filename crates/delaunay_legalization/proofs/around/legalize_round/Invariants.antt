@@ -1,5 +1,5 @@
 use Rattle.std.proofs.Common.{map}
-use Rattle.mesh_embedding.specs.half_edge_mesh.Mesh.{origin}
+use Rattle.delaunay_legalization.specs.half_edge_links.Mesh.{origin}
 use Rattle.delaunay_legalization.specs.Around.{IsOpposite}
 use Rattle.delaunay_legalization.specs.Placed.{IsPlaced}
 use Rattle.delaunay_legalization.proofs.RoundSteps.{IsTurningRound, tests_left}

@@ -1,6 +1,6 @@
 use Rattle.std.proofs.Common.{◌≡◌, refl, rules}
-use Rattle.mesh_embedding.specs.half_edge_mesh.Mesh.{next}
-use Rattle.mesh_embedding.proofs.MeshLegal.{joins_directed}
+use Rattle.delaunay_legalization.specs.half_edge_links.Mesh.{next}
+use Rattle.delaunay_legalization.proofs.MeshLegal.{joins_directed}
 use Rattle.delaunay_legalization.proofs.Legalizing.{fixed_stay}
 use Rattle.delaunay_legalization.proofs.CircleQuestions.{flips_either, read_outer_passes}
 use Rattle.delaunay_legalization.proofs.CircleQuestions.{read_tells, read_turns_left, stays_as_is}

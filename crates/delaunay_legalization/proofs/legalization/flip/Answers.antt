@@ -1,5 +1,5 @@
 use Rattle.std.proofs.Common.{ap, ◌∙◌}
-use Rattle.mesh_embedding.proofs.half_edge_links.Removing.Conditions.{between_faces}
+use Rattle.delaunay_legalization.proofs.half_edge_links_lemmas.Removing.Conditions.{between_faces}
 use Rattle.delaunay_legalization.proofs.Legalizing.{failing_flippable, failing_apart}
 use Rattle.delaunay_legalization.proofs.Placing.{kept_flipped}
 use Rattle.delaunay_legalization.proofs.legalization.flip.Goals as goal

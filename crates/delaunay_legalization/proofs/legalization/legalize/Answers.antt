@@ -1,5 +1,5 @@
 use Rattle.std.proofs.Common.{◌∙◌}
-use Rattle.mesh_embedding.proofs.MeshLegal.{joins_edge}
+use Rattle.delaunay_legalization.proofs.MeshLegal.{joins_edge}
 use Rattle.delaunay_legalization.proofs.Questions.{both_ways}
 use Rattle.delaunay_legalization.proofs.Stepping.{steps_begin, steps_end, edges_before, flip_fits}
 use Rattle.delaunay_legalization.proofs.Stepping.{last_edge_within, last_within}

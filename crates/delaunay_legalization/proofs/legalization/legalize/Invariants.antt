@@ -1,5 +1,5 @@
 use Rattle.std.proofs.Common.{map}
-use Rattle.mesh_embedding.specs.Legal.{steps_left}
+use Rattle.delaunay_legalization.specs.Legal.{steps_left}
 use Rattle.delaunay_legalization.specs.Placed.{IsPlaced}
 use Rattle.delaunay_legalization.proofs.Stepping.{IsUnderwayBy}
 use Rattle.delaunay_legalization.proofs.legalization.legalize.Given as goal

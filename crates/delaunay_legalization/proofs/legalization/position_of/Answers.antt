@@ -1,6 +1,6 @@
 use Rattle.std.proofs.Common.{ap, sym, ◌∙◌}
 use Rattle.std.proofs.lemmas.Option.{get_or_from_slice_get}
-use Rattle.mesh_embedding.proofs.EdgePairs.{Contains-map}
+use Rattle.delaunay_legalization.proofs.EdgePairs.{Contains-map}
 use Rattle.delaunay_legalization.proofs.legalization.position_of.Goals as goal
 
 pub returns-clause-listed : goal.returns-clause-listed

@@ -1,5 +1,5 @@
 use Rattle.std.proofs.Common.{◌∙◌, sym}
-use Rattle.mesh_embedding.proofs.plane.Triangles.{inside_is_sides}
+use Rattle.delaunay_legalization.proofs.plane.Triangles.{inside_is_sides}
 use Rattle.delaunay_legalization.proofs.Questions.{both_ways}
 use Rattle.delaunay_legalization.proofs.predicates.is_strictly_inside.Goals.{then-turns_left}
 use Rattle.delaunay_legalization.proofs.predicates.is_strictly_inside.Goals.{else-turns_left}

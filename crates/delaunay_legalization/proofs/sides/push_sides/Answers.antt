@@ -1,5 +1,5 @@
 use Rattle.std.proofs.Common.{◌≡◌, rules}
-use Rattle.mesh_embedding.specs.half_edge_mesh.Mesh.{next, prev, rev}
+use Rattle.delaunay_legalization.specs.half_edge_links.Mesh.{next, prev, rev}
 use Rattle.delaunay_legalization.proofs.AmongSides.{round_gained_among}
 use Rattle.delaunay_legalization.proofs.Legalizing.{round_gained}
 use Rattle.delaunay_legalization.proofs.sides.push_sides.Goals as goal

@@ -1,5 +1,5 @@
 use Rattle.std.proofs.Common.{◌≡◌, ap, rules}
-use Rattle.mesh_embedding.specs.half_edge_mesh.Mesh.{next}
+use Rattle.delaunay_legalization.specs.half_edge_links.Mesh.{next}
 use Rattle.delaunay_legalization.proofs.Pushing.{next_in_mesh, pushing_begins, pushing_ends}
 use Rattle.delaunay_legalization.proofs.Pushing.{pushing_goes_on}
 use Rattle.delaunay_legalization.proofs.star.push_star.Goals as goal

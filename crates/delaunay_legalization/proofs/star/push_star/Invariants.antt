@@ -1,4 +1,4 @@
-use Rattle.mesh_embedding.specs.half_edge_mesh.Rounds.{out_edges_left}
+use Rattle.delaunay_legalization.specs.half_edge_dcel.Rounds.{out_edges_left}
 use Rattle.delaunay_legalization.proofs.Pushing.{IsPushing}
 use Rattle.delaunay_legalization.proofs.star.push_star.Given as goal
 

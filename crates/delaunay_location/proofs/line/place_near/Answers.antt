@@ -1,6 +1,6 @@
 use Rattle.std.proofs.Common.{sym, ◌∙◌}
 use Rattle.delaunay_legalization.proofs.Questions.{both_ways}
-use Rattle.delaunay_location.proofs.Lines.{located_past}
+use Rattle.delaunay_location.proofs.OneLine.{located_past}
 use Rattle.delaunay_location.proofs.line.place_near.Goals as goal
 
 pub is_strictly_within-requires : goal.is_strictly_within-requires

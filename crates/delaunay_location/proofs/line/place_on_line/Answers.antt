@@ -1,5 +1,5 @@
 use Rattle.std.proofs.Common.{sym, ap, rules, ◌∙◌}
-use Rattle.delaunay_location.proofs.Lines.{all_outer, located_right}
+use Rattle.delaunay_location.proofs.OneLine.{all_outer, located_right}
 use Rattle.delaunay_location.proofs.Questions.{located_left}
 use Rattle.delaunay_location.proofs.line.place_on_line.Goals as goal
 

@@ -2,7 +2,8 @@ use Rattle.std.proofs.Common.{◌∙◌, arith}
 use Rattle.delaunay_legalization.proofs.Questions.{both_ways}
 use Rattle.delaunay_location.proofs.Nearest.{starts_all, starts_first, starts_nearer}
 use Rattle.delaunay_location.proofs.Nearest.{starts_no_nearer}
-use Rattle.delaunay_location.proofs.location.edge_from_nearest.Goals.{then-is_nearer, else-is_nearer}
+use Rattle.delaunay_location.proofs.location.edge_from_nearest.Goals.{then-is_nearer}
+use Rattle.delaunay_location.proofs.location.edge_from_nearest.Goals.{else-is_nearer}
 use Rattle.delaunay_location.proofs.location.edge_from_nearest.Goals as goal
 
 pub loop-index-init : goal.loop-index-init

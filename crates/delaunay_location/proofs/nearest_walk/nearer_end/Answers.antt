@@ -1,8 +1,8 @@
 use Rattle.std.proofs.Common.{ℕ, map, to_z, of_z, ◌∙◌, subst, ap, arith, w64}
 use Rattle.std.proofs.lemmas.Int.{to_z-of_z}
 use Rattle.std.specs.Prelude.{ℤ, ◌<ℤ◌}
-use Rattle.delaunay_legalization.specs.half_edge_mesh.Mesh.{origin}
-use Rattle.delaunay_legalization.proofs.half_edge_links.Lists.Rev.{rev_within}
+use Rattle.delaunay_legalization.specs.half_edge_links.Mesh.{origin}
+use Rattle.delaunay_legalization.proofs.half_edge_links_lemmas.Lists.Rev.{rev_within}
 use Rattle.delaunay_legalization.specs.plane.Fraction.{whole}
 use Rattle.delaunay_legalization.specs.plane.Circle.{gap}
 use Rattle.delaunay_legalization.specs.plane.Pairs.{place}

@@ -1,5 +1,5 @@
 use Rattle.std.proofs.Common.{map}
-use Rattle.delaunay_legalization.specs.half_edge_mesh.Mesh.{origin}
+use Rattle.delaunay_legalization.specs.half_edge_links.Mesh.{origin}
 use Rattle.delaunay_legalization.specs.delaunay_core.Place.{place_of}
 use Rattle.delaunay_location.specs.Candidate.{EndsNoNearer}
 use Rattle.delaunay_location.proofs.BothWays.{IsClosingIn, how_many_before}

@@ -1,5 +1,5 @@
 use Rattle.std.proofs.Common.{◌∙◌, ◌^◌, arith}
-use Rattle.plane_delaunay.proofs.Circles.Nearest.{nearest_by_neighbours}
+use Rattle.plane_theorems.proofs.Delaunay.Circles.Nearest.{nearest_by_neighbours}
 use Rattle.delaunay_location.proofs.Candidates.{next_falls, reached_on, vertex_within}
 use Rattle.delaunay_location.proofs.Neighbours.{count_stays, more_counted, moves_fit}
 use Rattle.delaunay_location.proofs.Neighbours.{none_counted, room_stays}

@@ -1,7 +1,7 @@
 use Rattle.std.proofs.Common.{map}
-use Rattle.delaunay_legalization.specs.half_edge_mesh.Mesh.{origin}
+use Rattle.delaunay_legalization.specs.half_edge_links.Mesh.{origin}
 use Rattle.delaunay_legalization.specs.plane.Fraction.{whole}
-use Rattle.plane_delaunay.specs.Nearer.{nearer_count}
+use Rattle.plane_theorems.specs.Delaunay.Nearer.{nearer_count}
 use Rattle.delaunay_legalization.specs.delaunay_core.Place.{place_of}
 use Rattle.delaunay_legalization.specs.State.{state_of, triangulation_of}
 use Rattle.delaunay_location.specs.Candidate.{IsReached}

@@ -1,5 +1,5 @@
 use Rattle.std.proofs.Common.{ℕ, ◌/◌, ◌∙◌, ap, sym, subst}
-use Rattle.delaunay_location.specs.half_edge_mesh.Mesh.{face_edge, next, prev}
+use Rattle.delaunay_location.specs.half_edge_links.Mesh.{face_edge, next, prev}
 use Rattle.delaunay_shapes.specs.Start.{HasSides}
 use Rattle.delaunay_shapes.proofs.FirstEdges.{three_sides}
 use Rattle.delaunay_shapes.proofs.flood_start.sides_of_face.Goals as goal

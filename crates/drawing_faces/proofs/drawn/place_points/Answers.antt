@@ -1,6 +1,6 @@
 use Rattle.std.proofs.Common.{◌<◌, sym, subst}
 use Rattle.std.specs.Prelude.{All}
-use Rattle.delaunay_interface.specs.Constrained.{none}
+use Rattle.delaunay_interface.specs.delaunay_edit.Constrained.{none}
 use Rattle.drawing_faces.specs.Names.{AreFirsts}
 use Rattle.drawing_faces.proofs.Named.{placed_below, placed_names}
 use Rattle.drawing_faces.proofs.drawn.place_points.Goals as goal

@@ -1,7 +1,7 @@
 use Rattle.std.proofs.Common.{ℕ, List, ◌≤◌, ◌∙◌, length, map, ap, sym, subst}
 use Rattle.std.specs.Prelude.{All}
 use Rattle.delaunay_bulk.specs.Bulk.{HaveHandles}
-use Rattle.delaunay_interface.specs.Constrained.{constraint_edges}
+use Rattle.delaunay_interface.specs.delaunay_edit.Constrained.{constraint_edges}
 use Rattle.delaunay_interface.specs.delaunay_legalization.State.{triangulation_of}
 use Rattle.drawing_faces.specs.Drawing.{ends_of, face_of}
 use Rattle.drawing_faces.specs.Kept.{AreKept, IsLeftOut}

@@ -1,9 +1,9 @@
 use Rattle.std.proofs.Common.{◌≡◌, ◌++◌, ◌∙◌, length, map, sym, ap, arith}
 use Rattle.std.specs.List.{range_with_len}
 use Rattle.std.proofs.lemmas.List.{length-map}
-use Rattle.delaunay_interface.specs.half_edge_mesh.Triangles.{triangles, triangle_at}
+use Rattle.delaunay_interface.specs.half_edge_links.Triangles.{triangles, triangle_at}
 use Rattle.delaunay_interface.specs.InnerFaces.{inner_faces_left}
-use Rattle.delaunay_interface.specs.mesh_embedding.Drawn.{corners_of}
+use Rattle.delaunay_interface.specs.delaunay_legalization.Drawn.{corners_of}
 use Rattle.delaunay_interface.proofs.delaunay_legalization_lemmas.Rounds.{first_left, none_left}
 use Rattle.drawing_faces.specs.Drawing.{face_of, indexes_at}
 use Rattle.drawing_faces.proofs.MeshFaces.{row_more, rows_end, rows_by_index, same_indexes}

@@ -1,5 +1,5 @@
 use Rattle.std.proofs.Common.{◌≡◌, ◌∙◌, arith, ap, refl, sym, subst}
-use Rattle.delaunay_interface.specs.half_edge_mesh.Mesh.{face, rev}
+use Rattle.delaunay_interface.specs.half_edge_links.Mesh.{face, rev}
 use Rattle.delaunay_interface.proofs.delaunay_legalization_lemmas.Legalizing.{drained}
 use Rattle.drawing_faces.specs.Flood.{IsFlood}
 use Rattle.drawing_faces.proofs.Flooding.{all_open, begun, edge_within, next_entered, next_keeps}

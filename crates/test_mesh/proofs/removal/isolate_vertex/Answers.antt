@@ -1,6 +1,6 @@
 use Rattle.std.proofs.Common.{sym, ap, ◌∙◌}
-use Rattle.half_edge_mesh.specs.Mesh.{Mesh, next, origin, rev}
-use Rattle.half_edge_mesh.specs.Peel.{turn}
+use Rattle.half_edge_mesh.specs.half_edge_links.Mesh.{Mesh, next, origin, rev}
+use Rattle.half_edge_mesh.specs.half_edge_links.Peel.{turn}
 use Rattle.test_mesh.proofs.SmallRemovals.{three_sides, four_sides}
 use Rattle.test_mesh.proofs.removal.isolate_vertex.Goals as goal
 

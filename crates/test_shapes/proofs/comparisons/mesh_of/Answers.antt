@@ -1,4 +1,4 @@
-use Rattle.delaunay_shape_queries.proofs.Calls.{kept_in_mesh}
+use Rattle.delaunay_queries.proofs.Calls.{kept_in_mesh}
 use Rattle.test_points.specs.Vertices.{position_of}
 use Rattle.test_shapes.proofs.comparisons.mesh_of.Goals as goal
 

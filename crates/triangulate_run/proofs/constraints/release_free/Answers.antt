@@ -1,5 +1,5 @@
 use Rattle.std.proofs.Common.{◌<◌, length, refl, subst}
-use Rattle.delaunay_edit.proofs.mesh_embedding.EdgePairs.{no_joins}
+use Rattle.delaunay_edit.proofs.delaunay_legalization_lemmas.EdgePairs.{no_joins}
 use Rattle.triangulate_run.proofs.Releases.{no_edge, is_edge}
 use Rattle.triangulate_run.proofs.constraints.release_free.Goals as goal
 

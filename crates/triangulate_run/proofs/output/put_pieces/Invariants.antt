@@ -1,6 +1,6 @@
 use Rattle.std.proofs.Common.{◌≡◌, false, take}
 use Rattle.std.specs.List.{flat_map}
-use Rattle.triangulate_watched.specs.Watched.{inner_of, has_failed}
+use Rattle.triangulate_run.specs.Watched.{inner_of, has_failed}
 use Rattle.triangulate_run.specs.Output.{Sends}
 use Rattle.triangulate_run.specs.Piece.{text_of}
 use Rattle.triangulate_run.proofs.output.put_pieces.Given as goal

@@ -1,6 +1,6 @@
 use Rattle.std.proofs.Common.{inl, inr, map, refl, ◌∙◌, ap}
 use Rattle.triangulate_run.specs.Stage.{position}
-use Rattle.delaunay_edit.specs.mesh_embedding.Drawn.{drawn}
+use Rattle.delaunay_edit.specs.delaunay_legalization.Drawn.{drawn}
 use Rattle.triangulate_run.proofs.Insertions.{unknown_if_fresh, known_if_there, may_refuse}
 use Rattle.triangulate_run.proofs.Insertions.{site_if_listed, listed_if_found, mesh_kept}
 use Rattle.triangulate_run.proofs.Insertions.{places_kept, sites_kept, sites_more}

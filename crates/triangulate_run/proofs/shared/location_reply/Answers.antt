@@ -1,7 +1,7 @@
 use Rattle.std.proofs.Common.{◌∙◌, ap, subst}
 use Rattle.delaunay_edit.specs.plane.Fraction.{whole}
 use Rattle.delaunay_edit.specs.plane.Location.{IsLocation}
-use Rattle.delaunay_edit.specs.half_edge_mesh.Mesh.{origin, rev}
+use Rattle.delaunay_edit.specs.half_edge_links.Mesh.{origin, rev}
 use Rattle.delaunay_edit.specs.delaunay_location.declared.position_in_triangulation.PositionInTriangulation.{PositionInTriangulation}
 use Rattle.delaunay_edit.specs.Location.{location_of}
 use Rattle.triangulate_run.specs.MeshFaces.{row_at}

@@ -3,10 +3,10 @@ use Rattle.triangulate_run.specs.declared.corners.Corners.{Corners}
 use Rattle.std.proofs.Common.{List, ◌≢◌, ◌≡◌, ◌++◌, length, map, sym, ◌∙◌, ap, subst, arith}
 use Rattle.std.specs.List.{range_with_len}
 use Rattle.std.proofs.lemmas.List.{length-map}
-use Rattle.delaunay_edit.specs.half_edge_mesh.Triangles.{triangles, triangle_at}
+use Rattle.delaunay_edit.specs.half_edge_links.Triangles.{triangles, triangle_at}
 use Rattle.delaunay_interface.specs.InnerFaces.{inner_faces_left}
 use Rattle.triangulate_run.specs.Stage.{position}
-use Rattle.delaunay_edit.specs.mesh_embedding.Drawn.{corners_of}
+use Rattle.delaunay_edit.specs.delaunay_legalization.Drawn.{corners_of}
 use Rattle.triangulate_run.specs.MeshFaces.{row_at}
 use Rattle.delaunay_edit.proofs.delaunay_legalization_lemmas.Rounds.{first_left, none_left}
 use Rattle.triangulate_run.proofs.MeshFaces.{row_more, rows_end, rows_by_index, row_same_mesh}

@@ -1,6 +1,6 @@
 use Rattle.std.proofs.Common.{◌≡◌, ap, rules}
-use Rattle.delaunay_paths.proofs.delaunay_legalization_lemmas.Questions.{both_ways}
-use Rattle.delaunay_paths.specs.delaunay_lines.Items.{item_in}
+use Rattle.delaunay_edit.proofs.delaunay_legalization_lemmas.Questions.{both_ways}
+use Rattle.delaunay_edit.specs.delaunay_location.Items.{item_in}
 use Rattle.delaunay_edit.proofs.CountingWalk.{counting_along, counting_crosses, counting_goes_on}
 use Rattle.delaunay_edit.proofs.CountingWalk.{counting_goes_past, counting_path_begins}
 use Rattle.delaunay_edit.proofs.CountingWalk.{counting_stays, crossed_half_in, crossed_item}

@@ -1,6 +1,6 @@
 use Rattle.std.proofs.Common.{subst}
 use Rattle.std.specs.Prelude.{◌↔◌, IsTrue}
-use Rattle.delaunay_paths.specs.plane.Fraction.{Point, WithinSegment, whole}
+use Rattle.delaunay_edit.specs.plane.Fraction.{Point, WithinSegment, whole}
 use Rattle.delaunay_edit.proofs.FarEnds.{joined_apart, joined_in, points_apart}
 use Rattle.delaunay_edit.proofs.JoinedHalves.{not_two_no_halves, two_told}
 use Rattle.delaunay_edit.proofs.constraint_views.PlacedConstraintViews.straight_halves.Goals as goal

@@ -2,10 +2,10 @@ use Rattle.std.proofs.Common.{◌+◌, ◌∙◌, length, refl, sym, ap, arith}
 use Rattle.std.specs.Prelude.{true}
 use Rattle.delaunay_edit.specs.delaunay_legalization.CdtEdge.{is_constraint, with_mark}
 use Rattle.delaunay_edit.specs.delaunay_legalization.State.{state_of}
-use Rattle.delaunay_edit.specs.delaunay_paths.Releasing.{AddsConstraints}
-use Rattle.delaunay_edit.proofs.delaunay_paths_lemmas.AddingPieces.{cleared_work}
-use Rattle.delaunay_edit.proofs.delaunay_paths_lemmas.MovedEdges.{fewer_fit}
-use Rattle.delaunay_edit.proofs.delaunay_paths_lemmas.Releasing.{added_left, constraints_added}
+use Rattle.delaunay_edit.specs.Releasing.{AddsConstraints}
+use Rattle.delaunay_edit.proofs.AddingPieces.{cleared_work}
+use Rattle.delaunay_edit.proofs.MovedEdges.{fewer_fit}
+use Rattle.delaunay_edit.proofs.Releasing.{added_left, constraints_added}
 use Rattle.delaunay_edit.specs.Constrained.{constraint_edges}
 use Rattle.delaunay_edit.specs.Counting.{IsCounted}
 use Rattle.delaunay_edit.proofs.EditingConstraints.{edges_marked}

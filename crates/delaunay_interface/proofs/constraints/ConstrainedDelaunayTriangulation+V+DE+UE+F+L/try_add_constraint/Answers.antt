@@ -1,11 +1,11 @@
 use Rattle.std.proofs.Common.{◌<◌, [], ◌∷◌, ◌++◌, ◌∙◌, ℕ, List, length, ap, inl, inr, refl, sym}
 use Rattle.std.proofs.lemmas.Bool.{eq-eqb, eqb-true}
-use Rattle.delaunay_edit.specs.half_edge_mesh.Mesh.{origin, rev}
+use Rattle.delaunay_edit.specs.half_edge_links.Mesh.{origin, rev}
 use Rattle.delaunay_edit.specs.delaunay_legalization.CdtEdge.{is_constraint}
 use Rattle.delaunay_edit.specs.delaunay_legalization.State.{state_of}
 use Rattle.delaunay_edit.proofs.delaunay_legalization_lemmas.Questions.{both_ways}
-use Rattle.delaunay_edit.proofs.delaunay_paths_lemmas.JoinedPairs.{index_found}
-use Rattle.delaunay_edit.proofs.delaunay_paths_lemmas.OnePiece.{joined_is_free}
+use Rattle.delaunay_edit.proofs.JoinedPairs.{index_found}
+use Rattle.delaunay_edit.proofs.OnePiece.{joined_is_free}
 use Rattle.delaunay_edit.specs.Constrained.{constraint_edges}
 use Rattle.delaunay_edit.proofs.EditingConstraints.{none_listed, path_is_there}
 use Rattle.delaunay_edit.proofs.OnePieceAdded.{edge_listed, list_renamed}

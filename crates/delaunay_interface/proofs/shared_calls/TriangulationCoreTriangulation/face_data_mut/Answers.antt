@@ -1,6 +1,6 @@
 use Rattle.std.proofs.Common.{◌≡◌, ◌∙◌, ℕ, zero, suc, refl, ap}
-use Rattle.delaunay_edit.specs.half_edge_mesh.Contents.{Contents}
-use Rattle.delaunay_edit.specs.half_edge_mesh.Writing.{with_face}
+use Rattle.delaunay_edit.specs.half_edge_dcel.Contents.{Contents}
+use Rattle.delaunay_edit.specs.half_edge_dcel.Writing.{with_face}
 use Rattle.delaunay_edit.specs.Writing.{with_face_data}
 use Rattle.delaunay_edit.proofs.OtherData.{counted_with_face, face_written}
 use Rattle.delaunay_interface.proofs.Kept.{held_of_same}

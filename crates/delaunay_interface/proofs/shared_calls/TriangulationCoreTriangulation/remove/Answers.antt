@@ -2,8 +2,8 @@ use Rattle.std.proofs.Common.{◌*◌, ◌≤◌, ◌∙◌, length, sym, ap, ar
 use Rattle.std.proofs.lemmas.Bool.{eqb-true}
 use Rattle.std.proofs.lemmas.Option.{IfSome_then}
 use Rattle.delaunay_edit.specs.delaunay_legalization.State.{state_of}
-use Rattle.delaunay_edit.proofs.delaunay_paths_lemmas.MovedEdges.{fewer_fit}
-use Rattle.delaunay_edit.proofs.delaunay_removal_lemmas.Passing.{fails_only_at, passes_but}
+use Rattle.delaunay_edit.proofs.MovedEdges.{fewer_fit}
+use Rattle.delaunay_edit.proofs.delaunay_vertices_lemmas.Passing.{fails_only_at, passes_but}
 use Rattle.delaunay_edit.proofs.EmptyRound.{none_counted}
 use Rattle.delaunay_edit.proofs.FreeRemoval.{free_circles, sides_settle}
 use Rattle.delaunay_edit.proofs.Removing.{fewer_left, sites_left}

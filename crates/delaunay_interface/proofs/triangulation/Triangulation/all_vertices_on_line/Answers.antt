@@ -4,8 +4,8 @@ use Rattle.std.proofs.lemmas.Bool.{eq-eqb, eqb-true}
 use Rattle.std.proofs.lemmas.List.{nil_from_length}
 use Rattle.delaunay_edit.specs.plane.Side.{left, on}
 use Rattle.delaunay_edit.specs.plane.Tiling.{Triangulation, IsTiling, vertex}
-use Rattle.delaunay_edit.proofs.plane_delaunay.Circles.EmptyCircles.{no_face}
-use Rattle.delaunay_edit.proofs.plane_delaunay.Tilings.Ground.{tiling}
+use Rattle.delaunay_edit.proofs.plane_theorems.Delaunay.Circles.EmptyCircles.{no_face}
+use Rattle.delaunay_edit.proofs.plane_theorems.Delaunay.Tilings.Ground.{tiling}
 use Rattle.delaunay_edit.proofs.Counts.{count_of_faces}
 use Rattle.delaunay_interface.specs.Views.{AreOnLine}
 use Rattle.delaunay_interface.proofs.triangulation.Triangulation.all_vertices_on_line.Goals as goal

@@ -1,5 +1,5 @@
 use Rattle.std.proofs.Common.{◌≡◌, ◌*◌, ◌+◌, ◌∙◌, length, ap, arith}
-use Rattle.delaunay_edit.specs.mesh_embedding.Drawn.{outer_of}
+use Rattle.delaunay_edit.specs.delaunay_legalization.Drawn.{outer_of}
 use Rattle.delaunay_edit.proofs.HullSizes.{sides_and_outer, counts_outer}
 use Rattle.delaunay_interface.proofs.triangulation.Triangulation.convex_hull_size.Given.{Over}
 use Rattle.delaunay_interface.proofs.triangulation.Triangulation.convex_hull_size.Goals.{After-num_inner_faces}

@@ -4,7 +4,7 @@ use Rattle.std.specs.Prelude.{Ok}
 use Rattle.std.proofs.lemmas.Bool.{eqb-true}
 use Rattle.std.proofs.lemmas.Result.{err_from_is_err_and}
 use Rattle.delaunay_edit.specs.delaunay_legalization.State.{state_of}
-use Rattle.delaunay_edit.specs.half_edge_mesh.Room.{HasRoomFor}
+use Rattle.delaunay_edit.specs.half_edge_links.Room.{HasRoomFor}
 use Rattle.delaunay_edit.specs.Counting.{IsCounted}
 use Rattle.delaunay_edit.specs.Edits.{AppendsVertex, CanAppend, InsertsVertex}
 use Rattle.delaunay_edit.proofs.delaunay_location_lemmas.Walking.{apart_elsewhere}

@@ -1,6 +1,6 @@
 use Rattle.std.proofs.Common.{arith, refl}
 use Rattle.std.proofs.lemmas.List.{length-set}
-use Rattle.mesh_embedding.proofs.MeshLegal.{gains_last, gains_none}
+use Rattle.delaunay_legalization.proofs.MeshLegal.{gains_last, gains_none}
 use Rattle.delaunay_legalization.proofs.Bits.{one_bit_more}
 use Rattle.delaunay_legalization.proofs.EdgeSets.{listed_by, not_listed_by, one_fits}
 use Rattle.delaunay_legalization.proofs.EdgeSets.{one_flagged_more}

@@ -1,4 +1,4 @@
-use Rattle.delaunay_location.specs.half_edge_mesh.Contents.{IsMeshWithData}
+use Rattle.delaunay_location.specs.half_edge_dcel.Contents.{IsMeshWithData}
 use Rattle.delaunay_shapes.proofs.Handles.{edge_told, end_covered, start_covered}
 use Rattle.delaunay_shapes.proofs.shape_search.ShapeSearch.has_edge.Goals as goal
 

@@ -1,8 +1,10 @@
 use Rattle.std.proofs.Common.{arith}
-use Rattle.delaunay_location.specs.half_edge_mesh.Rounds.{hull_left}
-use Rattle.delaunay_location.proofs.mesh_embedding.OneOutline.{one_outline}
-use Rattle.delaunay_location.proofs.mesh_embedding.OutlineGiven.{along_begins, along_next}
-use Rattle.delaunay_location.proofs.mesh_embedding.OutlineGiven.{along_goes_on, along_ends}
+use Rattle.delaunay_location.specs.half_edge_dcel.Rounds.{hull_left}
+use Rattle.delaunay_location.proofs.delaunay_legalization_lemmas.OneOutline.{one_outline}
+use Rattle.delaunay_location.proofs.delaunay_legalization_lemmas.OutlineGiven.{along_begins}
+use Rattle.delaunay_location.proofs.delaunay_legalization_lemmas.OutlineGiven.{along_next}
+use Rattle.delaunay_location.proofs.delaunay_legalization_lemmas.OutlineGiven.{along_goes_on}
+use Rattle.delaunay_location.proofs.delaunay_legalization_lemmas.OutlineGiven.{along_ends}
 use Rattle.delaunay_location.proofs.delaunay_legalization_lemmas.Questions.{both_ways}
 use Rattle.delaunay_shapes.proofs.Searches.{search_of}
 use Rattle.delaunay_shapes.proofs.shape_search.ShapeSearch.outer_edge.Goals as goal

@@ -1,6 +1,7 @@
 use Rattle.std.proofs.Common.{ℕ, ◌/◌}
-use Rattle.delaunay_location.specs.half_edge_mesh.Rounds.{hull_left}
-use Rattle.delaunay_location.proofs.mesh_embedding.OutlineGiven.{IsGoingAlong, indexes}
+use Rattle.delaunay_location.specs.half_edge_dcel.Rounds.{hull_left}
+use Rattle.delaunay_location.proofs.delaunay_legalization_lemmas.OutlineGiven.{IsGoingAlong}
+use Rattle.delaunay_location.proofs.delaunay_legalization_lemmas.OutlineGiven.{indexes}
 use Rattle.delaunay_shapes.specs.ShapeSearch.{EnclosesEdge}
 use Rattle.delaunay_shapes.proofs.shape_search.ShapeSearch.outer_edge.Given as goal
 

@@ -1,0 +1,27 @@
+//! The constraint between two vertices, by a look round the first.
+ghost use Rattle.std.specs.Prelude.{◌↔◌, ◌<◌, length, IsTrue};
+ghost use Rattle.delaunay_location.specs.plane.Pairs.{Joins};
+ghost use Rattle.delaunay_location.specs.delaunay_legalization.Constraints.{constraints_by};
+ghost use Rattle.delaunay_location.specs.delaunay_legalization.Shape.{IsTriangulated};
+ghost use Rattle.delaunay_location.specs.delaunay_legalization.State.{state_of};
+
+use delaunay_location::delaunay_core::point::HasPosition;
+use delaunay_location::delaunay_legalization::{ConstraintMarker, is_constraint_edge};
+use delaunay_location::half_edge_dcel::{Dcel, FixedVertexHandle, MeshViews};
+
+/// Whether a constraint joins two vertices, in either order.
+pub fn is_constraint_between<M: ConstraintMarker<UE>, V: HasPosition, DE, UE, F>(
+    dcel: &Dcel<V, DE, UE, F>,
+    from: FixedVertexHandle,
+    to: FixedVertexHandle,
+) -> bool
+    requires within { from < length dcel.now.vertices }
+    requires kept { IsTriangulated V.place (state_of dcel.now) }
+
+    ensures { IsTrue result ↔ Joins (constraints_by M.constraints (state_of dcel.now)) from to }
+{
+    match dcel.get_edge_from_neighbors(from, to) {
+        Some(edge) => is_constraint_edge::<M, _, _, _, _>(dcel, edge.fix().as_undirected()),
+        None => false,
+    }
+}

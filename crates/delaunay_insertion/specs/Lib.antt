@@ -1,4 +1,0 @@
-pub mod Data
-pub mod Growth
-pub mod Edges
-pub mod Constraints

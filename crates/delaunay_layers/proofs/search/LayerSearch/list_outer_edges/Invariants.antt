@@ -1,8 +1,0 @@
-use Rattle.delaunay_layers.specs.Search.{PutsIn}
-use Rattle.delaunay_layers.proofs.Searching.{IsOuterBelow}
-use Rattle.delaunay_layers.proofs.search.LayerSearch.list_outer_edges.Given as goal
-
-abbrev pub invariant-loop-index : goal.invariant-loop-index
-invariant-loop-index g l =
-    let constraints = g.M.ConstraintMarker.constraints l.dcel.undirected in
-    PutsIn constraints (IsOuterBelow l.dcel.mesh l.index) l.fn.self l.self

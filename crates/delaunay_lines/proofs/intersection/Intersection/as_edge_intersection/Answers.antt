@@ -1,5 +1,0 @@
-use Rattle.std.proofs.Common.{rules}
-use Rattle.delaunay_lines.proofs.intersection.Intersection.as_edge_intersection.Goals as goal
-
-pub returns-in-EdgeIntersection : goal.returns-in-EdgeIntersection
-returns-in-EdgeIntersection g c = search rules

@@ -1,8 +1,0 @@
-use Rattle.delaunay_location.specs.delaunay_core.Place.{place_of}
-use Rattle.delaunay_lines.specs.Outline.{IsSeenOuter}
-use Rattle.delaunay_lines.proofs.outside.first_along.Given as goal
-
-abbrev pub invariant-loop : goal.invariant-loop
-invariant-loop g l =
-    IsSeenOuter g.V.HasPosition.place l.placed.dcel (place_of g.V.Scalar.SpadeNum.whole l.from)
-    l.here

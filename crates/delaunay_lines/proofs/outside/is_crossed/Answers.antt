@@ -1,9 +1,0 @@
-use Rattle.delaunay_lines.proofs.outside.is_crossed.Goals as goal
-
-pub side-requires-clause-point_covered : goal.side-requires-clause-point_covered
-side-requires-clause-point_covered g c = rw (← c.placed.view_is) at
-    (g.met.P.PlaneTests.sites_are_covered _ _ c.start_of.ensures.site)
-
-pub side-requires-2-clause-point_covered : goal.side-requires-2-clause-point_covered
-side-requires-2-clause-point_covered g c = rw (← c.placed.view_is) at
-    (g.met.P.PlaneTests.sites_are_covered _ _ c.end_of.ensures.site)

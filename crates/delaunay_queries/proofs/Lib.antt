@@ -1,0 +1,4 @@
+pub mod Ways
+pub mod Searching
+pub mod Reached
+pub mod Calls

@@ -1,0 +1,24 @@
+-- The edges and vertices of a triangulation that have a point in a shape.
+use Rattle.std.specs.Prelude.{◌≡◌, ℕ, List}
+use Rattle.std.specs.Borrow.{Bor}
+use Rattle.delaunay_interface.specs.half_edge_dcel.Contents.{Contents}
+use Rattle.delaunay_interface.specs.plane.Fraction.{Point, Fraction}
+use Rattle.delaunay_interface.specs.delaunay_legalization.State.{State, state_of}
+pub use Rattle.delaunay_shapes.specs.Left.{GivesEdgesIn, GivesVerticesIn, edges_left, vertices_left}
+pub use Rattle.delaunay_shapes.specs.Tests.{corners}
+
+-- the given are handles of the edges of a triangulation in state s that have a point in the shape,
+-- each once
+pub record FindsEdges {V D U F : Type 0} (place : V → Point) (s : State V D U F)
+    (Shape : Fraction → Type 0) (given : List (Bor (Contents V D U F) × ℕ)) : Type 0 where
+  pub mesh : Bor (Contents V D U F)
+  pub state : state_of mesh.now ≡ s
+  pub edges : GivesEdgesIn Shape place mesh given
+
+-- the given are handles of the vertices of a triangulation in state s that are in the shape, each
+-- once
+pub record FindsVertices {V D U F : Type 0} (place : V → Point) (s : State V D U F)
+    (Shape : Fraction → Type 0) (given : List (Bor (Contents V D U F) × ℕ)) : Type 0 where
+  pub mesh : Bor (Contents V D U F)
+  pub state : state_of mesh.now ≡ s
+  pub vertices : GivesVerticesIn Shape place mesh given

@@ -1,0 +1,4 @@
+pub mod Layers
+pub mod Search
+pub mod Found
+pub mod Distances

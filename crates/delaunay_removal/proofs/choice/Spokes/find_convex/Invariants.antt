@@ -1,6 +1,0 @@
-use Rattle.delaunay_removal.specs.Star.{IsConvexAt}
-use Rattle.delaunay_removal.proofs.Searching.{IsSeeking}
-use Rattle.delaunay_removal.proofs.choice.Spokes.find_convex.Given as goal
-
-abbrev pub invariant-loop-i : goal.invariant-loop-i
-invariant-loop-i g l = IsSeeking IsConvexAt l.self l.i l.edge

@@ -1,6 +1,0 @@
-use Rattle.delaunay_removal.proofs.FreedEdges.{IsFreeing}
-use Rattle.delaunay_removal.proofs.freeing.free_edges_at.Given as goal
-
-abbrev pub invariant-loop-i : goal.invariant-loop-i
-invariant-loop-i g l =
-    IsFreeing g.M.ConstraintMarker.marks l.fn.dcel l.initial.edge l.dcel l.i l.edge

@@ -1,0 +1,201 @@
+-- Free faces of a mesh beside its edges, as faces of the triangulation that it draws.
+-- Lemmas: laid, tiles_with, free_edge, beside_iff, behind_iff.
+use Rattle.std.proofs.Common.{◌≡◌, ◌⊎◌, ◌+◌, ◌-◌, ◌<◌, ◌↔◌, ◌∙◌, ℕ, Bool, IsTrue, List, length}
+use Rattle.std.proofs.Common.{sym, ap, subst, inl, inr, arith}
+use Rattle.std.specs.Prelude.{slice_index_or}
+use Rattle.std.proofs.lemmas.List.{get_or-map, length-map}
+use Rattle.delaunay_location.specs.half_edge_links.Mesh.{Mesh, IsValidMesh, origin, next, prev}
+use Rattle.delaunay_location.specs.half_edge_links.Mesh.{face}
+use Rattle.delaunay_location.specs.half_edge_links.Mesh.{face_edge, rev}
+use Rattle.delaunay_location.specs.half_edge_links.Triangles.{Triangle, triangles, triangle_at}
+use Rattle.delaunay_location.proofs.half_edge_links_lemmas.Lists.Rev.{rev-rev, rev_within}
+use Rattle.delaunay_location.proofs.half_edge_links_lemmas.Sound.Triangles as T
+use Rattle.delaunay_location.specs.plane.Fraction.{Point}
+use Rattle.delaunay_location.specs.plane.Pairs.{EachPairOnce}
+use Rattle.delaunay_location.specs.plane.Tiling.{Triangulation, Face, TilesHull}
+use Rattle.delaunay_location.specs.plane.Tiling as D
+use Rattle.delaunay_location.specs.plane_theorems.Tiling.Laws.{IsTurned}
+use Rattle.delaunay_location.specs.plane_theorems.Tiling.Local.{IsMesh}
+use Rattle.delaunay_location.specs.plane_theorems.Segments.WalkLaws.{IsLaid}
+use Rattle.delaunay_location.proofs.plane_theorems.Segments.Walking.LaidMeshes.{meshes_are_laid}
+use Rattle.plane_theorems.specs.Sight.Sight.{face_at, HasFreeFace}
+use Rattle.delaunay_location.specs.delaunay_legalization.Drawn.{drawn, faces_of, edges_of, outer_of}
+use Rattle.delaunay_location.specs.delaunay_legalization.Drawn.{corners_of}
+use Rattle.delaunay_location.proofs.delaunay_legalization_lemmas.MeshStays.{one_way}
+use Rattle.delaunay_location.proofs.delaunay_legalization_lemmas.OwnEdges.{own_edges}
+use Rattle.delaunay_shapes.specs.Beside.{by_place, IsFreeBeside}
+
+module _ (points : List Point) (m : Mesh) (s : IsValidMesh m)
+    (shape : IsMesh points (faces_of m) (outer_of m)) (free : ℕ → Bool) where
+  abbrev t : Triangulation
+  t = drawn points m
+
+  -- the faces tile the hull, or all vertices are on one line
+  pub laid : IsLaid t
+  laid = meshes_are_laid points (faces_of m) (outer_of m) (edges_of m) shape (own_edges m s)
+
+  -- no two edges have the same ends
+  once : EachPairOnce (edges_of m)
+  once = elim laid [ inl tiles ↦ tiles.once | inr l ↦ l.0.once ]
+
+  -- with a face, the faces tile the hull
+  pub tiles_with : (n : ℕ) → n < length (faces_of m) → TilesHull t
+  tiles_with n within = elim laid [
+    | inl h ↦ h
+    | inr l ↦ absurd (none (subst (λ (fs : List Face). n < length fs) l.0.no_face within))
+  ]
+    where
+      none : n < 0 → ⊥
+      none k = omega (arith, k)
+
+  no_triangle : Triangle
+  no_triangle = record { first = 0; second = 0; third = 0 }
+
+  count : length (faces_of m) ≡ length m.face_edges
+  count = length-map (triangles m) corners_of ∙ length-map m.face_edges (triangle_at m)
+
+  -- the n-th face of the list has the corners round the edge that it names
+  corners_named : (n : ℕ) → n < length m.face_edges
+      → face_at t n ≡ corners_of (triangle_at m (slice_index_or m.face_edges n 0))
+  corners_named n within =
+      get_or-map corners_of (triangles m) n no_triangle (D.face 0 0 0)
+      (subst (λ k. n < k) (sym (length-map m.face_edges (triangle_at m))) within)
+      ∙ ap corners_of (get_or-map (triangle_at m) m.face_edges n 0 no_triangle within)
+
+  -- what the corners round an edge of an inner face are
+  corners_from : (e h : ℕ) → h < length m.half_edges → 0 < face m h
+      → (e ≡ h) ⊎ ((e ≡ next m h) ⊎ (e ≡ prev m h)) → IsTurned (origin m e) (origin m (next m e))
+      (origin m (prev m e)) (origin m h) (origin m (rev h)) (origin m (prev m h))
+  corners_from e h w inner which = go which
+    where
+      round : T.IsTriangle m h
+      round = T.triangle_at m h s.sound w inner
+
+      ends : origin m (rev h) ≡ origin m (next m h)
+      ends = sym (s.sound.edges h w).starts
+
+      go : (e ≡ h) ⊎ ((e ≡ next m h) ⊎ (e ≡ prev m h))
+          → IsTurned (origin m e) (origin m (next m e)) (origin m (prev m e)) (origin m h)
+          (origin m (rev h)) (origin m (prev m h))
+      go (inl i) = inl (
+        ap (origin m) (sym i),
+        ends ∙ ap (λ x. origin m (next m x)) (sym i),
+        ap (λ x. origin m (prev m x)) (sym i),
+      )
+      go (inr (inl i)) = inr (inr (
+        ap (origin m) (sym round.prev_next) ∙ ap (λ x. origin m (prev m x)) (sym i),
+        ends ∙ ap (origin m) (sym i),
+        ap (origin m) (sym round.next_next) ∙ ap (λ x. origin m (next m x)) (sym i),
+      ))
+      go (inr (inr i)) = inr (inl (
+        ap (origin m) (sym round.next_prev) ∙ ap (λ x. origin m (next m x)) (sym i),
+        ends ∙ ap (origin m) (sym round.prev_prev) ∙ ap (λ x. origin m (prev m x)) (sym i),
+        ap (origin m) (sym i),
+      ))
+
+  back_one : (n : ℕ) → 0 < n → n - 1 + 1 ≡ n
+  back_one n h = omega (arith, h)
+
+  -- a free face beside an edge is one of the list
+  free_there : (h : ℕ) → h < length m.half_edges → IsFreeBeside m free h
+      → HasFreeFace t (by_place free) (origin m h) (origin m (rev h))
+  free_there h w f =
+      let n = face m h - 1 in
+      let inside : n < length m.face_edges = let i = (s.sound.edges h w).face_in in
+      let p = f.0 in omega (arith, i, p) in
+      record {
+        index = n;
+        within = subst (λ k. n < k) (sym count) inside;
+        is_free = subst (λ k. IsTrue (free k)) (sym (back_one (face m h) f.0)) f.1;
+        third = origin m (prev m h);
+        corners = subst (λ (c : Face). IsTurned c.a c.b c.c (origin m h) (origin m (rev h))
+            (origin m (prev m h))) (sym (corners_named n inside))
+            (corners_from (face_edge m (face m h)) h w f.0 ((s.sound.edges h w).owned f.0));
+      }
+
+  -- and a free face of the list is beside an edge
+  pub free_edge : (i j : ℕ) → HasFreeFace t (by_place free) i j → (h : ℕ)
+      × (h < length m.half_edges) × (i ≡ origin m h) × (j ≡ origin m (rev h))
+      × IsFreeBeside m free h
+  free_edge i j f = pick (subst (λ (c : Face). IsTurned c.a c.b c.c i j f.third)
+      (corners_named n inside) f.corners)
+    where
+      n : ℕ
+      n = f.index
+
+      inside : f.index < length m.face_edges
+      inside = subst (λ k. f.index < k) count f.within
+
+      less : f.index + 1 - 1 ≡ f.index
+      less = omega arith
+
+      e : ℕ
+      e = slice_index_or m.face_edges f.index 0
+
+      named : (slice_index_or m.face_edges f.index 0 < length m.half_edges)
+          × (face m (slice_index_or m.face_edges f.index 0) ≡ f.index + 1)
+      named = subst (λ k. (slice_index_or m.face_edges k 0 < length m.half_edges)
+          × (face m (slice_index_or m.face_edges k 0) ≡ f.index + 1)) less
+          (s.sound.faces (f.index + 1) (omega arith) (omega (arith, inside)))
+
+      positive : (k : ℕ) → k ≡ f.index + 1 → 0 < k
+      positive k q = omega (arith, q)
+
+      round : T.IsTriangle m (slice_index_or m.face_edges f.index 0)
+      round = T.triangle_at m (slice_index_or m.face_edges f.index 0) s.sound named.0
+          (positive (face m (slice_index_or m.face_edges f.index 0)) named.1)
+
+      beside : (h : ℕ) → face m h ≡ f.index + 1 → IsFreeBeside m free h
+      beside h q = (positive (face m h) q, subst (λ k. IsTrue (free k)) (sym q) f.is_free)
+
+      pick : IsTurned (origin m (slice_index_or m.face_edges f.index 0))
+          (origin m (next m (slice_index_or m.face_edges f.index 0)))
+          (origin m (prev m (slice_index_or m.face_edges f.index 0))) i j f.third
+          → (h : ℕ) × (h < length m.half_edges) × (i ≡ origin m h) × (j ≡ origin m (rev h))
+          × IsFreeBeside m free h
+      pick (inl x) = (
+        slice_index_or m.face_edges f.index 0,
+        named.0,
+        x.0,
+        x.1 ∙ (s.sound.edges (slice_index_or m.face_edges f.index 0) named.0).starts,
+        beside (slice_index_or m.face_edges f.index 0) named.1,
+      )
+      pick (inr (inl x)) = (
+        next m (slice_index_or m.face_edges f.index 0),
+        round.next_in,
+        x.0,
+        x.1 ∙ ap (origin m) (sym round.next_next)
+            ∙ (s.sound.edges (next m (slice_index_or m.face_edges f.index 0)) round.next_in).starts,
+        beside (next m (slice_index_or m.face_edges f.index 0)) (round.face_next ∙ named.1),
+      )
+      pick (inr (inr x)) = (
+        prev m (slice_index_or m.face_edges f.index 0),
+        round.prev_in,
+        x.0,
+        x.1 ∙ ap (origin m) (sym round.next_prev)
+            ∙ (s.sound.edges (prev m (slice_index_or m.face_edges f.index 0)) round.prev_in).starts,
+        beside (prev m (slice_index_or m.face_edges f.index 0)) (round.face_prev ∙ named.1),
+      )
+
+  free_back : (h : ℕ) → h < length m.half_edges
+      → HasFreeFace t (by_place free) (origin m h) (origin m (rev h)) → IsFreeBeside m free h
+  free_back h w f = go (free_edge (origin m h) (origin m (rev h)) f)
+    where
+      go : (e : ℕ) × (e < length m.half_edges) × (origin m h ≡ origin m e)
+          × (origin m (rev h) ≡ origin m (rev e)) × IsFreeBeside m free e → IsFreeBeside m free h
+      go e = subst (IsFreeBeside m free) (sym (one_way m s once e.0 h e.1 w (e.2, e.3))) e.4
+
+  -- the face on the left of an edge is free exactly if it is so in the list
+  pub beside_iff : (h : ℕ) → h < length m.half_edges → IsFreeBeside m free h
+      ↔ HasFreeFace t (by_place free) (origin m h) (origin m (rev h))
+  beside_iff h w = (free_there h w, free_back h w)
+
+  -- and that on its right
+  pub behind_iff : (h : ℕ) → h < length m.half_edges → IsFreeBeside m free (rev h)
+      ↔ HasFreeFace t (by_place free) (origin m (rev h)) (origin m h)
+  behind_iff h w =
+      let b = beside_iff (rev h) (rev_within h (length m.half_edges) s.sound.even w) in
+      let back : origin m (rev (rev h)) ≡ origin m h = ap (origin m) (rev-rev h) in (
+        (λ f. subst (HasFreeFace t (by_place free) (origin m (rev h))) back (b.0 f)),
+        (λ f. b.1 (subst (HasFreeFace t (by_place free) (origin m (rev h))) (sym back) f)),
+      )

@@ -1,4 +1,0 @@
-mod MeshFaces
-mod Crossed
-mod Walks
-mod Decided

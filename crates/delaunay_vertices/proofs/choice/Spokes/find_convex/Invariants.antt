@@ -1,0 +1,6 @@
+use Rattle.delaunay_vertices.specs.Star.{IsConvexAt}
+use Rattle.delaunay_vertices.proofs.Searching.{IsSeeking}
+use Rattle.delaunay_vertices.proofs.choice.Spokes.find_convex.Given as goal
+
+abbrev pub invariant-loop-i : goal.invariant-loop-i
+invariant-loop-i g l = IsSeeking IsConvexAt l.self l.i l.edge

@@ -1,0 +1,10 @@
+use Rattle.delaunay_legalization.specs.half_edge_links.Mesh.{origin}
+use Rattle.delaunay_vertices.proofs.HullShrinking.{IsHullShrinking}
+use Rattle.delaunay_vertices.proofs.removal_hull.shrink_hull_star.Given as goal
+
+abbrev pub invariant-loop-edge : goal.invariant-loop-edge
+invariant-loop-edge g l = IsHullShrinking g.V.HasPosition.place l.fn.dcel l.dcel
+    (origin l.fn.dcel.mesh l.fn.first) l.fn.first l.from l.count l.turned
+
+abbrev pub decreases-loop-edge : goal.decreases-loop-edge
+decreases-loop-edge g l = l.count

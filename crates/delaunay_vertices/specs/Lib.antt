@@ -1,0 +1,11 @@
+pub mod Data
+pub mod Growth
+pub mod Edges
+pub mod Constraints
+pub mod RemovalData
+pub mod Star
+pub mod Hull
+pub mod Freeing
+pub mod Pairs
+pub mod Lists
+pub mod Removal

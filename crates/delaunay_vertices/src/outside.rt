@@ -1,0 +1,96 @@
+//! A new vertex outside the hull, or off the edges of the line of all vertices.
+ghost use Rattle.std.specs.Prelude.{◌≡◌, ◌⊎◌, ◌↔◌, ◌+◌, ◌*◌, ◌<◌, length, map, All, IsTrue};
+ghost use Rattle.delaunay_legalization.specs.half_edge_links.Mesh.{origin, rev, face};
+ghost use Rattle.delaunay_legalization.specs.half_edge_links.Room.{HasRoomFor};
+ghost use Rattle.delaunay_legalization.specs.half_edge_dcel.Contents.{edges};
+ghost use Rattle.delaunay_legalization.specs.plane.Fraction.{whole as fraction};
+ghost use Rattle.delaunay_legalization.specs.plane.Location.{IsPast};
+ghost use Rattle.delaunay_legalization.specs.plane.Side.{TurnsLeft};
+ghost use Rattle.delaunay_legalization.specs.plane.Pairs.{place};
+ghost use Rattle.delaunay_legalization.specs.plane_theorems.Tiling.Local.{alone};
+ghost use Rattle.delaunay_legalization.specs.delaunay_core.Place.{place_of};
+ghost use Rattle.delaunay_vertices.specs.Edges.{AddsOnly};
+ghost use Rattle.delaunay_vertices.specs.Growth.{CanTake, GainsVertex};
+ghost use Rattle.delaunay_legalization.specs.Parts.{IsApart};
+ghost use Rattle.delaunay_legalization.specs.State.{state_of};
+
+use delaunay_legalization::delaunay_core::math::PlaneTests;
+use delaunay_legalization::delaunay_core::point::{HasPosition, Point2};
+use delaunay_legalization::half_edge_dcel::{
+    Dcel, FixedDirectedEdgeHandle, FixedVertexHandle, MeshViews,
+};
+use delaunay_legalization::{position_of, turns_left};
+
+// Whether a position is strictly on the left of an edge.
+fn is_on_left<V: HasPosition, DE, UE, F, P: PlaneTests<V::Scalar>>(
+    dcel: &Dcel<V, DE, UE, F>,
+    edge: FixedDirectedEdgeHandle,
+    position: Point2<V::Scalar>,
+    tests: &P,
+) -> bool
+    requires within { edge < length dcel.now.directed }
+    requires sites { All (P.sites tests.now) (map V.place dcel.now.vertices) }
+    requires covered { P.covered tests.now (place_of V.Scalar.whole position) }
+    ensures { let points = map V.place dcel.now.vertices in let m = dcel.now.mesh in
+        IsTrue result ↔ TurnsLeft (place points (origin m edge))
+        (place points (origin m (rev edge))) (fraction (place_of V.Scalar.whole position)) }
+{
+    let ends = dcel.directed_edge(edge);
+    let from = position_of(dcel, ends.from().fix());
+    let to = position_of(dcel, ends.to().fix());
+    turns_left(from, to, position, tests)
+}
+
+/// Puts a vertex beside an outer edge and gives its handle: strictly on the left of the edge, where
+/// it makes a face of it and each outer edge that has it on its left, or else past the end of the
+/// line of all vertices at which the edge starts, where it joins it to that end.
+pub fn insert_outside<
+    V: HasPosition,
+    DE: Default,
+    UE: Default,
+    F: Default,
+    P: PlaneTests<V::Scalar>,
+>(
+    dcel: &mut Dcel<V, DE, UE, F>,
+    edge: FixedDirectedEdgeHandle,
+    value: V,
+    tests: &P,
+) -> FixedVertexHandle
+    requires can { CanTake V.place value (state_of dcel.old) }
+    requires sites { All (P.sites tests.now) (map V.place dcel.old.vertices) ×
+        P.sites tests.now (V.place value) }
+    requires apart { IsApart (map V.place dcel.old.vertices) (V.place value) }
+    requires outer { (edge < length dcel.old.directed) × (face dcel.old.mesh edge ≡ 0) }
+    requires outside { let points = map V.place dcel.old.vertices in let m = dcel.old.mesh in
+        TurnsLeft (place points (origin m edge)) (place points (origin m (rev edge)))
+        (fraction (V.place value)) ⊎
+        IsPast (alone points) (origin m edge) (fraction (V.place value)) }
+    requires room { HasRoomFor dcel.old.room (length dcel.old.vertices + 1)
+        (3 * (length dcel.old.vertices + 1)) (2 * (length dcel.old.vertices + 1)) }
+    ensures takes { GainsVertex V.place value (state_of dcel.old) (state_of dcel.new) result }
+    ensures edges { AddsOnly UE.is_default (edges dcel.old) (edges dcel.new) }
+{
+    let position = value.position();
+    if !is_on_left(dcel, edge, position, tests) {
+        let end = dcel.directed_edge(edge).from().fix();
+        return dcel.extend_line(end, value);
+    }
+    let vertex = dcel.create_new_face_adjacent_to_edge(edge, value);
+    let edges = dcel.num_directed_edges() as u32;
+    let mut ahead = FixedDirectedEdgeHandle::from_index(edges - 3);
+    let behind = FixedDirectedEdgeHandle::from_index(edges - 1);
+    while is_on_left(
+        dcel,
+        dcel.directed_edge(ahead).next().fix(),
+        position,
+        tests,
+    ) {
+        ahead = dcel.create_single_face_between_edge_and_next(ahead);
+    }
+    let mut before = dcel.directed_edge(behind).prev().fix();
+    while is_on_left(dcel, before, position, tests) {
+        let behind = dcel.create_single_face_between_edge_and_next(before);
+        before = dcel.directed_edge(behind).prev().fix();
+    }
+    vertex
+}

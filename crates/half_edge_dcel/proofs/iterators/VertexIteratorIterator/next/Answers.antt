@@ -1,0 +1,10 @@
+use Rattle.std.proofs.Common.{◌<◌, length}
+use Rattle.half_edge_dcel.proofs.Taken.{rest_holds}
+use Rattle.half_edge_dcel.proofs.iterators.VertexIteratorIterator.next.Goals as goal
+
+pub invariant_of-self : goal.invariant_of-self
+invariant_of-self g c =
+    let it = c.args.self.now in
+    let kept =
+    rest_holds (λ i. i < length it.dcel.now.vertices) _ _ _ c.next.ensures.steps it.in_range in
+    record { in_range = kept }

@@ -1,0 +1,4 @@
+use Rattle.half_edge_mesh.proofs.voronoi.DirectedVoronoiEdge.rev.Goals as goal
+
+pub returns-clause-index : goal.returns-clause-index
+returns-clause-index g c = rw c.as_voronoi_edge.ensures c.rev.ensures.index

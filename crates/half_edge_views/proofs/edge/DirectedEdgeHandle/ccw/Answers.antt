@@ -1,4 +1,0 @@
-use Rattle.half_edge_views.proofs.edge.DirectedEdgeHandle.ccw.Goals as goal
-
-pub returns-clause-index : goal.returns-clause-index
-returns-clause-index g c = rw c.prev.ensures.index at c.rev.ensures.index

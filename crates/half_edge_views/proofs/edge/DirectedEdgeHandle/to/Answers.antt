@@ -1,4 +1,0 @@
-use Rattle.half_edge_views.proofs.edge.DirectedEdgeHandle.to.Goals as goal
-
-pub returns-clause-index : goal.returns-clause-index
-returns-clause-index g c = rw (c.rev.ensures.dcel, c.rev.ensures.index) at c.from.ensures.index

@@ -1,4 +1,0 @@
-use Rattle.half_edge_voronoi.proofs.voronoi.DirectedVoronoiEdge.next.Goals as goal
-
-pub returns-clause-index : goal.returns-clause-index
-returns-clause-index g c = rw c.as_voronoi_edge.ensures c.ccw.ensures.index

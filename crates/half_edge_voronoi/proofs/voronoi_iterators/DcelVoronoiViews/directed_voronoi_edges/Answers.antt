@@ -1,5 +1,0 @@
-use Rattle.std.proofs.Common.{rules}
-use Rattle.half_edge_voronoi.proofs.voronoi_iterators.DcelVoronoiViews.directed_voronoi_edges.Goals as goal
-
-pub returns : goal.returns
-returns g c = search rules

@@ -1,6 +1,0 @@
-pub mod Nearer
-pub mod History
-pub mod Cells
-pub mod Flood
-pub mod EdgeTests
-pub mod Laws

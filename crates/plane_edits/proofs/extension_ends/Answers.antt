@@ -1,5 +1,0 @@
-use Rattle.plane_edits.proofs.Insertion.Growing as Growing
-use Rattle.plane_edits.proofs.extension_ends.Goals as goal
-
-pub returns : goal.returns
-returns c = Growing.extension_ends

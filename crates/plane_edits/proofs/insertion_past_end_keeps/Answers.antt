@@ -1,5 +1,0 @@
-use Rattle.plane_edits.proofs.Insertion.OnLine as OnLine
-use Rattle.plane_edits.proofs.insertion_past_end_keeps.Goals as goal
-
-pub returns : goal.returns
-returns c = OnLine.past_end

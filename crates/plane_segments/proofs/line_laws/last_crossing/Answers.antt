@@ -1,5 +1,0 @@
-use Rattle.plane_segments.proofs.Walking.Steps as Steps
-use Rattle.plane_segments.proofs.line_laws.last_crossing.Goals as goal
-
-pub returns : goal.returns
-returns c = Steps.last_crossing

@@ -1,0 +1,13 @@
+pub mod Change
+pub mod Extension
+pub mod Laws
+pub mod Legal
+pub mod EmptyRound
+pub mod Away
+pub mod LegalLaws
+pub mod Removal
+pub mod RemovalLaws
+pub mod RemovalHull
+pub mod FlipHistory
+pub mod StarFlips
+pub mod Theorems

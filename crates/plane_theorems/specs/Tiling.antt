@@ -1,0 +1,3 @@
+pub mod Local
+pub mod Laws
+pub mod Theorems

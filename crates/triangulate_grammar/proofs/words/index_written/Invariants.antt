@@ -1,5 +1,0 @@
-use Rattle.triangulate_grammar.proofs.Digits.{IsRead}
-use Rattle.triangulate_grammar.proofs.words.index_written.Given as goal
-
-abbrev pub invariant-loop-digit : goal.invariant-loop-digit
-invariant-loop-digit l = IsRead l.word l.digit-index l.number
