@@ -82,3 +82,26 @@ abbrev pub CircleIsDeterminant : Type 0
 CircleIsDeterminant = (u v p q : Point) → TurnsLeft (whole u) (whole v) (whole p)
     → (InsideCircle (whole u) (whole v) (whole p) (whole q) ↔ (pos 0 <ℤ lifted_determinant u v p q))
     × (OnCircle (whole u) (whole v) (whole p) (whole q) ↔ (lifted_determinant u v p q ≡ pos 0))
+
+-- the definitions are the usual ones
+pub record DefinitionsAreUsual : Type 0 where
+  -- the points of a segment are the weighted averages of its ends, also where these are
+  -- fractions
+  pub segment_is_averages : SegmentIsAverages
+  -- the side function answers "on" exactly on the line, tells its two sides apart, stays as
+  -- the points rotate, changes sides as two are exchanged, and has left where it should
+  pub side_is_side : SideIsSide
+  -- a point is strictly inside a left-turning triangle exactly if it is left of the three
+  -- sides, and in the closed triangle exactly if it is right of none
+  pub triangle_is_sides : TriangleIsSides
+  -- two segments, each with different ends, cross exactly if each has the other's ends on its
+  -- two sides
+  pub crossing_is_sides : CrossingIsSides
+  -- a left-turning triple of points has a centre, equally far from all three, and no other
+  pub triple_has_one_centre : TripleHasOneCentre
+  -- the side of a point is the sign of twice the signed area of the triangle that it makes
+  -- with the line's two points
+  pub side_is_determinant : SideIsDeterminant
+  -- a point is inside the circle of a left-turning triple exactly if the lifted determinant is
+  -- positive, and on it exactly if the determinant is 0
+  pub circle_is_determinant : CircleIsDeterminant
