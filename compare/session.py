@@ -33,6 +33,18 @@ def along_curve(p):
     return key
 
 
+def order_keys(points):
+    """The numbers by which a list of points is inserted: those along the curve where all are on one
+    line, and else about every eighth of them before the others, chosen by a hash."""
+    keys = [along_curve(p) for p in points]
+    ways = [(p[0] - points[0][0], p[1] - points[0][1]) for p in points]
+    far = next((way for way in ways if way != (0, 0)), (0, 0))
+    if all(far[0] * y == far[1] * x for x, y in ways):
+        return keys
+    is_first = lambda key: key * 0x9E37_79B9_7F4A_7C15 % 2**64 >> 61 == 0
+    return [key if is_first(key) else key | 1 << 63 for key in keys]
+
+
 class Tagged(PlainState):
     """Vertices that each carry a number beside their point. A known point takes the new number."""
 
@@ -57,7 +69,8 @@ class Tagged(PlainState):
     def put_all(self, points):
         """The places of points in a list and their indexes, in the order of their insertion, each
         with its place as its number."""
-        places = sorted(range(len(points)), key=lambda i: (along_curve(points[i]), i))
+        keys = order_keys(points)
+        places = sorted(range(len(points)), key=lambda i: (keys[i], i))
         return [(place, self.put(points[place], place)) for place in places]
 
     def join_points(self, p, q):

@@ -226,9 +226,9 @@ tevasulim_status tevasulim_insert(tevasulim_triangulation *self, int32_t x, int3
                                   uint32_t *vertex);
 
 /* Inserts `count` vertices, each with the number 0, and writes the index of each to `vertices` at
- * the place that its point has in the list. The vertices are inserted along a curve through the
- * plane, whatever their order in the list, so new ones get their indexes in the order along that
- * curve. `vertices` is written where the status is TEVASULIM_OK, and else stays as it was.
+ * the place that its point has in the list. Whatever their order in the list, the vertices are
+ * inserted twice along a curve through the plane, first about every eighth of them and then the
+ * others, and new ones get their indexes in that order. `vertices` is written where the status is TEVASULIM_OK, and else stays as it was.
  * The first of these that applies decides. TEVASULIM_TOO_SHORT: room < count.
  * TEVASULIM_TOO_LARGE: a coordinate is out of range. TEVASULIM_OUT_OF_INDEXES: six times the number
  * of vertices that are there and `count` more passes 2^32 - 1. TEVASULIM_OUT_OF_MEMORY: some of the

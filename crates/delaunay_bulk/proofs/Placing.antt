@@ -1,7 +1,7 @@
 -- The vertices of a list, each with its place and its key, before and after their sort.
 -- Notions: key_of, IsTrueOf, AreKeyed; key_by, none_keyed, one_keyed, sorted_is_listed.
 use Rattle.std.proofs.Common.{◌≡◌, ◌+◌, ◌-◌, ◌<◌, ◌≤◌, [], ◌∷◌, ◌++◌, ◌∙◌}
-use Rattle.std.proofs.Common.{ℕ, ℤ, zero, suc, List, length, map, Some, false}
+use Rattle.std.proofs.Common.{ℕ, ℤ, Bool, zero, suc, List, length, map, Some, false}
 use Rattle.std.proofs.Common.{rules, sym, ap, subst, refl, arith, append_assoc, length-append}
 use Rattle.std.proofs.Common.{w64, to_z, of_z}
 use Rattle.std.specs.Int.RustNames.{FitsSigned}
@@ -17,7 +17,7 @@ use Rattle.std.proofs.lemmas.List.Sorted.{IsNonDecreasingBy-push}
 use Rattle.std.proofs.lemmas.List.Sorted.{IsPermutation-map, All-permutation, ties_still_rise}
 use Rattle.std.proofs.lemmas.Option.{slice_get-get_or}
 use Rattle.delaunay_interface.specs.plane.Fraction.{Point}
-use Rattle.delaunay_bulk.specs.Curve.{key_at}
+use Rattle.delaunay_bulk.specs.Curve.{order_key}
 use Rattle.delaunay_bulk.specs.Order.{IsListed, IsOrder, entry_of}
 use Rattle.delaunay_bulk.specs.declared.order.Keyed.{Keyed}
 use Rattle.delaunay_bulk.proofs.Orders.{no_place, one_place_more, reordered}
@@ -61,18 +61,18 @@ sorted_from_rise n xs up k d low within =
     (up k (k + 1) d (omega arith) within)
 
 -- a key by the coordinates of the position
-pub key_by : {key : ℕ} {x y : ℤ} {q p : Point}
-    → key ≡ key_at (to_z w64 (of_z w64 x)) (to_z w64 (of_z w64 y)) → FitsSigned w64 x
-    → FitsSigned w64 y → x ≡ q.x → y ≡ q.y → q ≡ p → key ≡ key_at p.x p.y
-key_by {x = x} {y = y} {q = q} is fits_x fits_y at_x at_y same =
+pub key_by : (is_line : Bool) {key : ℕ} {x y : ℤ} {q p : Point}
+    → key ≡ order_key is_line (to_z w64 (of_z w64 x)) (to_z w64 (of_z w64 y)) → FitsSigned w64 x
+    → FitsSigned w64 y → x ≡ q.x → y ≡ q.y → q ≡ p → key ≡ order_key is_line p.x p.y
+key_by is_line {x = x} {y = y} {q = q} is fits_x fits_y at_x at_y same =
     let near_x = to_z-of_z w64 x fits_x ∙ at_x in let near_y = to_z-of_z w64 y fits_y ∙ at_y in
-    is ∙ ap (λ (z : ℤ × ℤ). key_at z.0 z.1) (λ i. (near_x i, near_y i))
-    ∙ ap (λ (r : Point). key_at r.x r.y) same
+    is ∙ ap (λ (z : ℤ × ℤ). order_key is_line z.0 z.1) (λ i. (near_x i, near_y i))
+    ∙ ap (λ (r : Point). order_key is_line r.x r.y) same
 
-module _ {V : Type 0} (place : V → Point) where
+module _ {V : Type 0} (place : V → Point) (is_line : Bool) where
   -- the key of a vertex
   abbrev pub key_of : V → ℕ
-  key_of v = key_at (place v).x (place v).y
+  key_of v = order_key is_line (place v).x (place v).y
 
   -- an entry is of the vertex at its place in a list
   pub record IsTrueOf (vertices : List V) (p : Keyed V) : Type 0 where
@@ -174,7 +174,7 @@ module _ {V : Type 0} (place : V → Point) where
         (sorted_from_rise (λ (p : Keyed V). p.place) keyed a.rise) stable)
         i (j - i) j d (omega (arith, less)) within
         ((still_true i d (omega (arith, less, within))).key
-        ∙ ap (λ (q : Point). key_at q.x q.y) same ∙ sym (still_true j d within).key)
+        ∙ ap (λ (q : Point). order_key is_line q.x q.y) same ∙ sym (still_true j d within).key)
 
     pub sorted_is_listed : IsListed place vertices (map entry_of sorted)
     sorted_is_listed = record {

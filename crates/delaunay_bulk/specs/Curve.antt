@@ -1,6 +1,7 @@
 -- The number that a point has on a Hilbert curve, as it is computed. Which number it is decides
 -- nothing but time.
-use Rattle.std.specs.Prelude.{ℕ, ℤ, ◌*◌, ◌/◌, ◌^◌, ◌%◌, pos, unsigned_abs, bit_and}
+use Rattle.std.specs.Prelude.{ℕ, ℤ, Bool, ◌*◌, ◌/◌, ◌^◌, ◌%◌, ◌==◌, if◌then◌else◌, pos}
+use Rattle.std.specs.Prelude.{unsigned_abs, bit_and}
 use Rattle.std.specs.Int.{int_wrapping_add, w64}
 use Rattle.std.specs.Int.Bits.{bit_or, bit_xor}
 use Rattle.delaunay_bulk.specs.declared.curve.Turns.{Turns}
@@ -71,3 +72,12 @@ key_at x y =
     let four = turned_by_twice (turned_by_two px py) 2 in
     let sixteen = turned_by_twice (turned_by_twice four 4) 8 in
     joined_at px py (turned_by_twice sixteen 16)
+
+-- about every eighth number as it is, and each other one above all of these
+unfoldable pub round_key : ℕ → ℕ
+round_key key =
+    if key * 11400714819323198485 % 2 ^ 64 / 2 ^ 61 == 0 then key else bit_or key (2 ^ 63)
+
+-- the number by which points are ordered: in rounds where they are not all on one line
+unfoldable pub order_key : Bool → ℤ → ℤ → ℕ
+order_key is_line x y = if is_line then key_at x y else round_key (key_at x y)

@@ -1,6 +1,7 @@
 //! Where a point is on a Hilbert curve.
 ghost use Rattle.std.specs.Prelude.{◌≡◌, ◌<◌};
-ghost use Rattle.delaunay_bulk.specs.Curve.{doubled_by, joined_at, key_at, spread_of};
+ghost use Rattle.delaunay_bulk.specs.Curve.{doubled_by, joined_at, key_at, order_key, round_key};
+ghost use Rattle.delaunay_bulk.specs.Curve.{spread_of};
 ghost use Rattle.delaunay_bulk.specs.Curve.{turned_by_twice, turned_by_two};
 
 /// Added to a coordinate in range it gives a number from 0 to 2^30.
@@ -88,11 +89,10 @@ fn key_from(x: u64, y: u64, turns: Turns) -> u64
     (spread_bits(high) << 1) | spread_bits(low)
 }
 
-/// How many points of the square of all points a Hilbert curve visits before this one. Points that
-/// are near on the curve are near in the plane. Nothing but time rests on it, and that equal points
-/// have equal keys.
+// How many points of the square of all points a Hilbert curve visits before this one. Points that
+// are near on the curve are near in the plane.
 #[tactic(auto, unfolding(crate::specs::Curve::key_at))]
-pub(crate) fn curve_key(x: i64, y: i64) -> u64
+fn curve_key(x: i64, y: i64) -> u64
     ensures { result ≡ key_at x y }
 {
     let x = x.wrapping_add(SHIFT).unsigned_abs();
@@ -100,4 +100,28 @@ pub(crate) fn curve_key(x: i64, y: i64) -> u64
     let four = turns_of_twice(turns_of_two(x, y), 2);
     let sixteen = turns_of_twice(turns_of_twice(four, 4), 8);
     key_from(x, y, turns_of_twice(sixteen, 16))
+}
+
+// A number on the curve, and above it the round of its point: about every eighth number, chosen by
+// a hash, is of the first round and stays, and each other one is above all of these.
+#[tactic(auto, unfolding(crate::specs::Curve::round_key))]
+fn round_key(key: u64) -> u64
+    ensures { result ≡ round_key key }
+{
+    if key.wrapping_mul(0x9e37_79b9_7f4a_7c15) >> 61 == 0 {
+        key
+    } else {
+        key | (1 << 63)
+    }
+}
+
+/// The number by which points are ordered: along the curve, in two rounds where they are not all on
+/// one line. The few points of the first round are all over the plane, so that the others make
+/// small faces from the beginning, which takes fewer flips.
+#[tactic(auto, unfolding(crate::specs::Curve::order_key))]
+pub(crate) fn order_key(x: i64, y: i64, is_line: bool) -> u64
+    ensures { result ≡ order_key is_line x y }
+{
+    let key = curve_key(x, y);
+    if is_line { key } else { round_key(key) }
 }

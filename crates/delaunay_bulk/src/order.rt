@@ -3,7 +3,7 @@ ghost use Rattle.std.specs.Prelude.{◌≡◌, ◌<◌, length, map, Some, slice
 ghost use Rattle.delaunay_interface.specs.plane.Tests.{InRange};
 ghost use Rattle.delaunay_bulk.specs.Order.{IsFirstOutside, IsListed, entry_of};
 
-use crate::curve::curve_key;
+use crate::curve::order_key;
 use delaunay_interface::delaunay_core::math::validate_vertex;
 use delaunay_interface::delaunay_core::point::{HasPosition, SpadeNum};
 use std::alloc::AllocError;
@@ -29,18 +29,40 @@ pub(crate) fn first_too_large<V: HasPosition>(vertices: &[V]) -> Option<usize>
     None
 }
 
-/// The vertices along the curve, those of one position by rising place. It gives `AllocError` where
-/// memory was refused.
+// Whether all positions are on one line, where they are in range. Nothing but time rests on it.
+fn are_on_one_line<V: HasPosition>(vertices: &[V]) -> bool {
+    let mut start = (0, 0);
+    let mut way: (i64, i64) = (0, 0);
+    for place in 0..vertices.len() {
+        let position = vertices[place].position();
+        let (x, y) = (position.x.to_i64(), position.y.to_i64());
+        if place == 0 {
+            start = (x, y);
+        }
+        let (x, y) = (x.wrapping_sub(start.0), y.wrapping_sub(start.1));
+        if way.0.wrapping_mul(y) != way.1.wrapping_mul(x) {
+            return false;
+        }
+        if way == (0, 0) {
+            way = (x, y);
+        }
+    }
+    true
+}
+
+/// The vertices along the curve, those of one position by rising place: in two rounds where they
+/// are not all on one line. It gives `AllocError` where memory was refused.
 pub(crate) fn along_curve<V: HasPosition + Drop>(
     vertices: Vec<V>,
 ) -> Result<Vec<Keyed<V>>, AllocError>
     ensures { IfOk result
         (λ keyed. IsListed V.place vertices.items (map entry_of keyed.items)) }
 {
+    let is_line = are_on_one_line(vertices.as_slice());
     let mut keyed = Vec::with_capacity(*vertices.allocator(), vertices.len())?;
     for vertex in vertices {
         let position = vertex.position();
-        let key = curve_key(position.x.to_i64(), position.y.to_i64());
+        let key = order_key(position.x.to_i64(), position.y.to_i64(), is_line);
         let place = keyed.len();
         keyed.push_reserved(Keyed { key, place, vertex });
     }

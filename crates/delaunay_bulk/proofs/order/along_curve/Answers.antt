@@ -13,7 +13,7 @@ loop-vertex-preserved g c =
     let before = c.loop-vertex.keyed.ok in let after = c.push_reserved.new.self.ok in (
       tt,
       tt,
-      one_keyed _ is c.loop-vertex.invariant.2 (key_by c.curve_key-key.ensures (search rules)
+      one_keyed _ _ is c.loop-vertex.invariant.2 (key_by _ c.order_key-key.ensures (search rules)
           (search rules) c.to_i64.ensures c.to_i64-in-loop-vertex.ensures
           c.position-position.ensures) (omega (arith, c.len-place.ensures, before)) refl
           pushed.items,
@@ -24,7 +24,7 @@ pub returns : goal.returns
 returns g c =
     let none : length (into_iter_items c.loop-vertex.vertex-iterator) ≡ 0 =
     omega (arith, c.in-None.ensures.steps, c.loop-vertex.vertex-iterator.rest.ok) in
-    sorted_is_listed g.V.HasPosition.place (rw c.into_iter-vertex-iterator.ensures.into_iter_gives.0
+    sorted_is_listed g.V.HasPosition.place _ (rw c.into_iter-vertex-iterator.ensures.into_iter_gives.0
     at c.loop-vertex.invariant.2) none c.sort_by_key.ensures.permutation
     (IsNonDecreasingBy-from_sort_by_key (λ (p : Keyed g.row.V.Denot). p.key) _
     c.in_ok-sort_by_key.ensures.sorted (λ a r q k. search rules))

@@ -8,6 +8,6 @@ abbrev pub invariant-loop-vertex : goal.invariant-loop-vertex
 invariant-loop-vertex g l =
     (goal.iterator-loop-vertex g).can_next l.vertex-iterator
     × (goal.iterator-loop-vertex g).is_finite l.vertex-iterator
-    × AreKeyed g.V.HasPosition.place (into_iter_items l.initial.vertex-iterator)
+    × AreKeyed g.V.HasPosition.place l.is_line (into_iter_items l.initial.vertex-iterator)
     (into_iter_items l.vertex-iterator) l.keyed.items
     × (length l.keyed.items + length (into_iter_items l.vertex-iterator) ≤ vec_capacity l.keyed)
