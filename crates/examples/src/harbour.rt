@@ -4,20 +4,20 @@
 
 ghost use Rattle.std.specs.Prelude.{◌≡◌, ◌∷◌, ◌↔◌, ◌*◌, ◌<◌, ◌≤ℤ◌, [], pos, map};
 ghost use Rattle.std.specs.Prelude.{All, IfSome, IsTrue};
-ghost use Rattle.spade_delaunay.specs.delaunay_queries.Distances.{IsEdgeInShape, circle_distance};
-ghost use Rattle.spade_delaunay.specs.delaunay_queries.Distances.{meets_circle};
-ghost use Rattle.spade_delaunay.specs.delaunay_queries.Distances.{rectangle_distance};
-ghost use Rattle.spade_delaunay.specs.plane_theorems.Delaunay.EdgeTests.{HasPointIn};
-ghost use Rattle.spade_delaunay.specs.plane.Fraction.{whole as fraction};
-ghost use Rattle.spade_delaunay.specs.delaunay_legalization.Known.{point_at};
-ghost use Rattle.spade_delaunay.specs.delaunay_edit.Location.{IsLocation, on_vertex};
-ghost use Rattle.spade_delaunay.specs.half_edge_links.Mesh.{face_edge, origin, rev};
-ghost use Rattle.spade_delaunay.specs.delaunay_core.Place.{place_of};
-ghost use Rattle.spade_delaunay.specs.plane.Shape.{InClosedCircle};
-ghost use Rattle.spade_delaunay.specs.delaunay_legalization.State.{triangulation_of};
-ghost use Rattle.spade_delaunay.specs.plane.Tests.{InRange};
-ghost use Rattle.spade_delaunay.specs.half_edge_links.Triangles.{triangle_at};
-ghost use Rattle.spade_delaunay.specs.half_edge_mesh.Voronoi.{IsVoronoiStart};
+ghost use Rattle.spade_delaunay.specs.Distances.{IsEdgeInShape, circle_distance};
+ghost use Rattle.spade_delaunay.specs.Distances.{meets_circle};
+ghost use Rattle.spade_delaunay.specs.Distances.{rectangle_distance};
+ghost use Rattle.spade_delaunay.specs.EdgeTests.{HasPointIn};
+ghost use Rattle.spade_delaunay.specs.Fraction.{whole as fraction};
+ghost use Rattle.spade_delaunay.specs.Known.{point_at};
+ghost use Rattle.spade_delaunay.specs.Location.{IsLocation, on_vertex};
+ghost use Rattle.spade_delaunay.specs.Mesh.{face_edge, origin, rev};
+ghost use Rattle.spade_delaunay.specs.Place.{place_of};
+ghost use Rattle.spade_delaunay.specs.Shape.{InClosedCircle};
+ghost use Rattle.spade_delaunay.specs.State.{triangulation_of};
+ghost use Rattle.spade_delaunay.specs.Tests.{InRange};
+ghost use Rattle.spade_delaunay.specs.Triangles.{triangle_at};
+ghost use Rattle.spade_delaunay.specs.Voronoi.{IsVoronoiStart};
 
 use exact_predicates::ExactTests;
 use spade_delaunay::handles::{

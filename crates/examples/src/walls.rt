@@ -1,9 +1,9 @@
 //! Walls between the corners of a site, each built where no other crosses it, and what ways over
 //! the site meet, to the end of each and no further.
 
-ghost use Rattle.spade_delaunay.specs.delaunay_core.Place.{place_of};
-ghost use Rattle.spade_delaunay.specs.plane.Tests.{InRange};
-ghost use Rattle.spade_delaunay.specs.delaunay_location.Walk.{IsReady};
+ghost use Rattle.spade_delaunay.specs.Place.{place_of};
+ghost use Rattle.spade_delaunay.specs.Tests.{InRange};
+ghost use Rattle.spade_delaunay.specs.Walk.{IsReady};
 
 use exact_predicates::ExactTests;
 use spade_delaunay::handles::FixedVertexHandle;

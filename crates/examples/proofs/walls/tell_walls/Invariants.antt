@@ -1,4 +1,4 @@
-use Rattle.spade_delaunay.specs.delaunay_location.Walk.{IsReady}
+use Rattle.spade_delaunay.specs.Walk.{IsReady}
 use Rattle.examples.proofs.walls.tell_walls.Given as goal
 
 abbrev pub invariant-loop-wall : goal.invariant-loop-wall
