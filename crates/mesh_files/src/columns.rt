@@ -1,10 +1,17 @@
 //! Columns of tables, by the names in their headers.
+ghost use Rattle.std.specs.Prelude.{OnOk, [], slice_index_or};
+ghost use Rattle.std.specs.Str.{IsTrimAscii};
+ghost use Rattle.csv.specs.Records.{fields_of};
+ghost use Rattle.mesh_files.specs.Drawn.{SameNumbers};
+
 use crate::drawing::Drawing;
 use crate::fault::{FileFault, Reason};
 use csv::ByteRecord;
 
 /// A field without blanks round it.
-pub(crate) fn word_of(record: &ByteRecord, column: usize) -> &[u8] {
+pub(crate) fn word_of(record: &ByteRecord, column: usize) -> &[u8]
+    ensures { IsTrimAscii (slice_index_or (fields_of «record».now) column []) result.now }
+{
     record.get(column).unwrap_or(&[]).trim_ascii()
 }
 
@@ -71,7 +78,9 @@ pub(crate) fn leave_out(
     drawing: &mut Drawing,
     header: &ByteRecord,
     column: usize,
-) -> Result<(), FileFault> {
+) -> Result<(), FileFault>
+    ensures { OnOk result (SameNumbers drawing.old drawing.new) }
+{
     if let Some(name) = shown_name(header, column) {
         drawing.leave_out(name)?;
         return Ok(());

@@ -3,8 +3,15 @@
 //! are the corners of a polygon, and with the same word for `line` the points of a path. Segments
 //! have the columns `from` and `to`: numbers of points, from 1, in the order of their rows. Further
 //! columns are left out, which the drawing notes.
+ghost use Rattle.std.specs.Prelude.{◌≡◌, ◌++◌, ◌∷◌, [], ℕ, List, IfOk, OnOk, IfSome};
+ghost use Rattle.std.specs.Prelude.{MatchOption};
+ghost use Rattle.csv.specs.Records.{fields_of};
+ghost use Rattle.mesh_files.specs.Drawn.{HasNoNumbers, IsNumberAt, SameNumbers};
+ghost use Rattle.mesh_files.specs.Tables.{AreAll, DrawsRow, DrawsTable, Fields};
+ghost use Rattle.mesh_files.specs.Tables.{HasRead, IsTable, height_column};
+
 use crate::columns::{Columns, leave_out, needed_column, word_of};
-use crate::drawing::{Drawing, Spot};
+use crate::drawing::{Drawing, Number, Spot};
 use crate::fault::{FileFault, FilePlace, Reason};
 use crate::text::CheckedText;
 use crate::words::count_of;
@@ -53,7 +60,9 @@ impl Run {
     }
 
     /// Ends the run: a polygon's last corner is joined to its first.
-    fn end(&mut self, drawing: &mut Drawing) -> Result<(), FileFault> {
+    fn end(&mut self, drawing: &mut Drawing) -> Result<(), FileFault>
+        ensures { OnOk result (SameNumbers drawing.old drawing.new) }
+    {
         if self.closes && !self.word.is_empty() && self.first != self.last {
             drawing.join(self.last, self.first, FilePlace::of_line(self.line))?;
         }
@@ -68,7 +77,9 @@ impl Run {
         place: u32,
         line: u32,
         drawing: &mut Drawing,
-    ) -> Result<(), FileFault> {
+    ) -> Result<(), FileFault>
+        ensures { OnOk result (SameNumbers drawing.old drawing.new) }
+    {
         if self.word.as_slice() != word {
             self.end(drawing)?;
             self.word.extend_from_slice(word)?;
@@ -98,7 +109,10 @@ impl Runs {
         place: u32,
         line: u32,
         drawing: &mut Drawing,
-    ) -> Result<(), FileFault> {
+    ) -> Result<(), FileFault>
+        ensures { OnOk result
+            (DrawsRow (fields_of «record».now) columns.now drawing.old drawing.new) }
+    {
         take_point_row(drawing, record, columns, line)?;
         if let Some(column) = columns.ring {
             self.ring
@@ -112,21 +126,45 @@ impl Runs {
     }
 }
 
+/// The height in a row, if there is a column of heights.
+fn row_height(
+    drawing: &mut Drawing,
+    record: &ByteRecord,
+    columns: &Columns,
+    at: FilePlace,
+) -> Result<Option<Number>, FileFault>
+    ensures written { IfOk result (λ height.
+        IfSome height (IsNumberAt (height_column columns.now) (fields_of «record».now))) }
+    ensures same { OnOk result (SameNumbers drawing.old drawing.new) }
+{
+    let Some(column) = columns.z else {
+        return Ok(None);
+    };
+    Ok(Some(drawing.number(word_of(record, column), "z", at)?))
+}
+
 /// Takes the numbers of a row in.
 fn take_point_row(
     drawing: &mut Drawing,
     record: &ByteRecord,
     columns: &Columns,
     line: u32,
-) -> Result<(), FileFault> {
+) -> Result<(), FileFault>
+    ensures { OnOk result (DrawsRow (fields_of «record».now) columns.now drawing.old drawing.new) }
+{
     let at = FilePlace::of_line(line);
     let x = drawing.number(word_of(record, columns.x), "x", at)?;
     let y = drawing.number(word_of(record, columns.y), "y", at)?;
-    let height = match columns.z {
-        Some(column) => Some(drawing.number(word_of(record, column), "z", at)?),
-        None => None,
-    };
+    let height = row_height(drawing, record, columns, at)?;
     drawing.add_spot(Spot::new(x, y, at), height)
+}
+
+/// The line of a row. The row before is in this line.
+fn record_line(record: &ByteRecord, line: u32) -> u32 {
+    match record.position() {
+        Some(position) => line_of(position.line()),
+        None => line,
+    }
 }
 
 /// Reads the next row, and gives its line, if there is one. The row before is in this line.
@@ -134,15 +172,15 @@ fn next_row<R: Read>(
     reader: &mut Reader<R>,
     record: &mut ByteRecord,
     line: u32,
-) -> Result<Option<u32>, FileFault> {
+) -> Result<Option<u32>, FileFault>
+    ensures { IfOk result (λ next. (text : List ℕ) (rows : List Fields)
+        → HasRead R.remaining text rows reader.old → MatchOption next (AreAll text rows)
+        (λ _. HasRead R.remaining text (rows ++ fields_of «record».new ∷ []) reader.new)) }
+{
     match reader.read_byte_record(record) {
-        Ok(true) => {}
-        Ok(false) => return Ok(None),
-        Err(error) => return Err(fault_of(&error, line)),
-    }
-    match record.position() {
-        Some(position) => Ok(Some(line_of(position.line()))),
-        None => Ok(Some(line)),
+        Ok(true) => Ok(Some(record_line(record, line))),
+        Ok(false) => Ok(None),
+        Err(error) => Err(fault_of(&error, line)),
     }
 }
 
@@ -153,7 +191,12 @@ fn read_point_rows<R: Read>(
     columns: &Columns,
     runs: &mut Runs,
     drawing: &mut Drawing,
-) -> Result<(), FileFault> {
+) -> Result<(), FileFault>
+    requires { HasNoNumbers drawing.old }
+    ensures { OnOk result ((text : List ℕ) (header : Fields)
+        → HasRead R.remaining text (header ∷ []) reader.old
+        → DrawsTable text header columns.now drawing.new) }
+{
     let mut line = 1;
     for place in 0..u32::MAX {
         let Some(next) = next_row(reader, record, line)? else {
@@ -170,7 +213,12 @@ fn read_points<R: Read>(
     columns: &Columns,
     drawing: &mut Drawing,
     alloc: Global,
-) -> Result<(), FileFault> {
+) -> Result<(), FileFault>
+    requires { HasNoNumbers drawing.old }
+    ensures { OnOk result ((text : List ℕ) (header : Fields)
+        → HasRead R.remaining text (header ∷ []) reader.old
+        → DrawsTable text header columns.now drawing.new) }
+{
     let mut record = ByteRecord::new(alloc);
     let mut runs = Runs {
         ring: Run::new(alloc, true),
@@ -180,7 +228,10 @@ fn read_points<R: Read>(
 }
 
 /// The header of a table.
-fn header_of<R: Read>(reader: &mut Reader<R>, alloc: Global) -> Result<ByteRecord, FileFault> {
+fn header_of<R: Read>(reader: &mut Reader<R>, alloc: Global) -> Result<ByteRecord, FileFault>
+    ensures { IfOk result (λ header. (text : List ℕ) → HasRead R.remaining text [] reader.old
+        → HasRead R.remaining text (fields_of header ∷ []) reader.new) }
+{
     let mut header = ByteRecord::new(alloc);
     match next_row(reader, &mut header, 1)? {
         Some(_) => Ok(header),
@@ -188,16 +239,13 @@ fn header_of<R: Read>(reader: &mut Reader<R>, alloc: Global) -> Result<ByteRecor
     }
 }
 
-/// The reader of a table, and the header that it has read.
-fn open_table<R: Read + Drop>(
-    text: R,
-    alloc: Global,
-) -> Result<(Reader<R>, ByteRecord), FileFault> {
-    let mut reader = ReaderBuilder::new()
+/// The reader of a table.
+fn open_table<R: Read + Drop>(text: R, alloc: Global) -> Reader<R>
+    ensures { IfSome (R.remaining text) (λ bytes. HasRead R.remaining bytes [] result) }
+{
+    ReaderBuilder::new()
         .has_headers(false)
-        .from_reader(alloc, text);
-    let header = header_of(&mut reader, alloc)?;
-    Ok((reader, header))
+        .from_reader(alloc, text)
 }
 
 /// Notes the columns that are left out.
@@ -205,7 +253,9 @@ fn leave_out_others(
     drawing: &mut Drawing,
     header: &ByteRecord,
     columns: &Columns,
-) -> Result<(), FileFault> {
+) -> Result<(), FileFault>
+    ensures { OnOk result (SameNumbers drawing.old drawing.new) }
+{
     for column in 0..header.len() {
         if !columns.has(column) {
             leave_out(drawing, header, column)?;
@@ -214,19 +264,46 @@ fn leave_out_others(
     Ok(())
 }
 
+/// The columns of points, of which all others are left out.
+fn point_columns(drawing: &mut Drawing, header: &ByteRecord) -> Result<Columns, FileFault>
+    ensures { OnOk result (SameNumbers drawing.old drawing.new) }
+{
+    let columns = Columns::of(header)?;
+    leave_out_others(drawing, header, &columns)?;
+    Ok(columns)
+}
+
+/// Reads the header and the rows of a table of points.
+fn read_table<R: Read>(
+    reader: &mut Reader<R>,
+    drawing: &mut Drawing,
+    alloc: Global,
+) -> Result<(), FileFault>
+    requires { HasNoNumbers drawing.old }
+    ensures { OnOk result ((text : List ℕ) → HasRead R.remaining text [] reader.old
+        → IsTable text drawing.new) }
+{
+    let header = header_of(reader, alloc)?;
+    let columns = point_columns(drawing, &header)?;
+    read_points(reader, &columns, drawing, alloc)
+}
+
 fn read_drawing<R: Read + Drop>(
     text: R,
     drawing: &mut Drawing,
     alloc: Global,
-) -> Result<(), FileFault> {
-    let (mut reader, header) = open_table(text, alloc)?;
-    let columns = Columns::of(&header)?;
-    leave_out_others(drawing, &header, &columns)?;
-    read_points(&mut reader, &columns, drawing, alloc)
+) -> Result<(), FileFault>
+    requires { HasNoNumbers drawing.old }
+    ensures { OnOk result (IfSome (R.remaining text) (λ bytes. IsTable bytes drawing.new)) }
+{
+    let mut reader = open_table(text, alloc);
+    read_table(&mut reader, drawing, alloc)
 }
 
 /// Reads points from a table.
-pub fn read_csv<R: Read + Drop>(reader: R, alloc: Global) -> Result<Drawing, FileFault> {
+pub fn read_csv<R: Read + Drop>(reader: R, alloc: Global) -> Result<Drawing, FileFault>
+    ensures { IfOk result (λ d. IfSome (R.remaining reader) (λ text. IsTable text d)) }
+{
     let mut text = CheckedText::of_rows(reader);
     let mut drawing = Drawing::new(alloc);
     let outcome = read_drawing(&mut text, &mut drawing, alloc);
@@ -259,7 +336,9 @@ struct EndColumns {
 }
 
 /// The columns of a header, of which all others are left out.
-fn end_columns(drawing: &mut Drawing, header: &ByteRecord) -> Result<EndColumns, FileFault> {
+fn end_columns(drawing: &mut Drawing, header: &ByteRecord) -> Result<EndColumns, FileFault>
+    ensures { OnOk result (SameNumbers drawing.old drawing.new) }
+{
     let ends = EndColumns {
         from: needed_column(header, "from")?,
         to: needed_column(header, "to")?,
@@ -278,7 +357,9 @@ fn take_segment_row(
     record: &ByteRecord,
     ends: EndColumns,
     line: u32,
-) -> Result<(), FileFault> {
+) -> Result<(), FileFault>
+    ensures { OnOk result (SameNumbers drawing.old drawing.new) }
+{
     let count = drawing.spots.len();
     let from = point_named(record, ends.from, count, line)?;
     let to = point_named(record, ends.to, count, line)?;
@@ -292,7 +373,9 @@ fn read_segment_row<R: Read>(
     ends: EndColumns,
     line: u32,
     drawing: &mut Drawing,
-) -> Result<Option<u32>, FileFault> {
+) -> Result<Option<u32>, FileFault>
+    ensures { OnOk result (SameNumbers drawing.old drawing.new) }
+{
     let Some(line) = next_row(reader, record, line)? else {
         return Ok(None);
     };
@@ -306,7 +389,9 @@ fn read_segment_rows<R: Read>(
     record: &mut ByteRecord,
     ends: EndColumns,
     drawing: &mut Drawing,
-) -> Result<(), FileFault> {
+) -> Result<(), FileFault>
+    ensures { OnOk result (SameNumbers drawing.old drawing.new) }
+{
     let mut line = 1;
     for _ in 0..u64::MAX {
         match read_segment_row(reader, record, ends, line, drawing)? {
@@ -317,14 +402,24 @@ fn read_segment_rows<R: Read>(
     Ok(())
 }
 
-fn read_ends<R: Read + Drop>(
-    text: R,
+/// Reads the header and the rows of a table of segments.
+fn read_segment_table<R: Read>(
+    reader: &mut Reader<R>,
     drawing: &mut Drawing,
     alloc: Global,
-) -> Result<(), FileFault> {
-    let (mut reader, mut record) = open_table(text, alloc)?;
+) -> Result<(), FileFault>
+    ensures { OnOk result (SameNumbers drawing.old drawing.new) }
+{
+    let mut record = header_of(reader, alloc)?;
     let ends = end_columns(drawing, &record)?;
-    read_segment_rows(&mut reader, &mut record, ends, drawing)
+    read_segment_rows(reader, &mut record, ends, drawing)
+}
+
+fn read_ends<R: Read + Drop>(text: R, drawing: &mut Drawing, alloc: Global) -> Result<(), FileFault>
+    ensures { OnOk result (SameNumbers drawing.old drawing.new) }
+{
+    let mut reader = open_table(text, alloc);
+    read_segment_table(&mut reader, drawing, alloc)
 }
 
 /// Reads segments between the points of a drawing from a table.
@@ -332,7 +427,9 @@ pub fn read_segments<R: Read + Drop>(
     reader: R,
     drawing: &mut Drawing,
     alloc: Global,
-) -> Result<(), FileFault> {
+) -> Result<(), FileFault>
+    ensures { OnOk result (SameNumbers drawing.old drawing.new) }
+{
     let mut text = CheckedText::of_rows(reader);
     let outcome = read_ends(&mut text, drawing, alloc);
     match text.fault() {

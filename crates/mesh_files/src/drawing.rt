@@ -1,5 +1,5 @@
 //! What a file says.
-ghost use Rattle.std.specs.Prelude.{◌≡◌, ◌<◌, length, All, IfOk, OnOk};
+ghost use Rattle.std.specs.Prelude.{◌≡◌, ◌<◌, ◌++◌, ◌∷◌, [], length, All, IfOk, OnOk};
 ghost use Rattle.mesh_files.specs.Written.{HasEnds, IsAsWritten};
 
 use crate::fault::{FileFault, FilePlace, Reason};
@@ -34,7 +34,10 @@ pub struct Spot {
 }
 
 impl Spot {
-    pub(crate) fn new(x: Number, y: Number, at: FilePlace) -> Self {
+    pub(crate) fn new(x: Number, y: Number, at: FilePlace) -> Self
+        ensures x { result.x ≡ x }
+        ensures y { result.y ≡ y }
+    {
         let FilePlace { line, feature } = at;
         Spot {
             x,
@@ -141,8 +144,12 @@ pub struct Drawing {
 }
 
 impl Drawing {
+    ghost use Rattle.mesh_files.specs.Drawn.{HasNoNumbers, SameNumbers, AddsSpot};
+
     /// Nothing yet.
-    pub fn new(alloc: Global) -> Self {
+    pub fn new(alloc: Global) -> Self
+        ensures { HasNoNumbers result }
+    {
         Drawing {
             spots: Vec::new(alloc),
             heights: Vec::new(alloc),
@@ -163,7 +170,8 @@ impl Drawing {
         name: &'static str,
         at: FilePlace,
     ) -> Result<Number, FileFault>
-        ensures { IfOk result (λ n. IsAsWritten word.now n.decimal) }
+        ensures written { IfOk result (λ n. IsAsWritten word.now n.decimal) }
+        ensures same { OnOk result (SameNumbers self.old self.new) }
     {
         let reason = match Decimal::parse(word) {
             Ok(decimal) => return self.texts.keep(decimal.shortened(), word, at),
@@ -174,7 +182,9 @@ impl Drawing {
     }
 
     /// Takes a point in: either all have a height, or none.
-    pub(crate) fn add_spot(&mut self, spot: Spot, height: Option<Number>) -> Result<(), FileFault> {
+    pub(crate) fn add_spot(&mut self, spot: Spot, height: Option<Number>) -> Result<(), FileFault>
+        ensures { OnOk result (AddsSpot spot height self.old self.new) }
+    {
         match height {
             Some(height) if self.heights.len() == self.spots.len() => {
                 self.spots.reserve(1)?;
@@ -198,7 +208,9 @@ impl Drawing {
     }
 
     /// Takes a segment in whose ends are points.
-    pub(crate) fn join(&mut self, from: u32, to: u32, at: FilePlace) -> Result<(), FileFault> {
+    pub(crate) fn join(&mut self, from: u32, to: u32, at: FilePlace) -> Result<(), FileFault>
+        ensures { OnOk result (SameNumbers self.old self.new) }
+    {
         self.check_point(from, at)?;
         self.check_point(to, at)?;
         let FilePlace { line, feature } = at;
@@ -220,7 +232,9 @@ impl Drawing {
     }
 
     /// Notes what of the file is left out.
-    pub(crate) fn leave_out(&mut self, name: &str) -> Result<(), AllocError> {
+    pub(crate) fn leave_out(&mut self, name: &str) -> Result<(), AllocError>
+        ensures { OnOk result (SameNumbers self.old self.new) }
+    {
         if !self.left_out.is_empty() {
             self.left_out.push_str(", ")?;
         }

@@ -2,6 +2,18 @@
 //! their third number as height; line strings and the rings of polygons are segments between them.
 //! Where a line ends in the position that it began with, that is one point. Properties and further
 //! numbers of a position are left out, which the drawing notes.
+ghost use Rattle.std.specs.Prelude.{◌≡◌, ◌++◌, List, IfOk, IfSome, OnOk};
+ghost use Rattle.json.specs.Lex.{tokens};
+ghost use Rattle.json.specs.Reads.{token_of};
+ghost use Rattle.json.specs.Token.{Token as SpecToken, number, end_array};
+ghost use Rattle.mesh_files.specs.Drawn.{HasNoNumbers, SameNumbers};
+ghost use Rattle.mesh_files.specs.Runs.{DrawsRuns, HasPositions, IsFirstNumber, IsRun};
+ghost use Rattle.mesh_files.specs.Runs.{numbers_first};
+ghost use Rattle.mesh_files.specs.States.{DrawsOn, GoesOn, HasReadRuns, HasReadTokens};
+ghost use Rattle.mesh_files.specs.States.{IsBetween, IsGeoJson, IsStepBetween, IsWithoutMark};
+ghost use Rattle.mesh_files.specs.States.{ReadsToken};
+ghost use Rattle.mesh_files.specs.declared.drawing.Drawing.{Drawing};
+
 use crate::drawing::{Drawing, Number, Spot};
 use crate::fault::{FileFault, FilePlace, Reason};
 use crate::json_text::JsonText;
@@ -174,6 +186,10 @@ enum Wanted {
     SecondNumber(Number, FilePlace),
     /// Further numbers of a position, or its end.
     MoreNumbers(GeoPosition),
+    /// The value of a property, whatever it is.
+    PropertyValue,
+    /// The value of a member that is left out.
+    MemberValue,
 }
 
 /// What a token says that is part of no position.
@@ -187,8 +203,21 @@ enum Step {
 }
 
 impl Wanted {
+    /// What comes behind a value that is passed over, if one is.
+    fn behind_value(self) -> Option<Self>
+        ensures { IfSome result IsBetween }
+    {
+        match self {
+            Wanted::PropertyValue => Some(Wanted::Property),
+            Wanted::MemberValue => Some(Wanted::Inner),
+            _ => None,
+        }
+    }
+
     /// What a token says where this is wanted, or what should stand there.
-    fn step(self, token: Token<'_>) -> Result<Step, &'static str> {
+    fn step(self, token: Token<'_>) -> Result<Step, &'static str>
+        ensures { IfOk result IsStepBetween }
+    {
         match (self, token) {
             (Wanted::Whole, Token::BeginObject) => Ok(Step::Next(Wanted::Inner)),
             (Wanted::Whole, _) => Err("an object of GeoJSON"),
@@ -265,12 +294,14 @@ struct GeoState {
     feature: u32,
     has_properties: bool,
     has_more_numbers: bool,
-    skips_value: bool,
     has_ended: bool,
 }
 
 impl GeoState {
-    fn new(alloc: Global) -> Self {
+    fn new(alloc: Global) -> Self
+        ensures wanted { IsBetween result.wanted }
+        ensures shape { (tokens : List SpecToken) → HasPositions tokens result.shape }
+    {
         GeoState {
             wanted: Wanted::Whole,
             object: GeoObject::new(),
@@ -280,13 +311,14 @@ impl GeoState {
             feature: 0,
             has_properties: false,
             has_more_numbers: false,
-            skips_value: false,
             has_ended: false,
         }
     }
 
     /// Begins an object in the innermost.
-    fn open_object(&mut self, at: FilePlace) -> Result<(), FileFault> {
+    fn open_object(&mut self, at: FilePlace) -> Result<(), FileFault>
+        ensures { OnOk result (GoesOn self.old self.new) }
+    {
         self.outer.push(self.object)?;
         if self.outer.len() >= MAX_DEPTH {
             return Err(FileFault::in_place(at, Reason::NotJson(MAX_DEPTH)));
@@ -297,7 +329,10 @@ impl GeoState {
     }
 
     /// Takes a token in that is part of no position.
-    fn take_step(&mut self, step: Step, at: FilePlace) -> Result<(), FileFault> {
+    fn take_step(&mut self, step: Step, at: FilePlace) -> Result<(), FileFault>
+        requires { IsStepBetween step }
+        ensures { OnOk result (GoesOn self.old self.new) }
+    {
         match step {
             Step::Next(wanted) => self.wanted = wanted,
             Step::Kind(kind) => {
@@ -306,7 +341,7 @@ impl GeoState {
             }
             Step::Property => {
                 self.has_properties = true;
-                self.skips_value = true;
+                self.wanted = Wanted::PropertyValue;
             }
             Step::List => {
                 self.object.is_in_list = true;
@@ -318,7 +353,9 @@ impl GeoState {
     }
 
     /// Begins what an object is of.
-    fn begin_content(&mut self, member: Member, at: FilePlace) -> Result<(), FileFault> {
+    fn begin_content(&mut self, member: Member, at: FilePlace) -> Result<(), FileFault>
+        ensures { OnOk result (GoesOn self.old self.new) }
+    {
         if let Some(other) = self.object.member {
             let reason = Reason::Both(other.name(), member.name());
             return Err(FileFault::in_place(at, reason));
@@ -335,20 +372,25 @@ impl GeoState {
     }
 
     /// Begins a member of an object.
-    fn begin_member(&mut self, name: &str, at: FilePlace) -> Result<(), FileFault> {
+    fn begin_member(&mut self, name: &str, at: FilePlace) -> Result<(), FileFault>
+        ensures { OnOk result (GoesOn self.old self.new) }
+    {
         if let Some(member) = Member::named(name) {
             return self.begin_content(member, at);
         }
         match name {
             "type" => self.wanted = Wanted::Type,
             "properties" => self.wanted = Wanted::Properties,
-            _ => self.skips_value = true,
+            _ => self.wanted = Wanted::MemberValue,
         }
         Ok(())
     }
 
     /// Draws the coordinates of an object.
-    fn draw(&self, kind: GeoType, at: FilePlace, drawing: &mut Drawing) -> Result<(), FileFault> {
+    fn draw(&self, kind: GeoType, at: FilePlace, drawing: &mut Drawing) -> Result<(), FileFault>
+        ensures { OnOk result ((tokens : List SpecToken) → HasPositions tokens self.now.shape
+            → DrawsRuns tokens drawing.old → DrawsRuns tokens drawing.new) }
+    {
         let GeoType::Shape(kind, nesting) = kind else {
             return Ok(());
         };
@@ -359,7 +401,10 @@ impl GeoState {
     }
 
     /// Ends an object, and goes on with that round it.
-    fn close(&mut self, at: FilePlace, drawing: &mut Drawing) -> Result<(), FileFault> {
+    fn close(&mut self, at: FilePlace, drawing: &mut Drawing) -> Result<(), FileFault>
+        requires { IsBetween self.old.wanted }
+        ensures { OnOk result (DrawsOn self.old self.new drawing.old drawing.new) }
+    {
         let outer = self.outer.pop();
         let member = match outer {
             Some(outer) => outer.member,
@@ -377,7 +422,10 @@ impl GeoState {
     }
 
     /// Takes a token of a list of objects in.
-    fn take_in_list(&mut self, token: Token<'_>, at: FilePlace) -> Result<(), FileFault> {
+    fn take_in_list(&mut self, token: Token<'_>, at: FilePlace) -> Result<(), FileFault>
+        requires { IsBetween self.old.wanted }
+        ensures { OnOk result (GoesOn self.old self.new) }
+    {
         match token {
             Token::BeginObject => {
                 if matches!(self.object.member, Some(Member::Features)) {
@@ -404,7 +452,10 @@ impl GeoState {
         token: Token<'_>,
         at: FilePlace,
         drawing: &mut Drawing,
-    ) -> Result<(), FileFault> {
+    ) -> Result<(), FileFault>
+        requires { IsBetween self.old.wanted }
+        ensures { OnOk result (DrawsOn self.old self.new drawing.old drawing.new) }
+    {
         if self.object.is_in_list {
             return self.take_in_list(token, at);
         }
@@ -417,7 +468,9 @@ impl GeoState {
 
     /// Goes on behind a position, an array's begin or its end: ends the line, the polygon and the
     /// coordinates that end here.
-    fn end_parts(&mut self, nesting: Nesting, drawing: &mut Drawing) -> Result<(), FileFault> {
+    fn end_parts(&mut self, nesting: Nesting, drawing: &mut Drawing) -> Result<(), FileFault>
+        ensures { OnOk result (DrawsOn self.old self.new drawing.old drawing.new) }
+    {
         let Nesting { depth, most } = nesting;
         self.nesting = nesting;
         self.wanted = Wanted::Coordinates;
@@ -434,21 +487,38 @@ impl GeoState {
         Ok(())
     }
 
+    /// Takes the first number of a position in.
+    fn take_first(
+        &mut self,
+        word: &str,
+        at: FilePlace,
+        drawing: &mut Drawing,
+    ) -> Result<(), FileFault>
+        ensures { OnOk result (ReadsToken (number word.now) self.old self.new drawing.old
+            drawing.new) }
+    {
+        if self.nesting.passed().is_none() {
+            return Err(FileFault::in_place(at, Reason::Expected(COORDINATES)));
+        }
+        let x = drawing.number(word.as_bytes(), "x", at)?;
+        self.wanted = Wanted::SecondNumber(x, at);
+        Ok(())
+    }
+
     /// Takes a token of coordinates in.
     fn take_coordinate(
         &mut self,
         token: Token<'_>,
         at: FilePlace,
         drawing: &mut Drawing,
-    ) -> Result<(), FileFault> {
+    ) -> Result<(), FileFault>
+        ensures { OnOk result (ReadsToken (token_of token.entry) self.old self.new drawing.old
+            drawing.new) }
+    {
         let next = match token {
             Token::BeginArray => self.nesting.opened(),
             Token::EndArray => self.nesting.closed(),
-            Token::Number(first) if self.nesting.passed().is_some() => {
-                let x = drawing.number(first.as_bytes(), "x", at)?;
-                self.wanted = Wanted::SecondNumber(x, at);
-                return Ok(());
-            }
+            Token::Number(word) => return self.take_first(word, at, drawing),
             _ => None,
         };
         match next {
@@ -465,7 +535,11 @@ impl GeoState {
         token: Token<'_>,
         at: FilePlace,
         drawing: &mut Drawing,
-    ) -> Result<(), FileFault> {
+    ) -> Result<(), FileFault>
+        requires { self.old.wanted ≡ Wanted.SecondNumber x place }
+        ensures { OnOk result (ReadsToken (token_of token.entry) self.old self.new drawing.old
+            drawing.new) }
+    {
         let Token::Number(word) = token else {
             return Err(FileFault::in_place(at, Reason::Missing("y")));
         };
@@ -482,12 +556,40 @@ impl GeoState {
         &mut self,
         position: GeoPosition,
         drawing: &mut Drawing,
-    ) -> Result<(), FileFault> {
+    ) -> Result<(), FileFault>
+        requires { self.old.wanted ≡ Wanted.MoreNumbers position }
+        ensures { OnOk result (ReadsToken end_array self.old self.new drawing.old drawing.new) }
+    {
         self.shape.add(position, drawing)?;
+        self.wanted = Wanted::Coordinates;
         match self.nesting.passed() {
             Some(next) => self.end_parts(next, drawing),
             None => Ok(()),
         }
+    }
+
+    /// Takes a further number of a position in.
+    fn take_height(
+        &mut self,
+        position: GeoPosition,
+        word: &str,
+        at: FilePlace,
+        drawing: &mut Drawing,
+    ) -> Result<(), FileFault>
+        requires { self.old.wanted ≡ Wanted.MoreNumbers position }
+        ensures { OnOk result (ReadsToken (number word.now) self.old self.new drawing.old
+            drawing.new) }
+    {
+        if position.height.is_some() {
+            self.has_more_numbers = true;
+            return Ok(());
+        }
+        let height = drawing.number(word.as_bytes(), "z", at)?;
+        self.wanted = Wanted::MoreNumbers(GeoPosition {
+            spot: position.spot,
+            height: Some(height),
+        });
+        Ok(())
     }
 
     /// Takes a further number of a position in, or its end.
@@ -497,20 +599,16 @@ impl GeoState {
         token: Token<'_>,
         at: FilePlace,
         drawing: &mut Drawing,
-    ) -> Result<(), FileFault> {
+    ) -> Result<(), FileFault>
+        requires { self.old.wanted ≡ Wanted.MoreNumbers position }
+        ensures { OnOk result (ReadsToken (token_of token.entry) self.old self.new drawing.old
+            drawing.new) }
+    {
         match token {
-            Token::Number(_) if position.height.is_some() => self.has_more_numbers = true,
-            Token::Number(word) => {
-                let height = drawing.number(word.as_bytes(), "z", at)?;
-                self.wanted = Wanted::MoreNumbers(GeoPosition {
-                    spot: position.spot,
-                    height: Some(height),
-                });
-            }
-            Token::EndArray => return self.end_position(position, drawing),
-            _ => return Err(FileFault::in_place(at, Reason::Expected("a number"))),
+            Token::Number(word) => self.take_height(position, word, at, drawing),
+            Token::EndArray => self.end_position(position, drawing),
+            _ => Err(FileFault::in_place(at, Reason::Expected("a number"))),
         }
-        Ok(())
     }
 
     /// Takes a token in.
@@ -519,7 +617,10 @@ impl GeoState {
         token: Token<'_>,
         at: FilePlace,
         drawing: &mut Drawing,
-    ) -> Result<(), FileFault> {
+    ) -> Result<(), FileFault>
+        ensures { OnOk result (ReadsToken (token_of token.entry) self.old self.new drawing.old
+            drawing.new) }
+    {
         match self.wanted {
             Wanted::Inner => self.take_inner(token, at, drawing),
             Wanted::Coordinates => self.take_coordinate(token, at, drawing),
@@ -533,7 +634,9 @@ impl GeoState {
     }
 
     /// Notes what is left out.
-    fn note_left_out(&self, drawing: &mut Drawing) -> Result<(), FileFault> {
+    fn note_left_out(&self, drawing: &mut Drawing) -> Result<(), FileFault>
+        ensures { OnOk result (SameNumbers drawing.old drawing.new) }
+    {
         if self.has_properties {
             drawing.leave_out("properties")?;
         }
@@ -544,29 +647,58 @@ impl GeoState {
     }
 }
 
+/// Passes over a value, where one is to be passed over.
+fn pass_value(text: &mut JsonText<'_>, state: &mut GeoState) -> Result<(), FileFault>
+    ensures { OnOk result ((all : List SpecToken) (drawing : Drawing)
+        → HasReadTokens all text.old.reader state.old drawing
+        → HasReadTokens all text.new.reader state.new drawing) }
+{
+    let Some(next) = state.wanted.behind_value() else {
+        return Ok(());
+    };
+    text.skip_value()?;
+    state.wanted = next;
+    Ok(())
+}
+
+/// Reads a token, and passes over the value behind it where that is left out.
+fn read_token(
+    text: &mut JsonText<'_>,
+    state: &mut GeoState,
+    drawing: &mut Drawing,
+) -> Result<(), FileFault>
+    ensures { OnOk result ((all : List SpecToken)
+        → HasReadTokens all text.old.reader state.old drawing.old
+        → HasReadTokens all text.new.reader state.new drawing.new) }
+{
+    let token = text.next()?;
+    state.take(token, text.at, drawing)?;
+    text.at.feature = state.feature;
+    pass_value(text, state)
+}
+
 /// Reads the object that a text is.
 fn read_object(
     text: &mut JsonText<'_>,
     state: &mut GeoState,
     drawing: &mut Drawing,
-) -> Result<(), FileFault> {
+) -> Result<(), FileFault>
+    requires { HasReadRuns text.old.reader text.old.reader state.old drawing.old }
+    ensures { OnOk result (DrawsRuns text.old.reader drawing.new) }
+{
     for _ in 0..u64::MAX {
-        let token = text.next()?;
-        state.take(token, text.at, drawing)?;
-        text.at.feature = state.feature;
-        if state.skips_value {
-            text.skip_value()?;
-            state.skips_value = false;
-        }
+        read_token(text, state, drawing)?;
         if state.has_ended {
-            break;
+            return text.end();
         }
     }
     text.end()
 }
 
 /// A text without the mark that it may begin with.
-fn without_mark(bytes: &[u8]) -> &[u8] {
+fn without_mark(bytes: &[u8]) -> &[u8]
+    ensures { IsWithoutMark bytes.now result.now }
+{
     match bytes {
         [0xEF, 0xBB, 0xBF, rest @ ..] => rest,
         _ => bytes,
@@ -574,7 +706,10 @@ fn without_mark(bytes: &[u8]) -> &[u8] {
 }
 
 /// Reads a text of GeoJSON.
-fn read_text(bytes: &[u8], drawing: &mut Drawing, alloc: Global) -> Result<(), FileFault> {
+fn read_text(bytes: &[u8], drawing: &mut Drawing, alloc: Global) -> Result<(), FileFault>
+    requires { HasNoNumbers drawing.old }
+    ensures { OnOk result (DrawsRuns (tokens bytes.now) drawing.new) }
+{
     let Ok(text) = str::from_utf8(bytes) else {
         return Err(FileFault::at(0, Reason::NotUtf8));
     };
@@ -589,7 +724,9 @@ fn read_text(bytes: &[u8], drawing: &mut Drawing, alloc: Global) -> Result<(), F
 }
 
 /// Reads GeoJSON.
-pub fn read_geojson<R: Read + Drop>(reader: R, alloc: Global) -> Result<Drawing, FileFault> {
+pub fn read_geojson<R: Read + Drop>(reader: R, alloc: Global) -> Result<Drawing, FileFault>
+    ensures { IfOk result (λ d. IfSome (R.remaining reader) (λ text. IsGeoJson text d)) }
+{
     let whole = CheckedText::whole(reader).read_all(alloc)?;
     let mut drawing = Drawing::new(alloc);
     let bytes = without_mark(whole.as_slice()).trim_ascii_end();

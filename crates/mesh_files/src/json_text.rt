@@ -1,11 +1,15 @@
 //! The tokens of a JSON text, and where they stand.
+ghost use Rattle.std.specs.Prelude.{◌≡◌, ◌++◌, ◌∷◌, List, IfOk, OnOk};
+ghost use Rattle.json.specs.Reads.{token_of};
+ghost use Rattle.json.specs.Token.{Token as SpecToken};
+
 use crate::fault::{FileFault, FilePlace, Reason};
 use json::{MAX_DEPTH, Reader, Token};
 
 /// A JSON text as far as it was read.
 #[derive(Drop)]
 pub(crate) struct JsonText<'a> {
-    reader: Reader<'a>,
+    pub(crate) reader: Reader<'a>,
     text: &'a [u8],
     /// How many bytes have their line ends counted.
     counted: usize,
@@ -25,7 +29,9 @@ fn line_ends(text: &[u8]) -> u32 {
 }
 
 impl<'a> JsonText<'a> {
-    pub(crate) fn new(reader: Reader<'a>, text: &'a [u8]) -> Self {
+    pub(crate) fn new(reader: Reader<'a>, text: &'a [u8]) -> Self
+        ensures { result.reader ≡ reader.entry }
+    {
         JsonText {
             reader,
             text,
@@ -40,7 +46,9 @@ impl<'a> JsonText<'a> {
     }
 
     /// Counts lines up to where the reader stands.
-    fn count_lines(&mut self) {
+    fn count_lines(&mut self)
+        ensures { self.new.reader ≡ self.old.reader }
+    {
         let end = self.reader.offset();
         if let Some(passed) = self.text.get(self.counted..end) {
             self.at.line = self.at.line.saturating_add(line_ends(passed));
@@ -49,7 +57,9 @@ impl<'a> JsonText<'a> {
     }
 
     /// The next token.
-    pub(crate) fn next(&mut self) -> Result<Token<'a>, FileFault> {
+    pub(crate) fn next(&mut self) -> Result<Token<'a>, FileFault>
+        ensures { IfOk result (λ token. self.old.reader ≡ token_of token ∷ self.new.reader) }
+    {
         self.count_lines();
         match self.reader.next() {
             Some(Token::Bad) => Err(self.fault(Reason::NotJson(MAX_DEPTH))),
@@ -59,7 +69,10 @@ impl<'a> JsonText<'a> {
     }
 
     /// Passes over a value, whatever it is.
-    pub(crate) fn skip_value(&mut self) -> Result<(), FileFault> {
+    pub(crate) fn skip_value(&mut self) -> Result<(), FileFault>
+        ensures { OnOk result ((passed : List SpecToken)
+            × (self.old.reader ≡ passed ++ self.new.reader)) }
+    {
         match self.reader.skip_value(MAX_DEPTH) {
             Ok(()) => Ok(()),
             Err(_) => {

@@ -1,4 +1,9 @@
 //! Positions of GeoJSON as points, and the lines that they make as segments.
+ghost use Rattle.std.specs.Prelude.{List, IfOk, IfSome, OnOk};
+ghost use Rattle.json.specs.Token.{Token};
+ghost use Rattle.mesh_files.specs.Drawn.{SameNumbers};
+ghost use Rattle.mesh_files.specs.Runs.{AddsRun, DrawsRuns, HasPositions, IsPosition, KeepsRuns};
+
 use crate::drawing::{Drawing, Number, Ring, Spot};
 use crate::fault::{FileFault, FilePlace, Reason};
 use std::alloc::Global;
@@ -20,6 +25,13 @@ pub(crate) struct GeoPosition {
 }
 
 impl GeoPosition {
+    /// Takes the position into a drawing.
+    fn draw(&self, drawing: &mut Drawing) -> Result<(), FileFault>
+        ensures { OnOk result (AddsRun self.now drawing.old drawing.new) }
+    {
+        drawing.add_spot(self.spot, self.height)
+    }
+
     /// Whether two positions are one.
     fn is_equal(&self, other: &GeoPosition) -> bool {
         let same_height = match (&self.height, &other.height) {
@@ -39,6 +51,24 @@ struct OpenLine {
     last: Option<GeoPosition>,
 }
 
+impl OpenLine {
+    /// The last position, if it repeats the first. Else it is taken into the drawing.
+    fn end(&self, drawing: &mut Drawing) -> Result<Option<GeoPosition>, FileFault>
+        ensures { IfOk result (λ closing. (tokens : List Token)
+            → IfSome self.now.last (IsPosition tokens) → DrawsRuns tokens drawing.old
+            → IfSome closing (IsPosition tokens) × DrawsRuns tokens drawing.new) }
+    {
+        match self.last {
+            None => Ok(None),
+            Some(last) if last.is_equal(&self.first) => Ok(Some(last)),
+            Some(last) => {
+                last.draw(drawing)?;
+                Ok(None)
+            }
+        }
+    }
+}
+
 /// Positions next to one another, and where the first stands: points from `start` up to `end`, and
 /// one that repeats the first of them and is no point. Whether another line comes before it in its
 /// polygon.
@@ -53,7 +83,9 @@ struct WholeLine {
 
 impl WholeLine {
     /// Joins each point to the next, and the last to the first where the line ends there.
-    fn join(&self, drawing: &mut Drawing) -> Result<(), FileFault> {
+    fn join(&self, drawing: &mut Drawing) -> Result<(), FileFault>
+        ensures { OnOk result (SameNumbers drawing.old drawing.new) }
+    {
         let mut last = self.start;
         for next in self.start.saturating_add(1)..self.end {
             let at = match drawing.spots.get(next as usize) {
@@ -79,10 +111,13 @@ impl WholeLine {
         Ok(())
     }
 
-    fn draw(&self, kind: LineKind, drawing: &mut Drawing) -> Result<(), FileFault> {
+    fn draw(&self, kind: LineKind, drawing: &mut Drawing) -> Result<(), FileFault>
+        ensures { OnOk result ((tokens : List Token) → IfSome self.now.closing (IsPosition tokens)
+            → DrawsRuns tokens drawing.old → DrawsRuns tokens drawing.new) }
+    {
         match kind {
             LineKind::Points => match &self.closing {
-                Some(position) => drawing.add_spot(position.spot, position.height),
+                Some(position) => position.draw(drawing),
                 None => Ok(()),
             },
             LineKind::Path => self.join(drawing),
@@ -108,7 +143,9 @@ pub(crate) struct Shape {
 }
 
 impl Shape {
-    pub(crate) fn new(alloc: Global) -> Self {
+    pub(crate) fn new(alloc: Global) -> Self
+        ensures { (tokens : List Token) → HasPositions tokens result }
+    {
         Shape {
             lines: Vec::new(alloc),
             open: None,
@@ -117,14 +154,19 @@ impl Shape {
     }
 
     /// Begins another geometry.
-    pub(crate) fn clear(&mut self) {
+    pub(crate) fn clear(&mut self)
+        ensures { (tokens : List Token) → HasPositions tokens self.new }
+    {
         self.lines.clear();
         self.open = None;
         self.has_outer = false;
     }
 
     /// Ends the polygon, if the lines are rings.
-    pub(crate) fn end_polygon(&mut self) {
+    pub(crate) fn end_polygon(&mut self)
+        ensures { (tokens : List Token) → HasPositions tokens self.old
+            → HasPositions tokens self.new }
+    {
         self.has_outer = false;
     }
 
@@ -133,10 +175,14 @@ impl Shape {
         &mut self,
         position: GeoPosition,
         drawing: &mut Drawing,
-    ) -> Result<(), FileFault> {
+    ) -> Result<(), FileFault>
+        ensures { OnOk result ((tokens : List Token) → IsPosition tokens position
+            → HasPositions tokens self.old → DrawsRuns tokens drawing.old
+            → HasPositions tokens self.new × DrawsRuns tokens drawing.new) }
+    {
         let Some(mut line) = self.open else {
             let start = drawing.next_place(position.spot.file_place())?;
-            drawing.add_spot(position.spot, position.height)?;
+            position.draw(drawing)?;
             self.open = Some(OpenLine {
                 start,
                 first: position,
@@ -145,7 +191,7 @@ impl Shape {
             return Ok(());
         };
         if let Some(last) = line.last {
-            drawing.add_spot(last.spot, last.height)?;
+            last.draw(drawing)?;
         }
         line.last = Some(position);
         self.open = Some(line);
@@ -153,20 +199,15 @@ impl Shape {
     }
 
     /// Ends the line, if it has a position.
-    pub(crate) fn end_line(&mut self, drawing: &mut Drawing) -> Result<(), FileFault> {
+    pub(crate) fn end_line(&mut self, drawing: &mut Drawing) -> Result<(), FileFault>
+        ensures { OnOk result (KeepsRuns self.old self.new drawing.old drawing.new) }
+    {
         let Some(line) = self.open else {
             return Ok(());
         };
         self.open = None;
         let at = line.first.spot.file_place();
-        let mut closing = None;
-        if let Some(last) = line.last {
-            if last.is_equal(&line.first) {
-                closing = Some(last);
-            } else {
-                drawing.add_spot(last.spot, last.height)?;
-            }
-        }
+        let closing = line.end(drawing)?;
         let end = drawing.next_place(at)?;
         self.lines.push(WholeLine {
             at,
@@ -180,7 +221,10 @@ impl Shape {
     }
 
     /// Makes of each line what its type says.
-    pub(crate) fn draw(&self, kind: LineKind, drawing: &mut Drawing) -> Result<(), FileFault> {
+    pub(crate) fn draw(&self, kind: LineKind, drawing: &mut Drawing) -> Result<(), FileFault>
+        ensures { OnOk result ((tokens : List Token) → HasPositions tokens self.now
+            → DrawsRuns tokens drawing.old → DrawsRuns tokens drawing.new) }
+    {
         for line in &self.lines {
             line.draw(kind, drawing)?;
         }

@@ -1,4 +1,6 @@
 //! A reader of text that stops at what no file has.
+ghost use Rattle.std.specs.Prelude.{◌≡◌, IfOk, IfSome};
+
 use crate::fault::{FileFault, Reason};
 use crate::fields::Field;
 use memchr::{memchr, memchr_iter};
@@ -31,12 +33,9 @@ enum Stop {
     Failure,
 }
 
-/// A text that is read up to a line or a row that is too long, a quoted field that does not end, a
-/// NUL byte or a failure, so that no line fills the memory. What stopped it is kept, since a reader
-/// of tables tells less.
+/// How far a text has been looked at, and what stops its reading, if something does.
 #[derive(Drop)]
-pub struct CheckedText<R> {
-    reader: R,
+struct Check {
     bound: Bound,
     line: u32,
     size: u32,
@@ -45,10 +44,9 @@ pub struct CheckedText<R> {
     stop: Option<Stop>,
 }
 
-impl<R: Read> CheckedText<R> {
-    fn bounded(reader: R, bound: Bound) -> Self {
-        CheckedText {
-            reader,
+impl Check {
+    fn new(bound: Bound) -> Self {
+        Check {
             bound,
             line: 1,
             size: 0,
@@ -56,21 +54,6 @@ impl<R: Read> CheckedText<R> {
             quote_line: 0,
             stop: None,
         }
-    }
-
-    /// A text of lines.
-    pub fn new(reader: R) -> Self {
-        CheckedText::bounded(reader, Bound::Line)
-    }
-
-    /// A text of rows, whose quoted fields may have line ends in them.
-    pub fn of_rows(reader: R) -> Self {
-        CheckedText::bounded(reader, Bound::Row)
-    }
-
-    /// A text that is read as a whole.
-    pub fn whole(reader: R) -> Self {
-        CheckedText::bounded(reader, Bound::Text)
     }
 
     /// Counts bytes to the line, the row or the text, and stops where that is too long.
@@ -136,7 +119,7 @@ impl<R: Read> CheckedText<R> {
     }
 
     /// Looks at bytes that were read.
-    fn check(&mut self, bytes: &[u8]) {
+    fn pass(&mut self, bytes: &[u8]) {
         let nul = memchr(0, bytes);
         let text = match nul {
             Some(end) => bytes.get(0..end).unwrap_or(bytes),
@@ -153,8 +136,15 @@ impl<R: Read> CheckedText<R> {
         }
     }
 
+    /// Looks at the end of the text.
+    fn end(&mut self) {
+        if self.field.is_quoted() {
+            self.stop = Some(Stop::OpenQuote);
+        }
+    }
+
     /// What stopped the reading, if something did.
-    pub fn fault(&self) -> Option<FileFault> {
+    fn fault(&self) -> Option<FileFault> {
         Some(match self.stop? {
             Stop::LongLine => FileFault::at(self.line, Reason::LongLine(MAX_LINE)),
             Stop::LongText => FileFault::at(self.line, Reason::LongText(MAX_TEXT)),
@@ -165,9 +155,58 @@ impl<R: Read> CheckedText<R> {
     }
 }
 
+/// A text that is read up to a line or a row that is too long, a quoted field that does not end, a
+/// NUL byte or a failure, so that no line fills the memory: nothing is read behind the bytes that
+/// have it. What stopped it is kept, since a reader of tables tells less.
+#[derive(Drop)]
+pub struct CheckedText<R> {
+    pub(crate) reader: R,
+    check: Check,
+}
+
+impl<R: Read> CheckedText<R> {
+    /// A text of lines.
+    pub fn new(reader: R) -> Self
+        ensures { result.reader ≡ reader }
+    {
+        CheckedText {
+            reader,
+            check: Check::new(Bound::Line),
+        }
+    }
+
+    /// A text of rows, whose quoted fields may have line ends in them.
+    pub fn of_rows(reader: R) -> Self
+        ensures { result.reader ≡ reader }
+    {
+        CheckedText {
+            reader,
+            check: Check::new(Bound::Row),
+        }
+    }
+
+    /// A text that is read as a whole.
+    pub fn whole(reader: R) -> Self
+        ensures { result.reader ≡ reader }
+    {
+        CheckedText {
+            reader,
+            check: Check::new(Bound::Text),
+        }
+    }
+
+    /// What stopped the reading, if something did.
+    pub fn fault(&self) -> Option<FileFault> {
+        self.check.fault()
+    }
+}
+
 impl<R: Read + Drop> CheckedText<R> {
     /// The whole text, if nothing stops the reading.
-    pub(crate) fn read_all(mut self, alloc: Global) -> Result<Vec<u8>, FileFault> {
+    pub(crate) fn read_all(mut self, alloc: Global) -> Result<Vec<u8>, FileFault>
+        ensures { IfOk result (λ whole. IfSome (R.remaining self.reader)
+            (λ text. whole.items ≡ text)) }
+    {
         let mut whole = Vec::new(alloc);
         let outcome = self.read_to_end(&mut whole);
         if let Some(fault) = self.fault() {
@@ -181,20 +220,23 @@ impl<R: Read + Drop> CheckedText<R> {
 }
 
 impl<R: Read> Read for CheckedText<R> {
+    ghost remaining = { λ t. R.remaining t.reader };
+
     fn read(&mut self, buf: &mut [u8]) -> io::Result<usize> {
+        if self.check.stop.is_some() {
+            return Err(io::Error::from(ErrorKind::InvalidData));
+        }
         match self.reader.read(buf) {
+            Ok(0) if !buf.is_empty() => {
+                self.check.end();
+                Ok(0)
+            }
             Ok(count) => {
-                self.check(&buf[..count]);
-                if count == 0 && !buf.is_empty() && self.field.is_quoted() {
-                    self.stop = Some(Stop::OpenQuote);
-                }
-                match self.stop {
-                    None => Ok(count),
-                    Some(_) => Err(io::Error::from(ErrorKind::InvalidData)),
-                }
+                self.check.pass(&buf[..count]);
+                Ok(count)
             }
             Err(error) => {
-                self.stop = Some(Stop::Failure);
+                self.check.stop = Some(Stop::Failure);
                 Err(error)
             }
         }

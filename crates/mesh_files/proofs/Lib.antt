@@ -1,0 +1,7 @@
+pub mod PointRows
+pub mod PositionRuns
+pub mod Skips
+pub mod TableRows
+pub mod TokenRuns
+pub mod TriangleRows
+pub mod WordRows
