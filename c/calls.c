@@ -1,14 +1,23 @@
 /* The calls of tevasulim.h that take or give what cannot cross from Rattle: a pointer that may be
  * NULL, a pointer to text, and what is known only where the library is linked. The build defines
- * TEVASULIM_IS_PROVED: 1 where the rest of the library was proved, 0 in a trial build. */
+ * TEVASULIM_IS_PROVED: 1 where the rest of the library was proved, 0 in a trial build; and
+ * TEVASULIM_SOURCES: the sum of the sources that the rest was made of. */
 #include "tevasulim.h"
 
 #ifndef TEVASULIM_IS_PROVED
 #error "the build has to say whether the library is proved: -DTEVASULIM_IS_PROVED=1 or =0"
 #endif
+#ifndef TEVASULIM_SOURCES
+#error "the build has to say of which sources the library is: -DTEVASULIM_SOURCES='\"SUM\"'"
+#endif
 
 /* Of crates/tevasulim_c. The shared library does not export it (exported.map). */
 void tevasulim_close_handle(tevasulim_triangulation *self);
+
+/* For this repository's own scripts, and so in no header (tools/sources.py). */
+extern const char tevasulim_sources[];
+
+const char tevasulim_sources[] = TEVASULIM_SOURCES;
 
 uint32_t tevasulim_is_proved(void)
 {

@@ -3,17 +3,24 @@ import glob
 import os
 import shutil
 import subprocess
-import sys
 import tarfile
+import urllib.request
 
 PYTHON = "/usr/bin/python3"
 NAMES = ("libtevasulim-dev", "python3-tevasulim", "tevasulim-tools", "libtevasulim0")
 # What a user of all packages has, too.
 OTHERS = "gcc g++ cmake make pkg-config man-db bsdextrautils python3-matplotlib".split()
+MIRROR, SUITE = "http://deb.debian.org/debian", "stable"
+# Bytes that a fresh Debian with all of these takes, about twice; and seconds to make it.
+ROOM, LIMIT = 4 * 2**30, 1200
 
 
 class Failed(Exception):
     """What was not as it should be."""
+
+
+class NotThere(Exception):
+    """Why there is no fresh Debian."""
 
 
 def expect(found, wanted, what):
@@ -36,6 +43,20 @@ def files_below(folder):
     for at, folders, files in os.walk(folder):
         found |= {os.path.relpath(f"{at}/{it}", folder) for it in [*folders, *files]}
     return found
+
+
+def refuse_lacking(folder):
+    """Raises `NotThere` where a fresh Debian cannot be made in a folder."""
+    if os.geteuid():
+        raise NotThere("it needs root")
+    if not shutil.which("debootstrap"):
+        raise NotThere("there is no debootstrap (Debian: debootstrap)")
+    if shutil.disk_usage(folder).free < ROOM:
+        raise NotThere(f"{folder} has not {ROOM} bytes of room")
+    try:
+        urllib.request.urlopen(f"{MIRROR}/dists/{SUITE}/InRelease", timeout=30).close()
+    except OSError as error:
+        raise NotThere(f"{MIRROR} is not reached: {error}") from None
 
 
 class Place:
@@ -88,7 +109,7 @@ class Folders(Place):
         own["LD_LIBRARY_PATH"] = f"{self.prefix}/lib"
         own["PKG_CONFIG_PATH"] = f"{self.prefix}/lib/pkgconfig"
         own["CMAKE_PREFIX_PATH"] = self.prefix
-        own["MANPATH"] = f"{self.prefix}/share/man"
+        own["MANPATH"] = f"{self.prefix}/share/man:{self.room}/venv/share/man"
         own["HOME"] = self.work
         return call(["sh", "-ec", script], cwd=self.work, env=own)
 
@@ -103,6 +124,7 @@ class Folders(Place):
         words += ["--force-depends", f"--log={self.room}/dpkg.log"]
         call([*words, "-i", *sorted(glob.glob(f"{made}/*.deb"))])
         there = {"usr/bin/mesh", "usr/include/tevasulim.hpp", "usr/share/man/man1/mesh.1.gz"}
+        there |= {"usr/bin/tevasulim", "usr/share/man/man1/tevasulim.1.gz"}
         expect(there - files_below(root), set(), "files that are not installed")
         call([*words, "-P", *NAMES])
         left = {it for it in files_below(root) - before if not it.startswith("var/lib/dpkg")}
@@ -111,18 +133,41 @@ class Folders(Place):
 
 
 class Debian(Place):
-    """A fresh Debian with the packages, in a folder."""
+    """A fresh Debian with the packages, in a folder that is removed at the end."""
 
     def __init__(self, room, made):
         self.root = f"{room}/debian"
         self.work = f"{self.root}/root"
-        call(["debootstrap", "--variant=minbase", "stable", self.root], stderr=sys.stderr)
-        # Nothing of it has to outlast a power cut.
-        with open(f"{self.root}/etc/dpkg/dpkg.cfg.d/fast", "w") as options:
-            options.write("force-unsafe-io\n")
-        self.run(f"apt-get update; apt-get install -y --no-install-recommends {' '.join(OTHERS)}")
+        self.made = made
+
+    def __enter__(self):
+        return self
+
+    def __exit__(self, *_):
+        # What was broken off may leave it mounted.
+        for part in "proc", "sys":
+            subprocess.run(["umount", "-l", f"{self.root}/{part}"], stderr=subprocess.DEVNULL)
+        # It does this much faster than Python.
+        subprocess.run(["rm", "-rf", "--one-file-system", self.root])
+
+    def make(self):
+        """Makes it with debootstrap, and what a user of all packages has, too. Raises `NotThere`
+        where that cannot be done."""
+        refuse_lacking(os.path.dirname(self.root))
+        try:
+            words = ["debootstrap", "--variant=minbase", SUITE, self.root, MIRROR]
+            call(words, timeout=LIMIT)
+            # Nothing of it has to outlast a power cut, and nobody reads it in other languages.
+            with open(f"{self.root}/etc/dpkg/dpkg.cfg.d/fast", "w") as options:
+                options.write("force-unsafe-io\npath-exclude=/usr/share/locale/*\n")
+            words = f"apt-get install -y --no-install-recommends {' '.join(OTHERS)}"
+            self.run(f"apt-get update; {words}", timeout=LIMIT)
+        except (Failed, OSError, subprocess.TimeoutExpired) as error:
+            raise NotThere(str(error)[-500:]) from None
+
+    def install(self):
         self.before = self.files()
-        for deb in glob.glob(f"{made}/*.deb"):
+        for deb in glob.glob(f"{self.made}/*.deb"):
             shutil.copy(deb, self.work)
         self.run("apt-get install -y --no-install-recommends ./*.deb; rm *.deb")
         expect(self.has("rt"), False, "whether there is a kit")
@@ -134,11 +179,11 @@ class Debian(Place):
             found |= {f"{part}/{it}" for it in files_below(f"{self.root}/{part}")}
         return found
 
-    def run(self, script):
+    def run(self, script, **how):
         own = {"PATH": "/usr/sbin:/usr/bin:/sbin:/bin", "LC_ALL": "C.UTF-8", "HOME": "/root"}
         own.update({"DEBIAN_FRONTEND": "noninteractive"})
         words = ["chroot", self.root, "sh", "-ec", f"cd /root; {script}"]
-        return call(words, env=own)
+        return call(words, env=own, **how)
 
     def remove(self):
         """Removes the packages, which leave nothing."""

@@ -1,4 +1,5 @@
 """Debian's packages of the programs, the library, its headers and the Python package."""
+import glob
 import gzip
 import os
 import shutil
@@ -47,6 +48,11 @@ PACKAGES = {
         "The Python package over the library, with numpy arrays in and out.",
     ),
 }
+# What the Python package takes for maps, pictures and tiles, where it is there.
+SUGGESTED = ", ".join(
+    f"python3-{it}"
+    for it in "distributed geopandas matplotlib meshio rasterio shapely tqdm".split()
+)
 CONTROL = """Package: {name}
 Source: tevasulim
 Version: {version}
@@ -54,7 +60,7 @@ Architecture: amd64
 Maintainer: {maintainer}
 Installed-Size: {size}
 Depends: {needs}
-{multi}Section: {section}
+{more}Section: {section}
 Priority: optional
 Description: {summary}
  {text}
@@ -80,6 +86,14 @@ CHANGELOG = """tevasulim ({version}) unstable; urgency=medium
   * Version {upstream}; changelog.gz says what is new.
 
  -- {maintainer}  {date}
+"""
+# The command of the Python package.
+COMMAND = """#!/usr/bin/python3
+import sys
+
+from tevasulim.__main__ import main
+
+sys.exit(main())
 """
 # Compiled modules are written when the package is installed, and go with it.
 POSTINST = """#!/bin/sh
@@ -154,9 +168,14 @@ def add_documents(folder, name, documents, epoch):
 
 
 def add_python(folder, wheel):
-    """Adds the wheel's modules; the library is the one of its own package."""
+    """Adds the wheel's modules, the command and its manual page; the library is the one of its own
+    package."""
     modules = f"{folder}/usr/lib/python3/dist-packages"
     unzip(wheel, modules)
+    (data,) = glob.glob(f"{modules}/*.data")
+    os.rename(f"{data}/data/share", f"{folder}/usr/share")
+    shutil.rmtree(data)
+    write(f"{folder}/usr/bin/tevasulim", COMMAND, 0o755)
     own = f"{modules}/tevasulim/libtevasulim.so"
     if os.path.exists(own):
         os.remove(own)
@@ -174,7 +193,9 @@ def add_control(folder, name):
     words = {"name": name, "version": f"{version()}-{REVISION}", "maintainer": MAINTAINER}
     words["needs"] = needs.format(version=words["version"], upstream=version())
     words["size"] = sum(os.path.getsize(f"{folder}/{it}") // 1024 + 1 for it in files)
-    words["multi"] = "Multi-Arch: same\n" if name.startswith("lib") else ""
+    words["more"] = "Multi-Arch: same\n" if name.startswith("lib") else ""
+    if name == "python3-tevasulim":
+        words["more"] = f"Suggests: {SUGGESTED}\n"
     words.update({"section": section, "summary": summary, "text": text})
     how = {"cwd": folder, "capture_output": True, "text": True, "check": True}
     sums = subprocess.run(["md5sum", *files], **how)
@@ -188,12 +209,17 @@ def add_control(folder, name):
         write(f"{folder}/DEBIAN/prerm", PRERM, 0o755)
 
 
+def is_linked(file):
+    """Whether a file is a program or a library."""
+    with open(file, "rb") as content:
+        return content.read(8).startswith((b"\x7fELF", b"!<arch>\n"))
+
+
 def strip(folder):
     """Takes the symbols that nothing needs out of programs and libraries: no code changes."""
     for path in files_below(folder):
         at = f"{folder}/{path}"
-        is_linked = path.startswith("usr/bin/") or path.endswith((".so.0", ".a"))
-        if is_linked and os.path.isfile(at) and not os.path.islink(at):
+        if os.path.isfile(at) and not os.path.islink(at) and is_linked(at):
             words = ["strip", "--strip-unneeded", "--remove-section=.comment", at]
             subprocess.run(words + (["-D"] if path.endswith(".a") else []), check=True)
 

@@ -14,6 +14,7 @@ import tempfile
 import debian_packages
 from archives import set_times, write_tar, write_tar_again
 from bill import write_bill, write_licenses
+from sources import sum_in, sum_of_library
 from trial_build import is_trial
 from versions import version
 
@@ -21,7 +22,7 @@ ROOT = os.path.dirname(os.path.dirname(os.path.realpath(__file__)))
 # Not the first one on the path: Debian's packages are for this one alone.
 PYTHON = "/usr/bin/python3"
 DOCUMENTS = ("README.md", "CHANGELOG.md", "SECURITY.md", "docs/C.md", "docs/PROGRAM.md")
-DOCUMENTS += ("docs/PROVED.md", "python/README.md", "LICENSE", "LICENSE-APACHE", "LICENSE-MIT")
+DOCUMENTS += ("docs/PROVED.md", "docs/PYTHON.md", "LICENSE", "LICENSE-APACHE", "LICENSE-MIT")
 EXAMPLES = ("c/hill.c", "c/hill.cpp")
 
 
@@ -48,6 +49,12 @@ def refuse_trial(folder):
         raise NotMade("tevasulim_is_proved says that the library is not proved")
 
 
+def refuse_old(library):
+    """Raises where a library was made of other sources than there are."""
+    if sum_in(library) != sum_of_library():
+        raise NotMade(f"{os.path.basename(library)} was made of other sources than there are now")
+
+
 def install(folder, source, prefix="", libdir="lib"):
     """Installs programs, library, headers and manual pages below a folder."""
     words = ["make", "-s", "-C", f"{ROOT}/c", "install", "install-programs", f"FROM={source}"]
@@ -60,8 +67,7 @@ def add_documents(folder):
     """Adds documents, examples and all licences."""
     os.makedirs(f"{folder}/examples")
     for path in DOCUMENTS:
-        name = "PYTHON.md" if path == "python/README.md" else os.path.basename(path)
-        shutil.copy(f"{ROOT}/{path}", f"{folder}/{name}")
+        shutil.copy(f"{ROOT}/{path}", folder)
     for path in EXAMPLES:
         shutil.copy(f"{ROOT}/{path}", f"{folder}/examples")
     write_licenses(f"{folder}/licenses")
@@ -129,6 +135,7 @@ def make(out, source, epoch):
     with tempfile.TemporaryDirectory() as room:
         install(room, source, "/usr", debian_packages.LIBDIR)
         library = f"{room}/usr/{debian_packages.LIBDIR}/libtevasulim.so.0"
+        refuse_old(library)
         wheel = write_python(out, library, epoch)
         add_documents(f"{room}/documents")
         debian_packages.write_all(out, room, wheel, epoch)

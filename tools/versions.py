@@ -15,6 +15,8 @@ WORDS = {
     "python/tevasulim/__init__.py": r'^__version__ = "([\d.]+)"$',
     "CITATION.cff": r"^version: ([\d.]+)$",
 }
+PAGES = ("c/man/mesh.1", "c/man/triangulate.1", "c/man/tevasulim.3", "python/tevasulim.1")
+WORDS.update({it: r'^\.TH .* "tevasulim ([\d.]+)"' for it in PAGES})
 ENTRY = r"^## {} \((\d{{4}}-\d\d-\d\d)\)$"
 
 

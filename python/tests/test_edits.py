@@ -210,7 +210,7 @@ class BrokenOff(unittest.TestCase):
         words = [sys.executable, os.path.realpath(__file__), "memory"]
         ended = subprocess.run(words, capture_output=True, text=True)
         self.assertEqual(ended.returncode, 0, ended.stderr)
-        self.assertGreater(int(ended.stdout), 10)
+        self.assertGreater(int(ended.stdout), 2)
 
     def test_a_fork_waits(self):
         points = DRAW.integers(-(2**29), 2**29, (30_000, 2))
@@ -231,12 +231,13 @@ class BrokenOff(unittest.TestCase):
 
 
 def refuse_memory():
-    """Insertions under 60 limits of memory: they are made, or nothing is."""
+    """Large insertions under limits of memory: they are made, or nothing is. (test_refused.py
+    refuses each allocation of small ones.)"""
     import resource
 
     most, refused = resource.RLIM_INFINITY, 0
     points = np.random.default_rng(1).integers(-(2**29), 2**29, (200_000, 2)).astype(np.int32)
-    for k in range(60):
+    for k in range(0, 60, 5):
         with Triangulation(points[:1000], [(0, 1)]) as tri:
             before = state(tri)
             with open("/proc/self/statm") as file:

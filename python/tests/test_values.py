@@ -150,6 +150,52 @@ class Values(unittest.TestCase):
             self.assertTrue(np.allclose(raster.values[there], wanted[there]))
             self.assertEqual(tri.grid(z, 0.5, (0, 0, 1, 1)).values.shape, (3, 3, 2))
 
+    def test_natural_neighbours_of_planes(self):
+        """A plane is met, and at a vertex and along the hull the values are those of the faces,
+        also where many points are on one circle."""
+        nodes = np.stack(np.meshgrid(np.arange(6) * 8, np.arange(6) * 8), -1).reshape(-1, 2)
+        steps = np.stack(np.meshgrid(np.arange(-1, 42), np.arange(-1, 42)), -1)
+        z = np.stack([nodes @ (3, -2) + 7, nodes @ (1, 1)], 1)
+        for walls in None, [(0, 35)]:
+            with Triangulation(nodes[::-1], walls) as tri:
+                tri.remove(tri.insert((11, 13)))
+                found = tri.interpolate(np.vstack([z[::-1], [[1e9, 1e9]]]), steps, "natural")
+                wanted = steps @ [[3, 1], [-2, 1]] + (7, 0)
+                inside = ((steps >= 0) & (steps <= 40)).all(-1)
+                self.assertTrue(np.allclose(found[inside], wanted[inside]))
+                self.assertTrue(np.isnan(found[~inside]).all())
+        values = DRAW.random(36)
+        with Triangulation(nodes) as tri:
+            self.assertEqual(tri.interpolate(values, nodes, "natural").tolist(), values.tolist())
+            border = [(k, 0) for k in range(41)] + [(40, k) for k in range(41)]
+            found = tri.interpolate(values, border, "natural")
+            self.assertTrue(np.allclose(found, tri.interpolate(values, border)))
+
+    @unittest.skipUnless(has("shapely"), "shapely is not installed")
+    def test_natural_neighbours_by_areas(self):
+        """Each vertex weighs as much as its cell loses to the point's own."""
+        nodes = np.stack(np.meshgrid(np.arange(5) * 4, np.arange(5) * 4), -1).reshape(-1, 2)
+        far = [-(2**20), -(2**20), 2**20, 2**20]
+        for points, asked in (
+            (UNIT[:60], DRAW.random((40, 2)) * 0.8 + 0.1),
+            (nodes, DRAW.integers(1, 16, (40, 2))),
+            (nodes, DRAW.random((40, 2)) * 16),
+        ):
+            values = DRAW.random(len(points))
+            with Triangulation(points) as tri:
+                found, cells = tri.interpolate(values, asked, "natural"), tri.cells(far)
+            for point, value in zip(asked, found):
+                with Triangulation(np.vstack([points, point[None]])) as more:
+                    number = int(more.representatives[-1])
+                    own = more.cells(far)[number]
+                if number < len(points):
+                    self.assertAlmostEqual(value, values[number])
+                    continue
+                lost = np.array([cells[k].intersection(own).area for k in range(len(points))])
+                if not np.isnan(value):
+                    self.assertAlmostEqual(value, lost @ values / lost.sum(), places=5)
+            self.assertLess(np.isnan(found).mean(), 0.2)
+
     def test_what_is_refused(self):
         with Triangulation(UNIT) as tri:
             for values in UNIT[:5, 0], 3, UNIT[:199]:

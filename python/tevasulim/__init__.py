@@ -7,6 +7,7 @@
 >>> sorted(hill.simplices[hill.find_simplex((1, 1))].tolist())
 [0, 1, 3]
 """
+from ._library import is_proved, library_version
 from .errors import *  # noqa: F401,F403
 from .errors import __all__ as _errors
 from .triangulation import (
@@ -29,6 +30,8 @@ __all__ = [
     "Raster",
     "Contour",
     "Voronoi",
+    "is_proved",
+    "library_version",
     *_errors,
 ]
 __version__ = "0.1.0"

@@ -24,6 +24,11 @@ Shapefile, GeoJSON, DXF, .. Lines and the borders of polygons stay edges. A tabl
 if there is a third column, heights."""
 STATUS = """Exit statuses: 0, all went well; 1, a file was refused or a package is missing, and
 standard error says why; 2, the words of the command are wrong; 130, it was interrupted."""
+# What -o takes.
+LAYER = "a layer (.gpkg, .geojson, ..)"
+FACES = """.csv or .npy: the rows of each face's corners; .npz: Triangulation.load reads it; a mesh
+(.obj, .stl, .vtk, .msh, .ply, ..); or a layer (.gpkg, .shp, .geojson, ..). Without it, a CSV to
+standard output"""
 
 
 def add_input(it: argparse.ArgumentParser) -> None:
@@ -46,7 +51,7 @@ def parser() -> argparse.ArgumentParser:
     texts: Any = {"description": ABOUT, "epilog": STATUS}
     it = argparse.ArgumentParser("tevasulim", formatter_class=form, **texts)
     proved = "proved" if library.is_proved() else "not proved: a trial build"
-    words = f"tevasulim {__version__}, library {library.LIBRARY.tevasulim_version()} ({proved})"
+    words = f"tevasulim {__version__}, library {library.library_version()} ({proved})"
     it.add_argument("--version", action="version", version=words)
     commands = it.add_subparsers(dest="command", required=True, metavar="COMMAND")
 
@@ -59,31 +64,36 @@ def parser() -> argparse.ArgumentParser:
         part.add_argument("-q", "--quiet", action="store_true", help="show no progress")
         return part
 
-    out = ".csv or .npy: the rows of each face's corners; .npz: Triangulation.load reads it; a mesh"
-    out += " (.obj, .stl, .vtk, .msh, .ply, ..); or a layer (.gpkg, .shp, .geojson, ..). Without"
-    out += " it, a CSV to standard output"
-    part = command("mesh", mesh, "Writes the faces.", out)
-    part.add_argument(
-        "--neighbors", action="store_true", help="three columns more: the face opposite each corner"
-    )
-    part.add_argument("--inside", action="store_true", help="only faces in a polygon, of a layer")
-    part = command("contours", contours, "Writes contour lines.", "a layer (.gpkg, .geojson, ..)")
-    part.add_argument("--interval", type=float, help="from level to level")
-    part.add_argument("--levels", help="levels with commas between, or about how many")
+    add_mesh(command("mesh", mesh, "Writes the faces.", FACES))
+    add_contours(command("contours", contours, "Writes contour lines.", LAYER))
     part = command("grid", grid, "Writes a raster of heights.", "a .tif or a .npy")
     part.add_argument("--step", type=float, required=True, help="how wide a cell is")
     command("plot", plot, "Draws the triangulation.", "a picture: .png, .svg, .pdf")
-    command("voronoi", voronoi, "Writes the Voronoi cells.", "a layer (.gpkg, .geojson, ..)")
-    part = command("tiles", tiles, "Triangulates more points than one process holds.", "a folder")
+    command("voronoi", voronoi, "Writes the Voronoi cells.", LAYER)
+    about = "Triangulates more points than one process holds."
+    add_tiles(command("tiles", tiles, about, "a folder"))
+    return it
+
+
+def add_mesh(part: argparse.ArgumentParser) -> None:
+    about = "three columns more: the face opposite each corner"
+    part.add_argument("--neighbors", action="store_true", help=about)
+    part.add_argument("--inside", action="store_true", help="only faces in a polygon, of a layer")
+
+
+def add_contours(part: argparse.ArgumentParser) -> None:
+    part.add_argument("--interval", type=float, help="from level to level")
+    part.add_argument("--levels", help="levels with commas between, or about how many")
+
+
+def add_tiles(part: argparse.ArgumentParser) -> None:
     about = "a .npy of whole numbers, of the shape (n, 2)"
     part.add_argument("inputs", metavar="IN", nargs="+", help=about)
     part.add_argument("--tile-size", type=int, default=1_000_000, help="points a tile, about")
     part.add_argument("--workers", type=int, default=1, help="how many processes")
     part.add_argument("--scheduler", help="the address of a Dask scheduler, in place of these")
-    part.add_argument(
-        "--segments", nargs="+", default=[], help="a .npy of pairs of numbers of points, shape (m, 2)"
-    )
-    return it
+    about = "a .npy of pairs of numbers of points, of the shape (m, 2)"
+    part.add_argument("--segments", nargs="+", default=[], help=about)
 
 
 # What is read.

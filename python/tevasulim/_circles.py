@@ -5,7 +5,8 @@ from __future__ import annotations
 from typing import Any, List, NamedTuple, Tuple
 
 import numpy as np
-from numpy.typing import NDArray
+
+from ._types import NDArray
 
 # Of floats of this size or below, whole numbers are exact.
 EXACT = 2.0**53

@@ -105,6 +105,15 @@ def places() -> Tuple[str, ...]:
     return (named,) if named else beside
 
 
+def in_words(version: int) -> str:
+    """A version as `tevasulim.__version__` has it.
+
+    >>> in_words(10203)
+    '1.2.3'
+    """
+    return f"{version // 10000}.{version // 100 % 100}.{version % 100}"
+
+
 def load() -> ctypes.CDLL:
     """The library with the types of its calls."""
     found = [place for place in places() if os.path.exists(place)]
@@ -113,16 +122,23 @@ def load() -> ctypes.CDLL:
         raise NoLibraryError(f"no {NAME}: looked for {looked}. {HOW}")
     try:
         library = ctypes.CDLL(found[0])
+        refuse_other(found[0], library.tevasulim_version())
         for name, types in CALLS.items():
             call = getattr(library, f"tevasulim_{name}")
             call.argtypes, call.restype = types, c_uint32
         library.tevasulim_close.restype = None
     except (OSError, AttributeError) as error:
         raise NoLibraryError(f"{found[0]} is not the library: {error}") from error
-    version = library.tevasulim_version()
-    if version // 10000 != VERSION // 10000 or version < VERSION:
-        raise NoLibraryError(f"{found[0]} has the version {version}; {VERSION} is needed")
     return library
+
+
+def refuse_other(place: str, version: int) -> None:
+    """Raises `NoLibraryError` where the library has a version that this package does not know."""
+    if version // 10000 != VERSION // 10000 or version < VERSION:
+        raise NoLibraryError(
+            f"tevasulim {in_words(VERSION)} needs a library of version {in_words(VERSION)}, or a "
+            f"later one of the same first number; {place} is of version {in_words(version)}"
+        )
 
 
 LIBRARY = load()
@@ -159,6 +175,15 @@ def error_of(status: int, index: Optional[int] = None) -> TevasulimError:
 def is_proved() -> bool:
     """Whether the library was proved as it was built; nothing is proved of a trial build."""
     return bool(LIBRARY.tevasulim_is_proved())
+
+
+def library_version() -> str:
+    """The version of the library: that of the package, or a later one of the same first number.
+
+    >>> library_version() >= "0.1.0"
+    True
+    """
+    return in_words(LIBRARY.tevasulim_version())
 
 
 def call(name: str, *words: Any) -> None:

@@ -46,7 +46,8 @@ def read_table(
                 # Of a table without rows numpy warns.
                 warnings.simplefilter("ignore", UserWarning)
                 found: NDArray[np.float64] = np.loadtxt(rows, **words)
-    except ValueError as error:
+    except (ValueError, IndexError) as error:
+        # An index error is how numpy before 1.23 tells that a row lacks a column.
         hint = "" if has_header else "; --header says that the first row has names"
         raise ValueError(f"{name}: {error}{hint}") from None
     return found if found.size else np.empty((0, len(places)))

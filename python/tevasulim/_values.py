@@ -6,15 +6,16 @@ from typing import Any, List, NamedTuple, Optional, Tuple
 import numpy as np
 
 from ._arrays import Floats
+from ._natural import natural
 from ._needs import needed
 from ._numbers import numbers_of, unmasked
 from ._queries import Queries
 from ._types import NDArray
 from ._walk import turns
 
-# So many points are looked up at once.
-AT_ONCE = 500_000
-METHODS = "linear", "mean", "nearest"
+# So many points are looked up at once; of natural neighbours, which take more memory, fewer.
+AT_ONCE, FEWER = 500_000, 50_000
+METHODS = "linear", "natural", "mean", "nearest"
 
 
 class Raster(NamedTuple):
@@ -53,8 +54,9 @@ class Values(Queries):
         xi : array_like of shape (.., 2)
             Where values are asked for.
         method : str
-            "linear": of the plane over the face's corners; "mean": the mean of the corners'; or
-            "nearest": that of the nearest point.
+            "linear": of the plane over the face's corners; "natural": of the natural neighbours by
+            Sibson, which is smooth but at the points, and asks the points alone beside constraints;
+            "mean": the mean of the corners'; or "nearest": that of the nearest point.
 
         Returns
         -------
@@ -75,8 +77,9 @@ class Values(Queries):
             heights = self._checked(values)
             flat = array.reshape(-1, 2)
             found = np.full((len(flat), *heights.shape[1:]), np.nan)
-            for begin in range(0, len(flat), AT_ONCE):
-                part = slice(begin, begin + AT_ONCE)
+            many = FEWER if method == "natural" else AT_ONCE
+            for begin in range(0, len(flat), many):
+                part = slice(begin, begin + many)
                 self._fill(heights, flat[part], method, found[part])
         return found.reshape(array.shape[:-1] + heights.shape[1:])[()]
 
@@ -88,16 +91,27 @@ class Values(Queries):
             is_there = (near >= 0) & ~np.isnan(points.astype(np.float64)).any(1)
             found[is_there] = heights[near[is_there]]
             return
-        faces = self._find(asked)
+        tri: Queries = self
+        if method == "natural" and self._has_kind:
+            tri = self._plain()
+            heights = heights[self._renamed(tri, np.arange(tri._size, dtype=np.int32))]
+        faces = tri._find(asked)
         rows = np.flatnonzero(faces >= 0)
-        corners = self.simplices[faces[rows]]
+        corners = tri.simplices[faces[rows]]
         if method == "mean":
             found[rows] = heights[corners].mean(1)
             return
-        rest = None if asked.rest is None else asked.rest[rows]
-        areas = turns(self._points[corners].astype(np.int64), asked.steps[rows], rest)
+        steps, rest = asked.steps[rows], None if asked.rest is None else asked.rest[rows]
+        areas = turns(tri._points[corners].astype(np.int64), steps, rest)
         parts = areas / areas.sum(1, keepdims=True)
         found[rows] = np.einsum("ij,ij...->i...", parts, heights[corners])
+        if method == "natural":
+            rest = np.zeros(steps.shape) if rest is None else rest
+            points = tri._points[: tri._size].astype(np.int64)
+            words = points, tri.simplices, tri.neighbors, steps.astype(np.int64), rest, faces[rows]
+            of = natural(*words)
+            found[rows[of.is_sure]] = 0
+            np.add.at(found, rows[of.rows], (of.weights * heights[of.vertices].T).T)
 
     def gradient(self, values: Any) -> Floats:
         """float64 array of shape (f, 2): for each face how much the plane over its corners rises a
