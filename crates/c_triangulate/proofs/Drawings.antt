@@ -1,20 +1,34 @@
 -- What one call makes of points and segments, put together from its steps.
 -- Lemmas: answered_within, one_more_named, unlisted_named, listed_within, listed_named,
--- whole_is_drawn.
+-- whole_is_drawn, first_of_fewer, memory_alone.
 use Rattle.std.proofs.Common.{◌≡◌, ◌≢◌, ◌<◌, ◌≤◌, ◌+◌, ◌∙◌, [], ◌∷◌, ℕ, zero, suc, List, length}
-use Rattle.std.proofs.Common.{drop, set, refl, sym, ap, subst, arith}
-use Rattle.std.specs.Prelude.{IsSomeAnd, None, Option, Some, slice_get}
-use Rattle.std.proofs.lemmas.Option.{slice_get_within}
+use Rattle.std.proofs.Common.{drop, map, set, take, refl, sym, ap, subst, arith}
+use Rattle.std.specs.Prelude.{◌*◌, ℤ, All, IsSomeAnd, None, Option, Some, slice_get}
+use Rattle.std.proofs.lemmas.List.{get_or-take, length-map, length-take-le}
+use Rattle.std.proofs.lemmas.List.Elements.{All-contains, All-get_or, All-map, All-nil}
+use Rattle.std.proofs.lemmas.Option.{get_or_from_slice_get, slice_get-get_or, slice_get_within}
+use Rattle.delaunay_edit.specs.half_edge_links.declared.room.TheConstants.{MAX_ELEMENTS}
+use Rattle.delaunay_edit.specs.plane.Tests.{InRange}
+use Rattle.delaunay_edit.specs.delaunay_core.declared.point.Point2.{Point2}
 use Rattle.delaunay_edit.specs.Constrained.{constraints_of}
 use Rattle.drawing_faces.specs.declared.drawn.DrawnMesh.{DrawnMesh}
+use Rattle.drawing_faces.specs.declared.edits.DrawnSegment.{DrawnSegment}
+use Rattle.drawing_faces.specs.declared.error.DrawingError.{DrawingError}
+use Rattle.drawing_faces.specs.declared.error.DrawingError.TheVariants as error
+use Rattle.drawing_faces.specs.Drawing.{RefusesDrawing, hole_refused, memory_refused}
+use Rattle.drawing_faces.specs.Drawing.{points_refused, segment_of_none, side_of_none}
+use Rattle.drawing_faces.specs.Names.{position}
+use Rattle.drawing_faces.specs.Refusals.{EndsAtPoints as HasEndsIn, RefusesPoints}
 use Rattle.c_calls.specs.declared.raw.RawFace.{RawFace}
 use Rattle.c_calls.specs.declared.raw.RawPoint.{RawPoint}
 use Rattle.c_calls.specs.declared.raw.RawSegment.{RawSegment}
 use Rattle.c_calls.specs.declared.statuses.TheConstants.{WELL, TOO_SHORT}
 use Rattle.c_calls.specs.Queries.{IsFaceEntry, ListsRawFaces}
-use Rattle.c_calls.specs.Written.{Answered, listed, too_long}
-use Rattle.c_triangulate.specs.Whole.{AllTaken, DrawsFaces, DrawsFirst, IsNamedFaceAt}
-use Rattle.c_triangulate.specs.Whole.{IsNamedOf, ListsNamedFaces, drawing_of, faces_drawn}
+use Rattle.c_calls.specs.declared.raw.RawSegment.{RawSegment}
+use Rattle.c_calls.specs.Written.{Answered, IsRawInRange, listed, too_long}
+use Rattle.c_triangulate.specs.Whole.{AllTaken, DrawsFaces, DrawsFirst, EndsAtPoints, FirstAre}
+use Rattle.c_triangulate.specs.Whole.{IsNamedFaceAt, IsNamedOf, ListsNamedFaces, MayDraw}
+use Rattle.c_triangulate.specs.Whole.{drawing_of, drawn_point, drawn_segment, faces_drawn}
 use Rattle.c_triangulate.specs.Whole.{named_face}
 use Rattle.c_calls.proofs.Writing.{one_more}
 
@@ -118,3 +132,54 @@ pub whole_is_drawn : (points : List RawPoint) (segments : List RawSegment) (know
 whole_is_drawn points segments known m status at was told old new within all first taken lists =
     let same : known ≡ length segments = omega (arith, within, all) in
     faces_drawn m (subst (λ (n : ℕ). DrawsFirst points segments n m) same first) taken lists
+
+-- ---- what may be refused
+-- all of a list are so, of which the first so many are
+all_first : {A : Type 0} (P : A → Type 0) (xs : List A) → FirstAre P xs (length xs) → All P xs
+all_first P xs first = λ k d within. subst (λ (o : Option _). IsSomeAnd o P)
+    (slice_get-get_or xs k d within) (first k within)
+
+-- the first so many are all that are taken of a list
+pub first_of_fewer : {A : Type 0} (P : A → Type 0) (xs : List A) (n : ℕ) → n ≤ length xs
+    → FirstAre P xs n → FirstAre P (take n xs) (length (take n xs))
+first_of_fewer P xs n within first = λ k below.
+    let less : k < n = omega (arith, below, length-take-le n xs within) in
+    let had = some_is P (slice_get xs k) (first k less) in
+    subst (λ (o : Option _). IsSomeAnd o P) (sym (slice_get-get_or (take n xs) k had.0 below
+    ∙ ap Some (get_or-take n xs k had.0 less ∙ get_or_from_slice_get xs k had.0 had.0 had.1)))
+    had.2
+
+module _ (points : List RawPoint) (segments : List RawSegment) (may : MayDraw points)
+    (ends : FirstAre (EndsAtPoints (length points)) segments (length segments)) where
+  in_range : All (λ p. InRange (position p)) (map drawn_point points)
+  in_range = All-map (λ p. InRange (position p)) drawn_point points
+      (all_first IsRawInRange points may.in_range)
+
+  have_ends : All (HasEndsIn (length (map drawn_point points))) (map drawn_segment segments)
+  have_ends = subst (λ (n : ℕ). All (HasEndsIn n) (map drawn_segment segments))
+      (sym (length-map points drawn_point))
+      (All-map (HasEndsIn (length points)) drawn_segment segments
+      (all_first (EndsAtPoints (length points)) segments ends))
+
+  of_points : (why : DrawingError) → RefusesPoints (map drawn_point points) 0 why
+      → why ≡ error.OutOfMemory
+  of_points error.TooLarge (i, first) = absurd (first.outside
+      (subst (λ (p : Point2 ℤ). InRange (position p))
+      (get_or_from_slice_get (map drawn_point points) i first.vertex first.vertex first.there)
+      (All-get_or (λ p. InRange (position p)) (map drawn_point points) i first.vertex
+      (slice_get_within (map drawn_point points) i first.vertex first.there) in_range)))
+  of_points error.TooMany (all, many) =
+      absurd (may.few (omega (arith, many, length-map points drawn_point)))
+  of_points error.OutOfMemory refused = refl
+  of_points why refused = absurd refused
+
+  -- memory alone may be, where points are in range and few enough, and segments have ends
+  pub memory_alone : (why : DrawingError)
+      → RefusesDrawing (map drawn_point points) (map drawn_segment segments) [] [] why
+      → why ≡ error.OutOfMemory
+  memory_alone why (points_refused refused) = of_points why refused
+  memory_alone why (segment_of_none is taken lacks) = absurd (lacks have_ends)
+  memory_alone why (hole_refused d refuses) = let there = refuses.there in absurd (cc)
+  memory_alone why (side_of_none is d in_holes are lacks) =
+      absurd (lacks (All-nil (HasEndsIn (length (map drawn_point points)))))
+  memory_alone why (memory_refused is) = is

@@ -1,7 +1,8 @@
 //! Points and segments in, faces out.
 ghost use Rattle.std.specs.Prelude.{◌≡◌, ◌↔◌, ◌*◌, ◌<◌, ◌≤◌, length, map, slice_index};
-ghost use Rattle.std.specs.Prelude.{IfOk, IsTrue, MatchOption};
-ghost use Rattle.c_triangulate.specs.Whole.{AreDrawn, DrawsFaces, EndsAtPoints, FirstAre};
+ghost use Rattle.std.specs.Prelude.{IfErr, IfOk, IsTrue, MatchOption};
+ghost use Rattle.drawing_faces.specs.declared.error.DrawingError.TheVariants.{OutOfMemory};
+ghost use Rattle.c_triangulate.specs.Whole.{AreDrawn, DrawsFaces, EndsAtPoints, FirstAre, MayDraw};
 ghost use Rattle.c_triangulate.specs.Whole.{IsFirstNot, IsNamedOf, ListsNamedFaces, Triangulates};
 ghost use Rattle.c_triangulate.specs.Whole.{drawn_point, drawn_segment, named_face};
 ghost use Rattle.c_calls.specs.Written.{Answered, IsRawInRange};
@@ -88,13 +89,17 @@ fn drawn_segments(segments: &[RawSegment], alloc: Global) -> Result<Vec<DrawnSeg
         .collect(alloc)
 }
 
-// The drawing of points and segments between them.
+// The drawing of points and segments between them, where nothing is refused but memory.
 fn drawn_mesh(
     points: &[RawPoint],
     segments: &[RawSegment],
     alloc: Global,
 ) -> Result<DrawnMesh, DrawingError>
-    ensures { IfOk result (AreDrawn points.now segments.now) }
+    requires may { MayDraw points.now }
+    requires ends { FirstAre (EndsAtPoints (length points.now)) segments.now
+        (length segments.now) }
+    ensures draws { IfOk result (AreDrawn points.now segments.now) }
+    ensures memory { IfErr result (λ error. error ≡ OutOfMemory) }
 {
     let points = drawn_points(points, alloc)?;
     let segments = drawn_segments(segments, alloc)?;
@@ -165,6 +170,7 @@ fn draw(
     at: &mut usize,
     alloc: Global,
 ) -> u32
+    requires { MayDraw points.now }
     ensures { DrawsFaces points.now segments.now result at.new length.old length.new faces.old
         faces.new }
 {

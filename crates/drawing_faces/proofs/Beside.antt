@@ -4,9 +4,9 @@
 use Rattle.std.proofs.Common.{◌≡◌, ◌+◌, ◌<◌, ◌≤◌, [], ◌∷◌, ◌++◌, ◌∙◌}
 use Rattle.std.proofs.Common.{ℕ, List, length, map, take, get_or, Some, None, refl, sym, ap, subst}
 use Rattle.std.proofs.Common.{append-nil, append_assoc}
-use Rattle.std.specs.Prelude.{ℤ, All, slice_index}
+use Rattle.std.specs.Prelude.{ℤ, All}
 use Rattle.std.specs.Borrow.{Bor}
-use Rattle.std.proofs.lemmas.List.{get_or_read, map_more}
+use Rattle.std.proofs.lemmas.List.{map_more}
 use Rattle.std.proofs.lemmas.List.Elements.{All-append, All-nil}
 use Rattle.delaunay_interface.specs.half_edge_dcel.Contents.{Contents}
 use Rattle.delaunay_interface.specs.plane.Fraction.{Point}
@@ -193,28 +193,16 @@ module _ {D U F : Type 0} (s : State (Point2 ℤ) D U F) where
   beside_within sides old new adds within = subst (All (λ f. f ≤ length s.faces)) (sym adds.faces)
       (All-append (λ f. f ≤ length s.faces) old adds.here within adds.within)
 
-  module _ (vertices : List ℕ) (sides : List DrawnSegment) (i : ℕ) (d : DrawnSegment) (from to : ℕ)
-      (is_from : from ≡ get_or vertices (get_or sides i d).from from)
-      (is_to : to ≡ get_or vertices (get_or sides i d).to to)
-      (from_in : (get_or sides i d).from < length vertices)
-      (to_in : (get_or sides i d).to < length vertices) where
-    -- it is the side at this place
-    side_at : (mid new : List ℕ) → AddsBeside s ((from, to) ∷ []) mid new
-        → AddsBeside s (ends_of vertices (get_or sides i d) ∷ []) mid new
-    side_at mid new here =
-        subst (λ (k : ℕ).
-        AddsBeside s ((k, slice_index vertices (get_or sides i d).to) ∷ []) mid new)
-        (get_or_read vertices (get_or sides i d).from from from_in is_from 0)
-        (subst (λ (k : ℕ). AddsBeside s ((from, k) ∷ []) mid new)
-        (get_or_read vertices (get_or sides i d).to to to_in is_to 0) here)
-
-    -- the next side
-    pub sides_next : (old mid new : List ℕ) → i < length sides
-        → AddsBeside s (map (ends_of vertices) (take i sides)) old mid
-        → AddsBeside s ((from, to) ∷ []) mid new
-        → AddsBeside s (map (ends_of vertices) (take (i + 1) sides)) old new
-    sides_next old mid new within before here =
-        subst (λ (es : List (ℕ × ℕ)). AddsBeside s es old new)
-        (sym (map_more (ends_of vertices) sides i d within))
-        (beside_more (map (ends_of vertices) (take i sides))
-        (ends_of vertices (get_or sides i d) ∷ []) old mid new before (side_at mid new here))
+  -- the next side
+  pub sides_next : (vertices : List ℕ) (sides : List DrawnSegment) (i : ℕ) (d : DrawnSegment)
+      (e : ℕ × ℕ) (old mid new : List ℕ) → i < length sides
+      → e ≡ ends_of vertices (get_or sides i d)
+      → AddsBeside s (map (ends_of vertices) (take i sides)) old mid
+      → AddsBeside s (e ∷ []) mid new
+      → AddsBeside s (map (ends_of vertices) (take (i + 1) sides)) old new
+  sides_next vertices sides i d e old mid new within is before here =
+      subst (λ (es : List (ℕ × ℕ)). AddsBeside s es old new)
+      (sym (map_more (ends_of vertices) sides i d within))
+      (beside_more (map (ends_of vertices) (take i sides))
+      (ends_of vertices (get_or sides i d) ∷ []) old mid new before
+      (subst (λ (k : ℕ × ℕ). AddsBeside s (k ∷ []) mid new) is here))

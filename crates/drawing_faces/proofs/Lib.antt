@@ -2,6 +2,7 @@
 pub mod Named
 pub mod Firsts
 pub mod Taking
+pub mod Refusing
 -- Faces that are reached past no constraint, and those that are kept.
 pub mod MeshFaces
 pub mod Listing

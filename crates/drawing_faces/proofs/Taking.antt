@@ -1,8 +1,10 @@
 -- Segments that are joined one after another: which are taken, and what they join.
--- Lemmas: taken_in_turn, same_vertices, added_segments.
-use Rattle.std.proofs.Common.{◌≡◌, ◌⊎◌, ◌↔◌, [], ◌∷◌, ◌∙◌}
-use Rattle.std.proofs.Common.{ℕ, suc, List, map, refl, sym, ap, subst, inl, inr, arith}
+-- Lemmas: joining_more, taken_in_turn, same_vertices, added_segments.
+use Rattle.std.proofs.Common.{◌≡◌, ◌⊎◌, ◌↔◌, ◌+◌, ◌<◌, [], ◌∷◌, ◌++◌, ◌∙◌}
+use Rattle.std.proofs.Common.{ℕ, suc, List, length, map, take, get_or, refl, sym, ap, subst}
+use Rattle.std.proofs.Common.{inl, inr, arith}
 use Rattle.std.specs.Prelude.{Bool, Result, Ok, Err, IfOk, OnOk, All}
+use Rattle.std.proofs.lemmas.List.{map_more}
 use Rattle.delaunay_interface.specs.plane.Fraction.{Point}
 use Rattle.delaunay_interface.specs.plane.Crossing.{Cross}
 use Rattle.delaunay_interface.specs.plane.Pairs.{Joins, place}
@@ -11,6 +13,7 @@ use Rattle.delaunay_interface.specs.delaunay_legalization.Constraints.{constrain
 use Rattle.delaunay_interface.specs.delaunay_legalization.Constraints.{points_and_constraints_by}
 use Rattle.delaunay_interface.specs.delaunay_legalization.State.{State}
 use Rattle.delaunay_journal.specs.declared.edit.Edit.{Edit}
+use Rattle.delaunay_journal.specs.declared.edit.Edit.TheVariants.{AddConstraint}
 use Rattle.delaunay_journal.specs.declared.edit.Outcome.{Outcome}
 use Rattle.delaunay_journal.specs.declared.edit.Outcome.TheVariants.{Added, Refused}
 use Rattle.delaunay_journal.specs.declared.edit.Refusal.TheVariants.{Conflict}
@@ -38,6 +41,19 @@ first_two (inr (inr c)) = inr c
 only_first : {A : Type 0} → A ⊎ ⊥ → A
 only_first (inl a) = a
 only_first (inr e) = absurd e
+
+-- one more edit that joins the ends of a segment
+pub joining_more : {V : Type 0} (vertices : List ℕ) (segments : List DrawnSegment) (i : ℕ)
+    (d : DrawnSegment) (e : ℕ × ℕ) (before after : List (Edit V)) → i < length segments
+    → e ≡ ends_of vertices (get_or segments i d)
+    → before ≡ map (joining_of vertices) (take i segments)
+    → after ≡ before ++ AddConstraint e.0 e.1 ∷ []
+    → after ≡ map (joining_of vertices) (take (i + 1) segments)
+joining_more {V} vertices segments i d e before after within ends are more = more
+    ∙ ap (λ (xs : List (Edit V)). xs ++ AddConstraint e.0 e.1 ∷ []) are
+    ∙ ap (λ (k : ℕ × ℕ). map (joining_of vertices) (take i segments)
+    ++ AddConstraint k.0 k.1 ∷ []) ends
+    ∙ sym (map_more (joining_of vertices) segments i d within)
 
 module _ {V D U F : Type 0} (position : V → Point) (constraints : List U → List ℕ)
     (marking : Marking U) (vertices : List ℕ) (points : List Point) where

@@ -1,15 +1,26 @@
 -- From points and segments to faces: what the steps of a drawing's triangulation give together.
--- Lemmas: named, handled, taken_first, joined_first.
+-- Lemmas: drawing_of, segments_refused, sides_refused.
 use Rattle.std.proofs.Common.{◌≡◌, ◌⊎◌, ◌↔◌, [], ◌∙◌}
-use Rattle.std.proofs.Common.{ℕ, List, map, sym, subst, inl, inr, arith}
-use Rattle.std.specs.Prelude.{ℤ, Bool}
+use Rattle.std.proofs.Common.{ℕ, List, length, map, sym, ap, subst, inl, inr, refl, arith}
+use Rattle.std.specs.Prelude.{ℤ, Bool, All}
 use Rattle.delaunay_interface.specs.plane.Pairs.{Joins}
-use Rattle.delaunay_bulk.specs.Bulk.{HaveHandles}
 use Rattle.delaunay_interface.specs.delaunay_core.declared.point.Point2.{Point2}
+use Rattle.delaunay_interface.specs.delaunay_legalization.declared.cdt_edge.CdtEdge.{CdtEdge}
 use Rattle.delaunay_interface.specs.delaunay_legalization.Constraints.{constraints_by}
 use Rattle.delaunay_interface.specs.delaunay_legalization.State.{State}
+use Rattle.delaunay_interface.specs.delaunay_edit.Constrained.{constraint_edges, constraints_of}
+use Rattle.delaunay_interface.specs.delaunay_edit.Headline.{IsDelaunay}
+use Rattle.delaunay_bulk.specs.Bulk.{HaveHandles}
+use Rattle.drawing_faces.specs.declared.edits.DrawnSegment.{DrawnSegment}
+use Rattle.drawing_faces.specs.declared.error.DrawingError.{DrawingError}
+use Rattle.drawing_faces.specs.declared.error.DrawingError.TheVariants.{NoPoint, OutOfMemory}
+use Rattle.drawing_faces.specs.Drawing.{HasDrawing, IsDrawingOf, RefusesDrawing, ends_of}
+use Rattle.drawing_faces.specs.Drawing.{memory_refused, segment_of_none, side_of_none}
+use Rattle.drawing_faces.specs.Holes.{AreIn}
 use Rattle.drawing_faces.specs.Names.{NamesVertices, position}
+use Rattle.drawing_faces.specs.Refusals.{HasEnds, MayTake, RefusesEnds}
 use Rattle.drawing_faces.specs.Segments.{AddsSegments, AreOnTaken, AreTaken}
+use Rattle.drawing_faces.proofs.Refusing.{all_end_at_points, not_all_have_ends}
 
 module _ {D U F : Type 0} (constraints : List U → List ℕ) (points : List (Point2 ℤ))
     (handles names : List ℕ) (segments : List (ℕ × ℕ)) (taken : List Bool)
@@ -55,3 +66,59 @@ module _ {D U F : Type 0} (constraints : List U → List ℕ) (points : List (Po
             ((adds.joined a b).0 j)),
         λ on. (adds.joined a b).1 (inr on),
       )
+
+module _ {D U F : Type 0} (points : List (Point2 ℤ)) (handles names : List ℕ)
+    (segments : List DrawnSegment) (taken : List Bool) (plain : List (Point2 ℤ))
+    (old new : State (Point2 ℤ) D (CdtEdge U) F) (may : MayTake points 0)
+    (have : HaveHandles position points handles plain)
+    (name : NamesVertices points (map position plain) names) (same : old.vertices ≡ plain) where
+  -- the triangulation of points and segments, from what its steps say
+  pub drawing_of : constraints_of old ≡ []
+      → AddsSegments position constraint_edges (map (ends_of handles) segments) taken old new
+      → All (HasEnds handles (length old.vertices)) segments
+      → IsDelaunay position constraint_edges new → IsDrawingOf points segments handles names taken new
+  drawing_of none adds ends headline =
+      let pairs = map (ends_of handles) segments in
+      record {
+        may_take = may;
+        ends = all_end_at_points points handles plain have segments
+            (subst (λ (vs : List (Point2 ℤ)). All (HasEnds handles (length vs)) segments) same
+            ends);
+        delaunay = headline;
+        vertices = named constraint_edges points handles names pairs taken plain old new same none
+            adds name;
+        handles_are = handled constraint_edges points handles names pairs taken plain old new same
+            none adds have;
+        taken_are = taken_first constraint_edges points handles names pairs taken plain old new
+            same none adds;
+        joined = joined_first constraint_edges points handles names pairs taken plain old new same
+            none adds;
+      }
+
+-- a segment has no such ends, or memory was refused
+pub segments_refused : (points : List (Point2 ℤ)) (handles : List ℕ) (segments : List DrawnSegment)
+    (holes : List (Point2 ℤ)) (sides : List DrawnSegment) (vertices : List (Point2 ℤ))
+    → MayTake points 0 → HaveHandles position points handles vertices → (why : DrawingError)
+    → RefusesEnds handles (length vertices) segments why
+    → RefusesDrawing points segments holes sides why
+segments_refused points handles segments holes sides vertices may have NoPoint lacks =
+    segment_of_none refl may (not_all_have_ends points handles vertices have segments lacks)
+segments_refused points handles segments holes sides vertices may have OutOfMemory refused =
+    memory_refused refl
+segments_refused points handles segments holes sides vertices may have why refused = absurd refused
+
+-- a side has no such ends, or memory was refused
+pub sides_refused : (points : List (Point2 ℤ)) (segments : List DrawnSegment)
+    (holes : List (Point2 ℤ)) (sides : List DrawnSegment) (handles : List ℕ)
+    (d : HasDrawing points segments) (in_holes : List ℕ)
+    → handles ≡ d.handles
+    → AreIn d.state (constraint_edges d.state.undirected) holes in_holes
+    → (why : DrawingError) → RefusesEnds handles (length d.state.vertices) sides why
+    → RefusesDrawing points segments holes sides why
+sides_refused points segments holes sides handles d in_holes same are NoPoint lacks =
+    side_of_none refl d in_holes are
+    (not_all_have_ends points d.handles d.state.vertices d.drawing.handles_are sides
+    (subst (λ (hs : List ℕ). ¬ All (HasEnds hs (length d.state.vertices)) sides) same lacks))
+sides_refused points segments holes sides handles d in_holes same are OutOfMemory refused =
+    memory_refused refl
+sides_refused points segments holes sides handles d in_holes same are why refused = absurd refused

@@ -1,12 +1,13 @@
 -- The triangulation of a drawing.
-use Rattle.std.specs.Prelude.{◌≡◌, ◌↔◌, [], ◌∷◌, ◌++◌, ℕ, ℤ, Bool, true, false, List, map}
-use Rattle.std.specs.Prelude.{slice_index, if◌then◌else◌, nat_eq}
+use Rattle.std.specs.Prelude.{◌≡◌, ◌↔◌, [], ◌∷◌, ◌++◌, ℕ, ℤ, Bool, true, false, List, length, map}
+use Rattle.std.specs.Prelude.{All, slice_index, if◌then◌else◌, nat_eq}
 use Rattle.delaunay_interface.specs.half_edge_links.Mesh.{Mesh, face_edge}
 use Rattle.delaunay_interface.specs.half_edge_links.Triangles.{Triangle, triangle_at}
 use Rattle.delaunay_interface.specs.plane.Pairs.{Joins}
 use Rattle.delaunay_interface.specs.plane.Tiling.{Face, face}
 use Rattle.delaunay_interface.specs.delaunay_core.declared.point.Point2.{Point2}
-use Rattle.delaunay_interface.specs.delaunay_legalization.State.{triangulation_of}
+use Rattle.delaunay_interface.specs.delaunay_legalization.declared.cdt_edge.CdtEdge.{CdtEdge}
+use Rattle.delaunay_interface.specs.delaunay_legalization.State.{State, triangulation_of}
 use Rattle.delaunay_interface.specs.delaunay_edit.Constrained.{constraint_edges, constraints_of}
 use Rattle.delaunay_interface.specs.delaunay_edit.Headline.{IsDelaunay}
 use Rattle.delaunay_bulk.specs.Bulk.{HaveHandles}
@@ -15,13 +16,17 @@ use Rattle.delaunay_journal.specs.declared.edit.Edit.TheVariants.{AddConstraint}
 use Rattle.delaunay_journal.specs.declared.edit.Outcome.{Outcome}
 use Rattle.delaunay_journal.specs.declared.edit.Outcome.TheVariants.{Added, Refused}
 use Rattle.delaunay_journal.specs.declared.edit.Refusal.TheVariants.{Conflict}
+use Rattle.drawing_faces.specs.declared.error.DrawingError.{DrawingError}
+use Rattle.drawing_faces.specs.declared.error.DrawingError.TheVariants.{NoPoint}
+use Rattle.drawing_faces.specs.declared.error.DrawingError.TheVariants.{OutOfMemory}
 use Rattle.drawing_faces.specs.declared.edits.DrawnSegment.{DrawnSegment}
 use Rattle.drawing_faces.specs.declared.faces.FaceCorners.{FaceCorners}
 use Rattle.drawing_faces.specs.declared.faces.Kept.{Kept}
 use Rattle.drawing_faces.specs.declared.drawn.DrawnMesh.{DrawnMesh}
-use Rattle.drawing_faces.specs.Holes.{AreIn}
+use Rattle.drawing_faces.specs.Holes.{AreIn, RefusesHoles}
 use Rattle.drawing_faces.specs.Kept.{AreKept, IsLeftOut}
 use Rattle.drawing_faces.specs.Names.{NamesVertices, places_of, position}
+use Rattle.drawing_faces.specs.Refusals.{EndsAtPoints, MayTake, RefusesPoints}
 use Rattle.drawing_faces.specs.Segments.{AreOnTaken, AreTaken}
 use Rattle.drawing_faces.specs.Sides.{AreBeside}
 
@@ -63,23 +68,31 @@ IsDecided (Added made) = Unit {0}
 IsDecided (Refused Conflict) = Unit {0}
 IsDecided o = ⊥
 
--- the constrained Delaunay triangulation of these points, with the constraints that the segments
--- make which were taken; its faces that are kept, each once, by the places of their corners. Faces
+-- this is the constrained Delaunay triangulation of these points, whose vertices have these handles
+-- and names, with the constraints that the segments make which were taken
+pub record IsDrawingOf {D U F : Type 0} (points : List (Point2 ℤ)) (segments : List DrawnSegment)
+    (handles names : List ℕ) (taken : List Bool) (s : State (Point2 ℤ) D (CdtEdge U) F) : Type 0
+  where
+    pub may_take : MayTake points 0
+    pub ends : All (EndsAtPoints (length points)) segments
+    pub delaunay : IsDelaunay position constraint_edges s
+    pub vertices : NamesVertices points (map position s.vertices) names
+    pub handles_are : HaveHandles position points handles s.vertices
+    pub taken_are : AreTaken position (map position s.vertices) (Joins [])
+        (map (ends_of handles) segments) taken
+    pub joined : (a b : ℕ) → Joins (constraints_of s) a b
+        ↔ AreOnTaken position (map position s.vertices) (map (ends_of handles) segments) taken a b
+
+-- such a triangulation; its faces that are kept, each once, by the places of their corners. Faces
 -- in holes are those that a point of a hole is in, and those on the left of a hole's side
 pub record IsDrawn (points : List (Point2 ℤ)) (segments : List DrawnSegment)
     (holes : List (Point2 ℤ)) (sides : List DrawnSegment) (kept : Kept) (m : DrawnMesh) :
     Type 0 where
-  pub delaunay : IsDelaunay position constraint_edges m.site
-  pub vertices : NamesVertices points (map position m.site.vertices) m.vertices.items
   pub handles : List ℕ
-  pub handles_are : HaveHandles position points handles m.site.vertices
-  pub taken : AreTaken position (map position m.site.vertices) (Joins [])
-      (map (ends_of handles) segments) m.taken.items
-  pub joined : (a b : ℕ) → Joins (constraints_of m.site) a b
-      ↔ AreOnTaken position (map position m.site.vertices) (map (ends_of handles) segments)
-      m.taken.items a b
+  pub drawing : IsDrawingOf points segments handles m.vertices.items m.taken.items m.site
   pub in_holes : List ℕ
-  pub in_holes_are : AreIn m.site holes in_holes
+  pub in_holes_are : AreIn m.site (constraint_edges m.site.undirected) holes in_holes
+  pub side_ends : All (EndsAtPoints (length points)) sides
   pub beside : List ℕ
   pub beside_are : AreBeside m.site (map (ends_of handles) sides) beside
   pub faces : List Face
@@ -87,3 +100,31 @@ pub record IsDrawn (points : List (Point2 ℤ)) (segments : List DrawnSegment)
       (IsLeftOut kept m.site.mesh (constraint_edges m.site.undirected) (in_holes ++ beside)) 1
       (triangulation_of position m.site).faces faces
   pub places : m.faces.items ≡ map (places_of m.vertices.items) faces
+
+-- some triangulation of these points and segments. Where its vertices and constraints lie depends
+-- on these alone
+pub record HasDrawing (points : List (Point2 ℤ)) (segments : List DrawnSegment) : Type 0 where
+  pub handles : List ℕ
+  pub names : List ℕ
+  pub taken : List Bool
+  pub state : State (Point2 ℤ) (Unit {0}) (CdtEdge (Unit {0})) (Unit {0})
+  pub drawing : IsDrawingOf points segments handles names taken state
+
+-- a drawing is refused for this. Points, segments, points in holes and sides of holes are looked at
+-- in this order, and each case says that all before it is as it should be, as `IsDrawn` says of the
+-- whole. So one answer is right, but that memory may be refused at any step
+pub data RefusesDrawing (points : List (Point2 ℤ)) (segments : List DrawnSegment)
+    (holes : List (Point2 ℤ)) (sides : List DrawnSegment) (error : DrawingError) : Type 0 where
+  points_refused : RefusesPoints points 0 error
+      → RefusesDrawing points segments holes sides error
+  segment_of_none : error ≡ NoPoint → MayTake points 0
+      → ¬ All (EndsAtPoints (length points)) segments
+      → RefusesDrawing points segments holes sides error
+  hole_refused : (d : HasDrawing points segments)
+      → RefusesHoles d.state (constraint_edges d.state.undirected) holes error
+      → RefusesDrawing points segments holes sides error
+  side_of_none : error ≡ NoPoint → (d : HasDrawing points segments) (in_holes : List ℕ)
+      → AreIn d.state (constraint_edges d.state.undirected) holes in_holes
+      → ¬ All (EndsAtPoints (length points)) sides
+      → RefusesDrawing points segments holes sides error
+  memory_refused : error ≡ OutOfMemory → RefusesDrawing points segments holes sides error

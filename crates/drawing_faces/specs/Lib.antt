@@ -1,4 +1,5 @@
 pub mod Names
+pub mod Refusals
 pub mod Segments
 pub mod Kept
 pub mod Flood

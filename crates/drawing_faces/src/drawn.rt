@@ -1,9 +1,11 @@
 //! The triangulation of a drawing, from its points and segments to the faces that are kept.
-ghost use Rattle.std.specs.Prelude.{◌≡◌, [], map, IfOk};
+ghost use Rattle.std.specs.Prelude.{◌≡◌, [], map, IfErr, IfOk, OnOk};
 ghost use Rattle.delaunay_interface.specs.delaunay_edit.Constrained.{constraints_of};
 ghost use Rattle.delaunay_bulk.specs.Bulk.{HaveHandles};
+ghost use Rattle.drawing_faces.specs.declared.error.DrawingError.TheVariants.{OutOfMemory};
 ghost use Rattle.drawing_faces.specs.Names.{NamesVertices, position};
-ghost use Rattle.drawing_faces.specs.Drawing.{IsDrawn};
+ghost use Rattle.drawing_faces.specs.Refusals.{MayTake, RefusesPoints};
+ghost use Rattle.drawing_faces.specs.Drawing.{IsDrawn, RefusesDrawing};
 
 use crate::edits::{DrawnSegment, add_segments, insert_points};
 use crate::error::DrawingError;
@@ -44,13 +46,16 @@ pub struct DrawnMesh {
     pub faces: Vec<[u32; 3]>,
 }
 
-/// Triangulates points. It gives `TooLarge` where a coordinate passes 2^29, `TooMany` where there
-/// are too many for the indexes of a mesh, and `OutOfMemory`.
+/// Triangulates points. It gives `TooLarge` exactly where a coordinate passes 2^29, else `TooMany`
+/// exactly where six times their number passes `MAX_ELEMENTS`; but `OutOfMemory` where memory was
+/// refused, at any step.
 pub fn place_points(points: &[Point2<i32>], alloc: Global) -> Result<PlacedPoints, DrawingError>
     ensures handles { IfOk result
         (λ p. HaveHandles position points.now p.handles.items p.plain.vertices) }
     ensures vertices { IfOk result
         (λ p. NamesVertices points.now (map position p.plain.vertices) p.vertices.items) }
+    ensures may_take { OnOk result (MayTake points.now 0) }
+    ensures refuses { IfErr result (RefusesPoints points.now 0) }
 {
     let mut plain = Plain::new(alloc);
     let handles = insert_points(&mut plain, points, alloc)?;
@@ -67,6 +72,7 @@ pub fn place_points(points: &[Point2<i32>], alloc: Global) -> Result<PlacedPoint
 fn constrained(plain: Plain) -> Result<Site, DrawingError>
     ensures vertices { IfOk result (λ s. s.vertices ≡ plain.vertices) }
     ensures none { IfOk result (λ s. constraints_of s ≡ []) }
+    ensures memory { IfErr result (λ error. error ≡ OutOfMemory) }
 {
     match Site::from_delaunay(plain) {
         Ok(site) => Ok(site),
@@ -78,10 +84,14 @@ fn constrained(plain: Plain) -> Result<Site, DrawingError>
 /// constraints along each segment that no constraint before it crosses. Segments have their ends
 /// by the places of points in the list. Where only the inside is kept, faces that a way from a
 /// point in a hole reaches are left out, too, and those that a way from the left of a hole's side
-/// reaches. It gives `TooLarge` where a coordinate passes 2^29, `TooMany` where there are too many
-/// points for the indexes of a mesh, `NoPoint` where a segment or a side ends at none,
-/// `HoleTooLarge`, `HoleOnSegment` or `HoleInNoFace` where a point in a hole is out of range, on a
-/// constraint, or on a vertex or in no triangulation, and `OutOfMemory`.
+/// reaches.
+///
+/// The first of these that applies decides, and gives its error. A coordinate of a point passes
+/// 2^29: `TooLarge`. Six times the number of points passes `MAX_ELEMENTS`: `TooMany`. A segment
+/// ends at no point: `NoPoint`. A point in a hole, the first such in their list, is out of range,
+/// within a constraint, or on a vertex or in no triangulation: `HoleTooLarge`, `HoleOnSegment` or
+/// `HoleInNoFace`, with its place. A side ends at no point: `NoPoint`. None of them comes
+/// otherwise. Where memory was refused, at any step, it gives `OutOfMemory`.
 pub fn triangulate_drawing(
     points: &[Point2<i32>],
     segments: &[DrawnSegment],
@@ -90,7 +100,8 @@ pub fn triangulate_drawing(
     kept: Kept,
     alloc: Global,
 ) -> Result<DrawnMesh, DrawingError>
-    ensures { IfOk result (IsDrawn points.now segments.now holes.now sides.now kept) }
+    ensures draws { IfOk result (IsDrawn points.now segments.now holes.now sides.now kept) }
+    ensures refuses { IfErr result (RefusesDrawing points.now segments.now holes.now sides.now) }
 {
     let placed = place_points(points, alloc)?;
     let PlacedPoints {

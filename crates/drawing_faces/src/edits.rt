@@ -1,8 +1,10 @@
 //! Points that are inserted, and segments between them that become constraints.
-ghost use Rattle.std.specs.Prelude.{◌≡◌, All, map, IfOk, OnOk};
+ghost use Rattle.std.specs.Prelude.{◌≡◌, All, length, map, IfErr, IfOk, MatchOption, OnOk};
 ghost use Rattle.delaunay_interface.specs.delaunay_edit.Headline.{IsDelaunay};
 ghost use Rattle.delaunay_bulk.specs.Bulk.{InsertsAll};
+ghost use Rattle.drawing_faces.specs.declared.error.DrawingError.TheVariants.{OutOfMemory};
 ghost use Rattle.drawing_faces.specs.Names.{position};
+ghost use Rattle.drawing_faces.specs.Refusals.{HasEnds, MayTake, RefusesEnds, RefusesPoints};
 ghost use Rattle.drawing_faces.specs.Segments.{AddsSegments};
 ghost use Rattle.drawing_faces.specs.Drawing.{IsDecided, ends_of, is_taken, joining_of};
 
@@ -30,7 +32,10 @@ fn copies(points: &[Point2<i32>], alloc: Global) -> Result<Vec<Point2<i32>>, All
 }
 
 /// Inserts all points and gives the vertex of each, in the order of the list: points at one
-/// position have one vertex. It gives an error where one was refused; others may stand then.
+/// position have one vertex. It gives `TooLarge` exactly where a coordinate passes 2^29, else
+/// `TooMany` exactly where six times the number of vertices with that of the points passes
+/// `MAX_ELEMENTS`; but `OutOfMemory` where memory was refused, at any step: then some points may be
+/// inserted.
 pub fn insert_points<T: Triangulation<Vertex = Point2<i32>>>(
     site: &mut T,
     points: &[Point2<i32>],
@@ -38,44 +43,73 @@ pub fn insert_points<T: Triangulation<Vertex = Point2<i32>>>(
 ) -> Result<Vec<FixedVertexHandle>, DrawingError>
     ensures inserts { IfOk result (λ vertices. InsertsAll position T.Constraints.constraints
         points.now vertices.items (T.state site.old) (T.state site.new)) }
+    ensures may_take { OnOk result (MayTake points.now (length (T.state site.old).vertices)) }
+    ensures refuses { IfErr result
+        (RefusesPoints points.now (length (T.state site.old).vertices)) }
     ensures headline { IsDelaunay position T.Constraints.constraints (T.state site.new) }
 {
     site.recall_invariant();
     let values = copies(points, alloc)?;
     let vertices = site.insert_all(values, &ExactTests)?;
+    site.recall_invariant();
     Ok(vertices)
 }
 
-/// The edits that join the ends of segments, by the vertices of the points.
+/// The vertices at the ends of a segment, if it has such: among so many.
+pub(crate) fn ends_among(
+    segment: DrawnSegment,
+    vertices: &[FixedVertexHandle],
+    count: usize,
+) -> Option<(FixedVertexHandle, FixedVertexHandle)>
+    ensures { MatchOption result (¬ HasEnds vertices.now count segment)
+        (λ ends. HasEnds vertices.now count segment × (ends ≡ ends_of vertices.now segment)) }
+{
+    let (from, to) = (segment.from as usize, segment.to as usize);
+    if from >= vertices.len() || to >= vertices.len() {
+        return None;
+    }
+    let (from, to) = (vertices[from], vertices[to]);
+    if from.index() as usize >= count || to.index() as usize >= count {
+        return None;
+    }
+    Some((from, to))
+}
+
+/// The edits that join the ends of segments, by the vertices of the points, of which there are so
+/// many: it gives `NoPoint` where a segment has no such ends.
 fn joinings(
     segments: &[DrawnSegment],
     vertices: &[FixedVertexHandle],
+    count: usize,
     alloc: Global,
 ) -> Result<Vec<Edit<Point2<i32>>>, DrawingError>
-    ensures { IfOk result (λ edits. edits.items ≡ map (joining_of vertices.now) segments.now) }
+    ensures edits { IfOk result
+        (λ edits. edits.items ≡ map (joining_of vertices.now) segments.now) }
+    ensures ends { OnOk result (All (HasEnds vertices.now count) segments.now) }
+    ensures refuses { IfErr result (RefusesEnds vertices.now count segments.now) }
 {
     let mut edits = Vec::with_capacity(alloc, segments.len())?;
     for segment in segments {
-        let (from, to) = (segment.from as usize, segment.to as usize);
-        if from >= vertices.len() || to >= vertices.len() {
+        let Some(ends) = ends_among(*segment, vertices, count) else {
             return Err(DrawingError::NoPoint);
-        }
-        edits.push(Edit::AddConstraint(vertices[from], vertices[to]))?;
+        };
+        edits.push(Edit::AddConstraint(ends.0, ends.1))?;
     }
     Ok(edits)
 }
 
-/// Which segments were taken, by what their edits gave: the others are crossed by constraints.
+/// Which segments were taken, by what their edits gave: the others are crossed by constraints. An
+/// edit that was neither made nor refused for that was refused memory.
 fn taken_of(outcomes: Vec<Outcome<Point2<i32>>>, alloc: Global) -> Result<Vec<bool>, DrawingError>
     ensures taken { IfOk result (λ taken. taken.items ≡ map is_taken outcomes.items) }
     ensures decided { OnOk result (All IsDecided outcomes.items) }
+    ensures memory { IfErr result (λ error. error ≡ OutOfMemory) }
 {
     let mut taken = Vec::with_capacity(alloc, outcomes.len())?;
     for outcome in outcomes {
         match outcome {
             Outcome::Added(_) => taken.push(true)?,
             Outcome::Refused(Refusal::Conflict) => taken.push(false)?,
-            Outcome::Refused(Refusal::NoVertex) => return Err(DrawingError::NoPoint),
             _ => return Err(DrawingError::OutOfMemory),
         }
     }
@@ -83,7 +117,10 @@ fn taken_of(outcomes: Vec<Outcome<Point2<i32>>>, alloc: Global) -> Result<Vec<bo
 }
 
 /// Makes constraints of segments, one after another: of the edges between neighbours among the
-/// vertices on it. It tells which were taken; the others are crossed by constraints.
+/// vertices on it. It tells which were taken; the others are crossed by constraints. It gives
+/// `NoPoint`, with nothing changed, exactly where a segment ends at no place of the list of
+/// vertices or at a handle of none; but `OutOfMemory` where memory was refused, at any step: then
+/// some segments may be constraints.
 pub fn add_segments<T: Replayable<Vertex = Point2<i32>>>(
     site: &mut T,
     segments: &[DrawnSegment],
@@ -93,10 +130,14 @@ pub fn add_segments<T: Replayable<Vertex = Point2<i32>>>(
     ensures adds { IfOk result (λ taken. AddsSegments position T.Constraints.constraints
         (map (ends_of vertices.now) segments.now) taken.items (T.state site.old)
         (T.state site.new)) }
+    ensures ends { OnOk result (All
+        (HasEnds vertices.now (length (T.state site.old).vertices)) segments.now) }
+    ensures refuses { IfErr result
+        (RefusesEnds vertices.now (length (T.state site.old).vertices) segments.now) }
     ensures headline { IsDelaunay position T.Constraints.constraints (T.state site.new) }
 {
     site.recall_invariant();
-    let edits = joinings(segments, vertices, alloc)?;
+    let edits = joinings(segments, vertices, site.num_vertices(), alloc)?;
     let outcomes = replay(site, edits, &ExactTests)?;
     taken_of(outcomes, alloc)
 }

@@ -1,43 +1,60 @@
 //! Why a drawing was not triangulated.
+ghost use Rattle.std.specs.Prelude.{◌≡◌};
+ghost use Rattle.drawing_faces.specs.declared.error.DrawingError.TheVariants.{OutOfMemory};
+ghost use Rattle.drawing_faces.specs.Refusals.{bulk_fault, insertion_fault};
 
 use delaunay_bulk::BulkInsertionError;
 use delaunay_interface::delaunay_core::math::InsertionError;
 use std::alloc::{AllocError, AllocFailed};
 use thiserror::Error;
 
-/// Why points or segments of a drawing were not taken.
+/// Why a drawing was not triangulated. Points are looked at first, then segments, then points in
+/// holes and then holes' sides, and the first reason that is found is given.
 #[derive(Clone, Copy, Debug, PartialEq, Eq, Drop, Error)]
 pub enum DrawingError {
+    /// A coordinate of a point passes 2^29.
     #[error("a point is out of range")]
     TooLarge,
+    /// Six times the number of points passes `MAX_ELEMENTS`.
     #[error("there are more points than have indexes")]
     TooMany,
+    /// A segment or a hole's side ends at no place of the list of points.
     #[error("a segment ends at no point")]
     NoPoint,
-    /// The point in a hole at this place of their list.
+    /// A coordinate of the point in a hole at this place of their list passes 2^29. The points
+    /// before it are taken; so it is of the next two.
     #[error("the hole's point is out of range")]
     HoleTooLarge(usize),
+    /// The point in a hole at this place is within an edge that is a constraint.
     #[error("the hole's point is on a segment")]
     HoleOnSegment(usize),
+    /// The point in a hole at this place is on a vertex, or there are fewer than two vertices.
     #[error("the hole's point is in no face")]
     HoleInNoFace(usize),
+    /// Memory was refused, at any step.
     #[error("memory was refused")]
     OutOfMemory,
 }
 
 impl From<AllocError> for DrawingError {
+    ghost from_gives = { λ _ e. e ≡ OutOfMemory };
+
     fn from(_error: AllocError) -> Self {
         DrawingError::OutOfMemory
     }
 }
 
 impl<T: Drop> From<AllocFailed<T>> for DrawingError {
+    ghost from_gives = { λ _ e. e ≡ OutOfMemory };
+
     fn from(_error: AllocFailed<T>) -> Self {
         DrawingError::OutOfMemory
     }
 }
 
 impl From<InsertionError> for DrawingError {
+    ghost from_gives = { λ error e. e ≡ insertion_fault error };
+
     fn from(error: InsertionError) -> Self {
         match error {
             InsertionError::TooLarge => DrawingError::TooLarge,
@@ -48,6 +65,8 @@ impl From<InsertionError> for DrawingError {
 }
 
 impl From<BulkInsertionError> for DrawingError {
+    ghost from_gives = { λ error e. e ≡ bulk_fault error };
+
     fn from(error: BulkInsertionError) -> Self {
         match error {
             BulkInsertionError::Vertex { place: _, error } => DrawingError::from(error),

@@ -1,6 +1,6 @@
 //! The faces that points in holes are in.
-ghost use Rattle.std.specs.Prelude.{◌≡◌, ◌≤◌, ◌++◌, All, length, IfOk, OnOk};
-ghost use Rattle.drawing_faces.specs.Holes.{AddsFacesAt, AreIn};
+ghost use Rattle.std.specs.Prelude.{◌≡◌, ◌≤◌, ◌++◌, All, length, IfErr, IfOk, OnOk};
+ghost use Rattle.drawing_faces.specs.Holes.{AddsFacesAt, AreIn, RefusesHole, RefusesHoles};
 
 use crate::error::DrawingError;
 use delaunay_interface::delaunay_core::math::validate_vertex;
@@ -19,8 +19,11 @@ fn add_faces<T: Triangulation<Vertex = Point2<i32>>>(
     place: usize,
     faces: &mut Vec<FixedFaceHandle>,
 ) -> Result<(), DrawingError>
-    ensures adds { OnOk result (AddsFacesAt (T.state site.now) hole faces.old.items
+    ensures adds { OnOk result (AddsFacesAt (T.state site.now)
+        (T.Constraints.constraints (T.state site.now).undirected) hole faces.old.items
         faces.new.items) }
+    ensures refuses { IfErr result (RefusesHole (T.state site.now)
+        (T.Constraints.constraints (T.state site.now).undirected) place hole) }
 {
     site.recall_invariant();
     if validate_vertex(&hole).is_err() {
@@ -47,15 +50,19 @@ fn add_faces<T: Triangulation<Vertex = Point2<i32>>>(
 }
 
 /// The faces that points in holes are in. It gives `HoleTooLarge`, `HoleOnSegment` or
-/// `HoleInNoFace` for the first point that is out of range, on a constraint, or on a vertex.
+/// `HoleInNoFace` exactly where a point is out of range, within a constraint, or on a vertex or in
+/// no triangulation: for the first such point. It gives `OutOfMemory` where memory was refused.
 pub(crate) fn hole_faces<T: Triangulation<Vertex = Point2<i32>>>(
     site: &T,
     holes: &[Point2<i32>],
     alloc: Global,
 ) -> Result<Vec<FixedFaceHandle>, DrawingError>
-    ensures faces { IfOk result (λ faces. AreIn (T.state site.now) holes.now faces.items) }
+    ensures faces { IfOk result (λ faces. AreIn (T.state site.now)
+        (T.Constraints.constraints (T.state site.now).undirected) holes.now faces.items) }
     ensures within { IfOk result
         (λ faces. All (λ f. f ≤ length (T.state site.now).faces) faces.items) }
+    ensures refuses { IfErr result (RefusesHoles (T.state site.now)
+        (T.Constraints.constraints (T.state site.now).undirected) holes.now) }
 {
     let mut faces = Vec::new(alloc);
     for (place, hole) in holes.iter().enumerate() {

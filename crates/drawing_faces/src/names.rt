@@ -1,5 +1,7 @@
 //! Vertices and faces by the places of their points in a list.
-ghost use Rattle.std.specs.Prelude.{◌≡◌, ◌<◌, All, map, slice_index, IfOk};
+ghost use Rattle.std.specs.Prelude.{◌≡◌, ◌⊎◌, ◌<◌, All, length, map, slice_index, IfErr, IfOk};
+ghost use Rattle.delaunay_interface.specs.half_edge_links.declared.room.TheConstants.{MAX_ELEMENTS};
+ghost use Rattle.drawing_faces.specs.declared.error.DrawingError.TheVariants.{OutOfMemory};
 ghost use Rattle.drawing_faces.specs.Names.{AreFirsts, places_of};
 ghost use Rattle.drawing_faces.specs.Drawing.{face_of};
 
@@ -8,14 +10,17 @@ use crate::faces::FaceCorners;
 use delaunay_interface::half_edge_mesh::{FixedVertexHandle, MAX_ELEMENTS};
 use std::alloc::{AllocError, Global};
 
-/// Of each of so many vertices the first place where it stands in a list.
+/// Of each of so many vertices the first place where it stands in a list. It gives `TooMany` for a
+/// list of more than `MAX_ELEMENTS`, and `OutOfMemory` where memory was refused.
 pub(crate) fn first_places(
     vertices: &[FixedVertexHandle],
     count: usize,
     alloc: Global,
 ) -> Result<Vec<u32>, DrawingError>
     requires { All (λ v. v < count) vertices.now }
-    ensures { IfOk result (λ firsts. AreFirsts count vertices.now firsts.items) }
+    ensures firsts { IfOk result (λ firsts. AreFirsts count vertices.now firsts.items) }
+    ensures refuses { IfErr result
+        (λ error. (error ≡ OutOfMemory) ⊎ (MAX_ELEMENTS < length vertices.now)) }
 {
     if vertices.len() > MAX_ELEMENTS {
         return Err(DrawingError::TooMany);

@@ -1,14 +1,15 @@
 //! The faces beside the sides of holes.
-ghost use Rattle.std.specs.Prelude.{◌≡◌, ◌∷◌, ◌<◌, [], List, map, length, OnOk};
+ghost use Rattle.std.specs.Prelude.{◌≡◌, ◌∷◌, ◌<◌, [], All, List, map, length, IfErr, OnOk};
 ghost use Rattle.delaunay_interface.specs.plane.Line.{Item};
 ghost use Rattle.delaunay_interface.specs.delaunay_legalization.State.{state_of};
 ghost use Rattle.delaunay_interface.specs.delaunay_location.Items.{item_in, mesh_of};
 ghost use Rattle.delaunay_interface.specs.delaunay_location.Walk.{AreLeft, IsReady};
 ghost use Rattle.drawing_faces.specs.Drawing.{ends_of};
 ghost use Rattle.drawing_faces.specs.Names.{position};
+ghost use Rattle.drawing_faces.specs.Refusals.{HasEnds, RefusesEnds};
 ghost use Rattle.drawing_faces.specs.Sides.{AddsBeside, AddsOnLeft};
 
-use crate::edits::DrawnSegment;
+use crate::edits::{DrawnSegment, ends_among};
 use crate::error::DrawingError;
 use delaunay_interface::delaunay_core::math::PlaneTests;
 use delaunay_interface::delaunay_core::point::Point2;
@@ -66,27 +67,27 @@ fn add_beside<DE, UE, F, T: HasMesh<Point2<i32>, DE, UE, F>>(
 }
 
 /// Adds the faces on the left of the edges that lie on the sides of holes, in the direction of
-/// these: it gives `NoPoint` where one ends at none.
+/// these. It gives `NoPoint` exactly where a side ends at no place of the list of vertices or at a
+/// handle of none, and `OutOfMemory` where memory was refused.
 pub(crate) fn add_side_faces<DE, UE, F, T: HasMesh<Point2<i32>, DE, UE, F>>(
     site: &T,
     sides: &[DrawnSegment],
     vertices: &[FixedVertexHandle],
     faces: &mut Vec<FixedFaceHandle>,
 ) -> Result<(), DrawingError>
-    ensures { OnOk result (AddsBeside (T.mesh_state site.now)
+    ensures adds { OnOk result (AddsBeside (T.mesh_state site.now)
         (map (ends_of vertices.now) sides.now) faces.old.items faces.new.items) }
+    ensures ends { OnOk result (All
+        (HasEnds vertices.now (length (T.mesh_state site.now).vertices)) sides.now) }
+    ensures refuses { IfErr result
+        (RefusesEnds vertices.now (length (T.mesh_state site.now).vertices) sides.now) }
 {
     let count = site.mesh().num_vertices();
     for side in sides {
-        let (from, to) = (side.from as usize, side.to as usize);
-        if from >= vertices.len() || to >= vertices.len() {
+        let Some(ends) = ends_among(*side, vertices, count) else {
             return Err(DrawingError::NoPoint);
-        }
-        let (from, to) = (vertices[from], vertices[to]);
-        if from.index() as usize >= count || to.index() as usize >= count {
-            return Err(DrawingError::NoPoint);
-        }
-        add_beside(site, from, to, faces)?;
+        };
+        add_beside(site, ends.0, ends.1, faces)?;
     }
     Ok(())
 }

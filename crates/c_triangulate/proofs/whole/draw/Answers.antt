@@ -1,14 +1,21 @@
 use Rattle.std.proofs.Common.{List, length, Bool, refl, subst, arith}
 use Rattle.std.specs.Prelude.{IsTrue}
-use Rattle.c_triangulate.specs.Whole.{FirstAre, IsFirstNot, segment_crossing, segment_of_none}
-use Rattle.c_triangulate.proofs.Drawings.{whole_is_drawn}
+use Rattle.c_triangulate.specs.Whole.{EndsAtPoints, FirstAre, IsFirstNot, segment_crossing}
+use Rattle.c_triangulate.specs.Whole.{segment_of_none}
+use Rattle.c_triangulate.proofs.Drawings.{first_of_fewer, whole_is_drawn}
 use Rattle.c_triangulate.proofs.whole.draw.Goals as goal
+
+pub drawn_mesh-requires-clause-ends : goal.drawn_mesh-requires-clause-ends
+drawn_mesh-requires-clause-ends c =
+    let known = c.known_segments-known in
+    first_of_fewer (EndsAtPoints _) c.args.segments.now known.result known.ensures.within
+    known.ensures.known
 
 pub returns-in-Some : goal.returns-in-Some
 returns-in-Some c =
     let known = c.known_segments-known in
     segment_crossing c.in-Ok.drawn known.result refl
-    (record { ends = known.ensures.known; drawn = c.in-Ok.ensures })
+    (record { ends = known.ensures.known; drawn = c.in-Ok.ensures.draws })
     (subst (λ (ts : List Bool). IsFirstNot IsTrue ts c.in-Some.place)
     c.as_slice.ensures.value c.in-Some.ensures) refl refl
 
@@ -16,7 +23,7 @@ pub returns-then-known-segments : goal.returns-then-known-segments
 returns-then-known-segments c =
     let known = c.known_segments-known in
     segment_of_none c.in-Ok.drawn refl
-    (record { ends = known.ensures.known; drawn = c.in-Ok.ensures })
+    (record { ends = known.ensures.known; drawn = c.in-Ok.ensures.draws })
     (subst (λ (ts : List Bool). FirstAre IsTrue ts (length ts)) c.as_slice.ensures.value
     c.in_default-first_untaken.ensures) (known.ensures.next c.if-known-segments.true) refl refl
 
@@ -28,6 +35,6 @@ returns c =
     whole_is_drawn c.args.points.now c.args.segments.now known.result c.in-Ok.drawn write.result
     c.args.at.now c.args.length.now write.new.length c.args.faces.now write.new.faces
     known.ensures.within (omega (arith, none_left))
-    (record { ends = known.ensures.known; drawn = c.in-Ok.ensures })
+    (record { ends = known.ensures.known; drawn = c.in-Ok.ensures.draws })
     (subst (λ (ts : List Bool). FirstAre IsTrue ts (length ts)) c.as_slice.ensures.value
     c.in_default-first_untaken.ensures) write.ensures

@@ -1,60 +1,139 @@
-use Rattle.std.proofs.Common.{ℕ, List, ◌≤◌, ◌∙◌, length, map, ap, sym, subst}
+use Rattle.std.proofs.Common.{ℕ, List, ◌≤◌, ◌∙◌, length, map, ap, refl, sym, subst}
 use Rattle.std.specs.Prelude.{All}
 use Rattle.delaunay_bulk.specs.Bulk.{HaveHandles}
 use Rattle.delaunay_interface.specs.delaunay_edit.Constrained.{constraint_edges}
 use Rattle.delaunay_interface.specs.delaunay_legalization.State.{triangulation_of}
-use Rattle.drawing_faces.specs.Drawing.{ends_of, face_of}
+use Rattle.drawing_faces.specs.Drawing.{RefusesDrawing, ends_of, face_of}
+use Rattle.drawing_faces.specs.Drawing.{hole_refused, memory_refused, points_refused}
 use Rattle.drawing_faces.specs.Kept.{AreKept, IsLeftOut}
 use Rattle.drawing_faces.specs.Names.{places_of, position}
+use Rattle.drawing_faces.specs.Refusals.{HasEnds}
 use Rattle.drawing_faces.specs.Sides.{AreBeside}
 use Rattle.drawing_faces.proofs.Beside.{beside_within}
-use Rattle.drawing_faces.proofs.Together.{handled, joined_first, named, taken_first}
 use Rattle.drawing_faces.proofs.Keeping.{named_faces}
+use Rattle.drawing_faces.proofs.Refusing.{all_end_at_points, refused_by}
+use Rattle.drawing_faces.proofs.Together.{drawing_of, segments_refused, sides_refused}
 use Rattle.drawing_faces.proofs.drawn.triangulate_drawing.Goals as goal
+
+pub returns-in_err-placed-clause-refuses : goal.returns-in_err-placed-clause-refuses
+returns-in_err-placed-clause-refuses c =
+    refused_by c.from_residual.result _ (RefusesDrawing c.args.points.now c.args.segments.now
+    c.args.holes.now c.args.sides.now) c.from_residual.ensures.1
+    (points_refused c.in_err-placed.ensures.refuses)
+
+pub returns-in_err-site-clause-refuses : goal.returns-in_err-site-clause-refuses
+returns-in_err-site-clause-refuses c =
+    refused_by c.from_residual-in_err-site.result _ (RefusesDrawing c.args.points.now
+    c.args.segments.now c.args.holes.now c.args.sides.now) c.from_residual-in_err-site.ensures.1
+    (memory_refused c.in_err-site.ensures.memory)
+
+pub returns-in_err-taken-clause-refuses : goal.returns-in_err-taken-clause-refuses
+returns-in_err-taken-clause-refuses c =
+    let points = c.args.points.now in
+    let handles = c.as_slice.result.now in
+    let old = c.in_ok-site.site in
+    refused_by c.from_residual-in_err-taken.result _ (RefusesDrawing points c.args.segments.now
+    c.args.holes.now c.args.sides.now) c.from_residual-in_err-taken.ensures.1
+    (segments_refused points handles c.args.segments.now c.args.holes.now c.args.sides.now
+    old.vertices c.in_ok-placed.ensures.may_take (subst (HaveHandles position points handles)
+    (sym c.in_ok-site.ensures.vertices) (subst (λ hs. HaveHandles position points hs
+    c.in_ok-placed.placed.plain.vertices) (sym c.as_slice.ensures.value)
+    c.in_ok-placed.ensures.handles)) _ c.in_err-taken.ensures.refuses)
+
+pub returns-in_err-in_holes-clause-refuses : goal.returns-in_err-in_holes-clause-refuses
+returns-in_err-in_holes-clause-refuses c =
+    let points = c.args.points.now in
+    let handles = c.as_slice.result.now in
+    let plain = c.in_ok-placed.placed.plain.vertices in
+    refused_by c.from_residual-in_err-in_holes.result _ (RefusesDrawing points
+    c.args.segments.now c.args.holes.now c.args.sides.now)
+    c.from_residual-in_err-in_holes.ensures.1 (hole_refused (record {
+      handles = handles;
+      names = c.in_ok-placed.placed.vertices.items;
+      taken = c.in_ok-taken.taken.items;
+      state = c.add_segments.new.site;
+      drawing = drawing_of points handles c.in_ok-placed.placed.vertices.items
+          c.args.segments.now c.in_ok-taken.taken.items plain c.in_ok-site.site
+          c.add_segments.new.site c.in_ok-placed.ensures.may_take
+          (subst (λ hs. HaveHandles position points hs plain) (sym c.as_slice.ensures.value)
+          c.in_ok-placed.ensures.handles) c.in_ok-placed.ensures.vertices
+          c.in_ok-site.ensures.vertices c.in_ok-site.ensures.none c.in_ok-taken.ensures.adds
+          c.in_ok-taken.ensures.ends c.add_segments.ensures.headline;
+    }) c.in_err-in_holes.ensures.refuses)
+
+pub returns-in_err-add_side_faces-clause-refuses : goal.returns-in_err-add_side_faces-clause-refuses
+returns-in_err-add_side_faces-clause-refuses c =
+    let points = c.args.points.now in
+    let handles = c.as_slice.result.now in
+    let plain = c.in_ok-placed.placed.plain.vertices in
+    refused_by c.from_residual-in_err-add_side_faces.result _ (RefusesDrawing points
+    c.args.segments.now c.args.holes.now c.args.sides.now)
+    c.from_residual-in_err-add_side_faces.ensures.1 (sides_refused points c.args.segments.now
+    c.args.holes.now c.args.sides.now c.as_slice-2.result.now (record {
+      handles = handles;
+      names = c.in_ok-placed.placed.vertices.items;
+      taken = c.in_ok-taken.taken.items;
+      state = c.add_segments.new.site;
+      drawing = drawing_of points handles c.in_ok-placed.placed.vertices.items
+          c.args.segments.now c.in_ok-taken.taken.items plain c.in_ok-site.site
+          c.add_segments.new.site c.in_ok-placed.ensures.may_take
+          (subst (λ hs. HaveHandles position points hs plain) (sym c.as_slice.ensures.value)
+          c.in_ok-placed.ensures.handles) c.in_ok-placed.ensures.vertices
+          c.in_ok-site.ensures.vertices c.in_ok-site.ensures.none c.in_ok-taken.ensures.adds
+          c.in_ok-taken.ensures.ends c.add_segments.ensures.headline;
+    }) c.in_ok-in_holes.in_holes.items (c.as_slice-2.ensures.value ∙ sym c.as_slice.ensures.value)
+    c.in_ok-in_holes.ensures.faces _ c.in_err-add_side_faces.ensures.refuses)
 
 pub kept_faces-requires : goal.kept_faces-requires
 kept_faces-requires c =
     subst (All (λ f. f ≤ length c.add_segments.new.site.faces)) (sym c.as_slice-3.ensures.value)
     (beside_within c.add_segments.new.site (map (ends_of c.as_slice-2.result.now) c.args.sides.now)
     c.in_ok-in_holes.in_holes.items c.add_side_faces.new.faces.items
-    c.in_ok-add_side_faces.ensures c.in_ok-in_holes.ensures.within)
+    c.in_ok-add_side_faces.ensures.adds c.in_ok-in_holes.ensures.within)
 
-pub returns : goal.returns
-returns c =
+pub returns-in_err-corners-clause-refuses : goal.returns-in_err-corners-clause-refuses
+returns-in_err-corners-clause-refuses c =
+    refused_by c.from_residual-in_err-corners.result _ (RefusesDrawing c.args.points.now
+    c.args.segments.now c.args.holes.now c.args.sides.now)
+    c.from_residual-in_err-corners.ensures.1 (memory_refused refl)
+
+pub returns-in_err-faces-clause-refuses : goal.returns-in_err-faces-clause-refuses
+returns-in_err-faces-clause-refuses c =
+    refused_by c.from_residual-in_err-faces.result _ (RefusesDrawing c.args.points.now
+    c.args.segments.now c.args.holes.now c.args.sides.now)
+    c.from_residual-in_err-faces.ensures.1 (memory_refused refl)
+
+pub returns-clause-draws : goal.returns-clause-draws
+returns-clause-draws c =
     let points = c.args.points.now in
     let handles = c.as_slice.result.now in
     let names = c.in_ok-placed.placed.vertices.items in
-    let segments = map (ends_of handles) c.args.segments.now in
-    let taken = c.in_ok-taken.taken.items in
     let plain = c.in_ok-placed.placed.plain.vertices in
-    let old = c.in_ok-site.site in
     let new = c.add_segments.new.site in
     let corners = c.in_ok-corners.corners.items in
-    let same = c.in_ok-site.ensures.vertices in
-    let none = c.in_ok-site.ensures.none in
-    let adds = c.in_ok-taken.ensures.adds in
     let sides = c.in_ok-add_side_faces.ensures in
+    let same = c.as_slice-2.ensures.value ∙ sym c.as_slice.ensures.value in
+    let drawing = drawing_of points handles names c.args.segments.now c.in_ok-taken.taken.items
+    plain c.in_ok-site.site new c.in_ok-placed.ensures.may_take
+    (subst (λ hs. HaveHandles position points hs plain) (sym c.as_slice.ensures.value)
+    c.in_ok-placed.ensures.handles) c.in_ok-placed.ensures.vertices c.in_ok-site.ensures.vertices
+    c.in_ok-site.ensures.none c.in_ok-taken.ensures.adds c.in_ok-taken.ensures.ends
+    c.add_segments.ensures.headline in
     record {
-      delaunay = c.add_segments.ensures.headline;
-      vertices = named constraint_edges points handles names segments taken plain old new same none
-          adds c.in_ok-placed.ensures.vertices;
       handles = handles;
-      handles_are = handled constraint_edges points handles names segments taken plain old new same
-          none adds (subst (λ hs. HaveHandles position points hs plain)
-          (sym c.as_slice.ensures.value) c.in_ok-placed.ensures.handles);
-      taken = taken_first constraint_edges points handles names segments taken plain old new same
-          none adds;
-      joined = joined_first constraint_edges points handles names segments taken plain old new same
-          none adds;
+      drawing = drawing;
       in_holes = c.in_ok-in_holes.in_holes.items;
       in_holes_are = c.in_ok-in_holes.ensures.faces;
-      beside = sides.here;
+      side_ends = all_end_at_points points handles new.vertices drawing.handles_are
+          c.args.sides.now (subst (λ (hs : List ℕ). All (HasEnds hs (length new.vertices))
+          c.args.sides.now) same sides.ends);
+      beside = sides.adds.here;
       beside_are = subst (λ (hs : List ℕ). AreBeside new (map (ends_of hs) c.args.sides.now)
-          sides.here) (c.as_slice-2.ensures.value ∙ sym c.as_slice.ensures.value) sides.beside;
+          sides.adds.here) same sides.adds.beside;
       faces = map face_of corners;
       faces_are = subst (λ (starts : List ℕ). AreKept (IsLeftOut c.args.kept new.mesh
           (constraint_edges new.undirected) starts) 1 (triangulation_of position new).faces
-          (map face_of corners)) (c.as_slice-3.ensures.value ∙ sides.faces)
+          (map face_of corners)) (c.as_slice-3.ensures.value ∙ sides.adds.faces)
           c.in_ok-corners.ensures;
       places = c.in_ok-faces.ensures
           ∙ ap (λ ns. map (λ f. places_of ns (face_of f)) c.as_slice-4.result.now)

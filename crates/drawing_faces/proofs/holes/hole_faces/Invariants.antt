@@ -5,6 +5,7 @@ use Rattle.drawing_faces.proofs.holes.hole_faces.Given as goal
 
 abbrev pub invariant-loop-place : goal.invariant-loop-place
 invariant-loop-place g l = record {
-  faces : AreIn (g.T.Triangulation.state l.site) (take l.place l.holes) l.faces.items;
+  faces : AreIn (g.T.Triangulation.state l.site) (g.T.Constraints.ConstraintMarker.constraints
+      (g.T.Triangulation.state l.site).undirected) (take l.place l.holes) l.faces.items;
   within : All (λ f. f ≤ length (g.T.Triangulation.state l.site).faces) l.faces.items;
 }

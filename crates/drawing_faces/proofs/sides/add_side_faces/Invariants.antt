@@ -1,8 +1,14 @@
-use Rattle.std.proofs.Common.{map, take}
+use Rattle.std.proofs.Common.{length, map, take}
+use Rattle.std.specs.List.{All}
 use Rattle.drawing_faces.specs.Drawing.{ends_of}
+use Rattle.drawing_faces.specs.Refusals.{HasEnds}
 use Rattle.drawing_faces.specs.Sides.{AddsBeside}
 use Rattle.drawing_faces.proofs.sides.add_side_faces.Given as goal
 
 abbrev pub invariant-loop-side : goal.invariant-loop-side
-invariant-loop-side g l = AddsBeside (g.T.HasMesh.mesh_state l.site)
-    (map (ends_of l.vertices) (take l.side-index l.sides)) l.fn.faces.items l.faces.items
+invariant-loop-side g l = record {
+  adds : AddsBeside (g.T.HasMesh.mesh_state l.site)
+      (map (ends_of l.vertices) (take l.side-index l.sides)) l.fn.faces.items l.faces.items;
+  ends : All (HasEnds l.vertices (length (g.T.HasMesh.mesh_state l.site).vertices))
+      (take l.side-index l.sides);
+}
