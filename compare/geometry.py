@@ -1,7 +1,7 @@
 """Points, segments and circles, and which edges a Delaunay triangulation of few points has, found
 by trying all. Numbers are exact."""
 from fractions import Fraction
-from itertools import combinations
+from itertools import combinations, product
 
 
 def side(a, b, c):
@@ -59,7 +59,12 @@ def worst_circle(points, constraints, a, b):
     seen = [p for p in points if not any(cross(p, q, *it) for it in constraints for q in (a, b))]
     left = [p for p in seen if side(a, b, p) > 0]
     right = [p for p in seen if side(a, b, p) < 0]
-    return max((in_circle(a, b, p, q) for p in left for q in right), default=-1)
+    worst = -1
+    for p, q in product(left, right):
+        worst = max(worst, in_circle(a, b, p, q))
+        if worst > 0:
+            break
+    return worst
 
 
 def sure_and_open(points, constraints):

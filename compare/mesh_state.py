@@ -4,11 +4,9 @@ import re
 from ast import literal_eval
 from collections import namedtuple
 
-from geometry import are_on_line, in_circle, side, twice_hull
-from plain_state import pairs_of
+from geometry import are_on_line
+from plain_state import MANY, pairs_of, tiling_fault
 
-# Above so many vertices, not all on one line, edges are not compared with all circles.
-MANY = 30
 Edge = namedtuple("Edge", "ends next prev face is_constraint")
 VERTEX = re.compile(r"vertex (\d+) (\(.*?\)) (-?\d+) (None|Some\((\d+)\))")
 EDGE = re.compile(r"edge (\d+) (\(.*?\)) (\[.*?\]) \d+ \d+ (true|false)")
@@ -86,33 +84,13 @@ class MeshState:
         walls = {tuple(sorted(edge.ends)) for edge in self.edges if edge.is_constraint}
         if walls != plain.walls:
             return f"other constraints than {sorted(plain.walls)}"
-        if len(self.points) > MANY and not are_on_line(self.points):
-            return self.wrong_tiling() or self.wrong_links()
         corners = set(self.faces.values())
+        if len(self.points) > MANY and not are_on_line(self.points):
+            free = {edge.ends for edge in self.edges if not edge.is_constraint}
+            return tiling_fault(self.points, corners, free) or self.wrong_links()
         wanted = set(plain.edges(pairs_of(corners)))
         if self.pairs() != wanted or 2 * len(wanted) != len(self.edges):
             return f"other edges than {sorted(wanted)}"
         if corners != plain.faces_by(wanted) or len(corners) != len(self.faces):
             return f"other faces than {sorted(plain.faces_by(wanted))}"
         return self.wrong_links()
-
-    def wrong_tiling(self):
-        """The first way in which faces are no triangulation, or nothing: each turns left, together
-        they have the area of the hull, so they lie beside each other, and no vertex opposite an
-        edge that is no constraint is inside the circle on its other side."""
-        area, opposite = 0, {}
-        for corners in self.faces.values():
-            a, b, c = (self.points[i] for i in corners)
-            area += side(a, b, c)
-            if side(a, b, c) <= 0:
-                return f"face {corners} does not turn left"
-            opposite.update({(corners[k - 2], corners[k - 1]): corners[k] for k in range(3)})
-        if len(opposite) != 3 * len(self.faces) or area != twice_hull(self.points):
-            return "the faces overlap or leave out some of the hull"
-        free = {edge.ends for edge in self.edges if not edge.is_constraint}
-        for (i, j), k in opposite.items():
-            other = opposite.get((j, i))
-            if other is not None and (i, j) in free:
-                if in_circle(*(self.points[m] for m in (i, j, k, other))) > 0:
-                    return f"vertex {other} is inside the circle of the face {i}, {j}, {k}"
-        return None

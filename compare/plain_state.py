@@ -2,9 +2,20 @@
 found by trying all."""
 from itertools import combinations
 
-from geometry import are_on_line, carries, cross, edges_of, faces_of
+from geometry import (
+    are_on_line,
+    carries,
+    cross,
+    edges_of,
+    faces_of,
+    in_circle,
+    side,
+    twice_hull,
+)
 
 LIMIT = 2**29
+# Above so many vertices, not all on one line, edges are not compared with all circles.
+MANY = 30
 
 
 class PlainState:
@@ -83,3 +94,24 @@ class PlainState:
 
 def pairs_of(triples):
     return {tuple(sorted(pair)) for triple in triples for pair in combinations(triple, 2)}
+
+
+def tiling_fault(points, faces, free):
+    """The first way in which faces are no triangulation, or nothing: each turns left, together
+    they have the area of the hull, so they lie beside each other, and no vertex opposite a free
+    edge, given in either direction, is inside the circle on its other side."""
+    area, opposite = 0, {}
+    for corners in faces:
+        turn = side(*(points[i] for i in corners))
+        if turn <= 0:
+            return f"face {corners} does not turn left"
+        area += turn
+        opposite.update({(corners[k - 2], corners[k - 1]): corners[k] for k in range(3)})
+    if len(opposite) != 3 * len(faces) or area != twice_hull(points):
+        return "the faces overlap or leave out some of the hull"
+    for (i, j), k in opposite.items():
+        other = opposite.get((j, i))
+        if other is not None and ((i, j) in free or (j, i) in free):
+            if in_circle(*(points[m] for m in (i, j, k, other))) > 0:
+                return f"vertex {other} is inside the circle of the face {i}, {j}, {k}"
+    return None

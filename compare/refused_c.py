@@ -7,6 +7,8 @@ has to be done. Or the call does without, and is done.
 """
 import ctypes
 
+from c_calls import Kept, expect, points_of, shape_of, words_of
+
 SHIM = r"""
 #define _GNU_SOURCE
 #include <dlfcn.h>
@@ -55,14 +57,13 @@ class Word:
         self.name, self.make, self.keeps_part = name, make, keeps_part
 
 
-def growing_calls(tools):
+def growing_calls():
     """Each call that takes memory, as it is made of a triangulation `kept` and a closed one."""
-    points_of, words_of, shape_of = tools.points_of, tools.words_of, tools.shape_of
     room, length, at = (ctypes.c_uint32 * 900)(), ctypes.c_size_t(), ctypes.c_size_t()
     many = [(x, y) for x in range(7, 13) for y in range(7, 13)]
     told = (ctypes.byref(length), ctypes.byref(at))
-    drawn = (*points_of(many), *words_of([(0, 35), (6, 11)]), room, ctypes.c_size_t(100), *told)
-    chain = (*words_of([0, 1, 2]), ctypes.c_bool(True), ctypes.byref(at))
+    drawn = (*points_of(many), *words_of([(0, 35), (6, 11)]), room, 100, *told)
+    chain = (*words_of([0, 1, 2]), True, ctypes.byref(at))
     calls = [
         Word("open", lambda kept, other: other.call("open", 1)),
         Word("copy", lambda kept, other: kept.call("copy", ctypes.byref(other.handle))),
@@ -74,7 +75,7 @@ def growing_calls(tools):
         Word("release", lambda kept, other: kept.call("release", 1, 2)),
         Word("allow_constraints", lambda kept, other: kept.call("allow_constraints")),
         Word("face_layers", lambda kept, other: kept.all("face_layers", 1)[0]),
-        Word("triangulate", lambda kept, other: kept.library.call("triangulate", *drawn)),
+        Word("triangulate", lambda kept, other: kept.library.status("triangulate", *drawn)),
     ]
     for kind in range(2):
         shape = shape_of(kind, (0, 0), (4, 4), 16)
@@ -83,13 +84,13 @@ def growing_calls(tools):
     return calls
 
 
-def prepared(tools, library, word):
+def prepared(library, word):
     """A triangulation of a square with two vertices inside, and a closed one."""
-    kept = tools.Kept(library, int(word.name != "allow_constraints"))
+    kept = Kept(library, int(word.name != "allow_constraints"))
     kept.insert_all([(0, 0), (8, 0), (8, 8), (0, 8), (3, 1), (5, 2)])
     if word.name in ("release", "remove", "face_layers", "copy"):
-        tools.expect(kept.call("constrain", 1, 2), "OK", "constrain")
-    other = tools.Kept(library, 0)
+        expect(kept.call("constrain", 1, 2), "OK", "constrain")
+    other = Kept(library, 0)
     other.close()
     return kept, other
 
@@ -99,48 +100,48 @@ def spread(parts):
     return sorted(parts[0][1]), parts[-1]
 
 
-def try_again(tools, word, kept, other, done, what):
+def try_again(word, kept, other, done, what):
     """Makes a refused call again."""
-    tools.expect(word.make(kept, other), "OK", f"{what}, and again")
+    expect(word.make(kept, other), "OK", f"{what}, and again")
     now = kept.parts()
     same = spread(now) == spread(done) if word.keeps_part else now == done
-    tools.expect(same, True, f"{what}, and again")
+    expect(same, True, f"{what}, and again")
 
 
-def try_growth(tools, library, shim, word, number, done):
+def try_growth(library, shim, word, number, done):
     """Refuses one growth of a call, and tells whether there is such a growth, and the status."""
-    kept, other = prepared(tools, library, word)
+    kept, other = prepared(library, word)
     before = kept.parts()
     shim.begin(ctypes.c_long(number))
     status = word.make(kept, other)
     is_there = shim.end() >= number
     what = f"{word.name} with its growth {number} refused"
     if status == "OK":
-        tools.expect(kept.parts(), done, what)
+        expect(kept.parts(), done, what)
     else:
-        tools.expect((status, is_there), ("OUT_OF_MEMORY", True), what)
-        tools.expect(other.handle.is_open, False, what)
-        tools.expect(word.keeps_part or kept.parts() == before, True, what)
-        try_again(tools, word, kept, other, done, what)
+        expect((status, is_there), ("OUT_OF_MEMORY", True), what)
+        expect(other.handle.is_open, False, what)
+        expect(word.keeps_part or kept.parts() == before, True, what)
+        try_again(word, kept, other, done, what)
     kept.close()
     other.close()
     return is_there, status
 
 
-def try_refused(tools, library, shim, word):
+def try_refused(library, shim, word):
     """Refuses each growth of a call in turn, and tells how many refusals it has told of."""
-    kept, other = prepared(tools, library, word)
-    tools.expect(word.make(kept, other), "OK", word.name)
+    kept, other = prepared(library, word)
+    expect(word.make(kept, other), "OK", word.name)
     done, number, count = kept.parts(), 1, 0
     while True:
-        is_there, status = try_growth(tools, library, shim, word, number, done)
+        is_there, status = try_growth(library, shim, word, number, done)
         if not is_there:
             return count
         number, count = number + 1, count + (status != "OK")
 
 
-def try_each(tools, library, shim):
+def try_each(library, shim):
     """Refuses each growth of each call."""
-    counts = [try_refused(tools, library, shim, it) for it in growing_calls(tools)]
-    tools.expect(min(counts) > 0, True, f"refusals: {counts}")
+    counts = [try_refused(library, shim, it) for it in growing_calls()]
+    expect(min(counts) > 0, True, f"refusals: {counts}")
     print(f"{sum(counts)} refusals of memory to {len(counts)} calls")
