@@ -17,6 +17,7 @@ from distributed import Client, LocalCluster
 from geometry import in_circle
 from tevasulim import CrossingError, NoSuchPointError, NotWholeError, TooLargeError, Triangulation
 from tevasulim.tiles import neighbors, triangulate_tiles
+from tiles_parts import check_parts
 
 MOST = 2**29
 COUNT, ON_LINE, WORKERS, TILES = 100_000, 3_990, 4, (1, 4, 25, 100)
@@ -323,6 +324,7 @@ def main():
     check_few_segments()
     check_crossing()
     check_refusals()
+    check_parts()
     # A machine that is busy with other things is no reason to give up.
     waits = {"distributed.comm.timeouts.connect": "600s", "distributed.comm.timeouts.tcp": "600s"}
     dask.config.set({**waits, "distributed.scheduler.worker-ttl": None})

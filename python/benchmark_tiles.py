@@ -5,7 +5,8 @@ KIND is random, clustered, grid or lines. Points are made in files of 10^6. WORK
 workers, 1 2 4 where none is given. For each it prints the clock, points a second, what the tiles did
 on average and at most, and the most resident memory that a worker had. At last it prints processor
 seconds of tiles beside those of one triangulation, everything counted from the first read to the
-last cell written, and the least number of workers whose clock beats one process.
+last cell written, the least number of workers whose clock beats one process, and how much faster
+four are than two.
 """
 import os
 import resource
@@ -91,10 +92,11 @@ def main(words):
         names = parts_in(folder, kind, count)
         alone, of_one = one_process(names, folder)
         print(f"{kind}, {count} points: one triangulation takes {alone:.2f} s", flush=True)
-        beating, ratios = [], []
+        beating, ratios, clocks = [], [], {}
         for workers in list(map(int, words[3:])) or [1, 2, 4]:
             clock, of_tiles, reports, most = with_workers(names, size, workers, folder)
             ratios.append(of_tiles / of_one)
+            clocks[workers] = clock
             beating += [workers] if clock < alone else []
             print(f"{len(reports)} tiles, {workers} workers: {clock:.2f} s,", end=" ")
             print(f"{count / clock:.0f} points a second, at most {most:.0f} MiB a worker")
@@ -104,6 +106,8 @@ def main(words):
             sys.stdout.flush()
     print(f"processor seconds of tiles by those of one: {min(ratios):.2f} to {max(ratios):.2f}")
     print(f"the least number of workers that beats one process: {min(beating, default='none')}")
+    if {2, 4} <= set(clocks):
+        print(f"four workers are {clocks[2] / clocks[4]:.2f} times as fast as two")
 
 
 if __name__ == "__main__":

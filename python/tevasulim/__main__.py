@@ -45,6 +45,22 @@ def add_input(it: argparse.ArgumentParser) -> None:
     it.add_argument("--exact", action="store_true", help="refuse what would be rounded")
 
 
+def add_tiles(part: argparse.ArgumentParser) -> None:
+    """What the command `tiles` takes."""
+    about = "a part of the points: a table, a .npy, a .parquet, or a layer that geopandas reads"
+    part.add_argument("inputs", metavar="IN", nargs="+", help=about)
+    part.add_argument("--header", action="store_true", help="the first row of a table has names")
+    part.add_argument("--columns", help="the columns for x and y: names, as x,y, or places, as 0,1")
+    part.add_argument("--layer", help="the layer of a file with several")
+    part.add_argument("--scale", type=int, help="how many parts a unit has: others are refused")
+    part.add_argument("--tile-size", type=int, default=1_000_000, help="points a tile, about")
+    part.add_argument("--workers", type=int, default=1, help="how many processes")
+    part.add_argument("--scheduler", help="the address of a Dask scheduler, in place of these")
+    part.add_argument(
+        "--segments", nargs="+", default=[], help="tables or .npy of pairs of numbers of points"
+    )
+
+
 def parser() -> argparse.ArgumentParser:
     """What the command takes."""
     form = argparse.RawDescriptionHelpFormatter
@@ -84,16 +100,6 @@ def add_mesh(part: argparse.ArgumentParser) -> None:
 def add_contours(part: argparse.ArgumentParser) -> None:
     part.add_argument("--interval", type=float, help="from level to level")
     part.add_argument("--levels", help="levels with commas between, or about how many")
-
-
-def add_tiles(part: argparse.ArgumentParser) -> None:
-    about = "a .npy of whole numbers, of the shape (n, 2)"
-    part.add_argument("inputs", metavar="IN", nargs="+", help=about)
-    part.add_argument("--tile-size", type=int, default=1_000_000, help="points a tile, about")
-    part.add_argument("--workers", type=int, default=1, help="how many processes")
-    part.add_argument("--scheduler", help="the address of a Dask scheduler, in place of these")
-    about = "a .npy of pairs of numbers of points, of the shape (m, 2)"
-    part.add_argument("--segments", nargs="+", default=[], help=about)
 
 
 # What is read.
@@ -192,19 +198,21 @@ def tiles(given: Any) -> None:
     os.makedirs(out, exist_ok=True)
     if given.workers < 1:
         raise ValueError(f"--workers is to be 1 or more, not {given.workers}")
-    words, segments = (given.inputs, given.tile_size), given.segments
+    words = given.inputs, given.tile_size
+    names = "segments", "scale", "columns", "header", "layer"
+    settings = {it: getattr(given, it) for it in names}
     if given.scheduler:
         from distributed import Client
 
         connect: Any = Client
         with connect(given.scheduler) as client:
             shows = not given.quiet
-            found = triangulate_tiles(*words, client, out, segments=segments, progress=shows)
+            found = triangulate_tiles(*words, client, out, progress=shows, **settings)
     elif given.workers == 1:
-        found = triangulate_tiles(*words, None, out, segments=segments)
+        found = triangulate_tiles(*words, None, out, **settings)
     else:
         with ProcessPoolExecutor(given.workers) as pool:
-            found = triangulate_tiles(*words, pool, out, segments=segments)
+            found = triangulate_tiles(*words, pool, out, **settings)
     for name in found.cells:
         print(name)
 

@@ -2,7 +2,7 @@
 by Python's whole numbers elsewhere. What only narrows a search errs on the safe side."""
 from __future__ import annotations
 
-from typing import Any, List, NamedTuple, Tuple
+from typing import Any, Callable, List, NamedTuple, Tuple
 
 import numpy as np
 
@@ -99,19 +99,32 @@ def circles(
 # Primes below 2**31. Their product times 2**64 is above 2**126, and a determinant of the circle
 # test is below 2**125 in absolute value: so it is 0 exactly where it leaves 0 by all three.
 PRIMES = 2**31 - 1, 2**31 - 19
+# A determinant that leaves 0 by 2**64 and is nearer to 0 than that is 0.
+WRAPS = 2.0**63
 
 
 def are_on_circle(columns: List[Any]) -> NDArray[Any]:
     """Whether the circle test of differences to the fourth point, columns of int64, is exactly 0:
-    then the fourth point is on the circle of the other three. No float decides."""
+    then the fourth point is on the circle of the other three."""
     # A product that passes 64 bits keeps what it leaves by 2**64.
     is_on = determinant(columns) == 0
-    for prime in PRIMES:
-        rows = np.flatnonzero(is_on)
-        if len(rows):
-            is_on[rows] = remainder([it[rows] % prime for it in columns], prime) == 0
+    rows = np.flatnonzero(is_on)
+    if len(rows):
+        floats = [it.take(rows).astype(np.float64) for it in columns]
+        depths, errors = np.abs(determinant(floats)), errors_of(floats)
+        is_on[rows] = depths <= errors
+        rows = rows[(depths <= errors) & (depths + errors >= WRAPS)]
+    for prime in PRIMES if len(rows) else ():
+        is_on[rows] &= remainder([it[rows] % prime for it in columns], prime) == 0
     given: NDArray[Any] = is_on
     return given
+
+
+def errors_of(columns: List[Any]) -> NDArray[Any]:
+    """More than a rounded determinant can be off: one number for all where that is small."""
+    most = max(float(max(it.max(), -it.min())) for it in columns)
+    error = ERROR * 12 * most**4
+    return np.array(error) if error < WRAPS / 2 else ERROR * size_of(columns)
 
 
 def remainder(columns: List[Any], prime: int) -> NDArray[Any]:
@@ -125,133 +138,171 @@ def remainder(columns: List[Any], prime: int) -> NDArray[Any]:
 
 
 class Faces(NamedTuple):
-    """All faces of a triangulation: its points, rows of int64; corners, the face opposite each
-    corner and whether the side there is a constraint, each of shape (3, f); and what `disks`
-    gives."""
+    """All faces of a triangulation: its points, rows of int64; and corners, the face opposite each
+    corner and whether the side there is a constraint, each of shape (3, f)."""
 
     points: NDArray[Any]
     corners: NDArray[Any]
     neighbors: NDArray[Any]
     is_constraint: NDArray[Any]
-    found: NDArray[Any]
+
+
+def centers_of(
+    x: NDArray[Any], y: NDArray[Any], corners: NDArray[Any]
+) -> Tuple[NDArray[Any], NDArray[Any]]:
+    """For each face the x of its circle's centre as a fraction, top and bottom by what they leave
+    by 2^64."""
+    tops = np.empty(corners.shape[1], np.int64)
+    bottoms = np.empty_like(tops)
+    for begin in range(0, len(tops), TOGETHER):
+        some = slice(begin, begin + TOGETHER)
+        a, b, c = (it.astype(np.intp) for it in corners[:, some])
+        ax, ay = x.take(a), y.take(a)
+        ux, uy, vx, vy = x.take(b) - ax, y.take(b) - ay, x.take(c) - ax, y.take(c) - ay
+        twice = (ux * vy - uy * vx) * 2
+        tops[some] = ax * twice + vy * (ux * ux + uy * uy) - uy * (vx * vx + vy * vy)
+        bottoms[some] = twice
+    return tops, bottoms
+
+
+# For each corner the faces that are joined with the face opposite it.
+Joined = List[NDArray[Any]]
+
+
+def joined(faces_of: Faces) -> Joined:
+    """The faces whose circle is that of the face beyond a side that is no constraint, by the corner
+    opposite that side."""
+    x, y = np.ascontiguousarray(faces_of.points.T)
+    centers = centers_of(x, y, faces_of.corners)
+    found: List[List[Any]] = [[np.empty(0, np.intp)] for _ in range(3)]
+    for begin in range(0, faces_of.corners.shape[1], TOGETHER):
+        for k in range(3):
+            faces, others = maybe_joined(faces_of, centers, begin, k)
+            if not len(faces):
+                continue
+            own = [faces_of.corners[it].take(faces).astype(np.intp) for it in turned(k)]
+            # The corner of the other face that is none of this one.
+            far = sum(it.take(others).astype(np.intp) for it in faces_of.corners) - own[1] - own[2]
+            far_x, far_y = x.take(far), y.take(far)
+            ways = [way for it in own for way in (x.take(it) - far_x, y.take(it) - far_y)]
+            is_on = are_on_circle(ways)
+            faces, others = faces.compress(is_on), others.compress(is_on)
+            found[k].append(faces)
+            for back, across in enumerate(faces_of.neighbors):
+                found[back].append(others.compress(across.take(others) == faces))
+    return [np.concatenate(it) for it in found]
+
+
+def turned(k: int) -> Tuple[int, int, int]:
+    """A corner and the next ones."""
+    return k, (k + 1) % 3, (k + 2) % 3
 
 
 def maybe_joined(
-    found: NDArray[Any], neighbors: NDArray[Any], is_constraint: NDArray[Any]
+    faces_of: Faces, centers: Tuple[NDArray[Any], NDArray[Any]], begin: int, k: int
 ) -> Tuple[NDArray[Any], NDArray[Any]]:
-    """Faces, and a corner of each, where the side opposite is no constraint and whose circle may be
-    that of the face beyond it: the centres are as near as rounding can bring them. Of two faces the
-    first is named.
-
-    `found` is what `disks` gives for all faces; neighbors, and whether a side is a constraint, are
-    of shape (3, f)."""
-    slack = found[:, 3] - found[:, 2]
-    low, high = found[:, 0] - slack, found[:, 0] + slack
-    faces, corners = [], []
-    for k in range(3):
-        for begin in range(0, len(found), TOGETHER):
-            some = slice(begin, begin + TOGETHER)
-            others = neighbors[k, some]
-            is_near = (low[some] <= high[others]) & (low[others] <= high[some])
-            near = np.flatnonzero(is_near) + begin
-            near = near[(neighbors[k, near] > near) & ~is_constraint[k, near]]
-            faces.append(near)
-            corners.append(np.full(len(near), k))
-    faces, corners = np.concatenate(faces), np.concatenate(corners)
-    others = neighbors[corners, faces]
-    apart = np.abs(found[faces, 1] - found[others, 1])
-    is_near = apart <= slack[faces] + slack[others]
-    return faces[is_near], corners[is_near]
-
-
-def joined(faces_of: Faces) -> Tuple[NDArray[Any], NDArray[Any]]:
-    """Faces, and a corner of each, where the side opposite is no constraint and whose circle is
-    that of the face beyond it; both faces are named."""
-    points, corners, neighbors, is_constraint, found = faces_of
-    if not len(found):
-        return np.empty(0, np.int64), np.empty(0, np.int64)
-    faces, k = maybe_joined(found, neighbors, is_constraint)
-    others = neighbors[k, faces]
-    own = [corners[(k + turn) % 3, faces] for turn in range(3)]
-    # The corner of the other face that is none of this one.
-    far = corners[:, others].sum(0, dtype=np.int64) - own[1] - own[2]
-    ways = [points[it] - points[far] for it in own]
-    is_on = are_on_circle([way[:, axis] for way in ways for axis in (0, 1)])
-    faces, k, others = faces[is_on], k[is_on], others[is_on]
-    back = np.argmax(neighbors[:, others] == faces, axis=0)
-    return np.concatenate([faces, others]), np.concatenate([k, back])
+    """Of some faces from `begin` on those that may be joined with the face opposite a corner, since
+    what is known of their centres agrees, and these others. Of two faces the first is named."""
+    some = slice(begin, begin + TOGETHER)
+    tops, bottoms = centers
+    others = faces_of.neighbors[k, some].astype(np.intp)
+    here = tops[some] * bottoms.take(others, mode="wrap")
+    there = bottoms[some] * tops.take(others, mode="wrap")
+    faces = np.flatnonzero(here == there)
+    others = others.take(faces)
+    faces += begin
+    is_first = (others > faces) & ~faces_of.is_constraint[k].take(faces)
+    return faces.compress(is_first), others.compress(is_first)
 
 
 def spread_over(
     values: NDArray[Any],
-    join: np.ufunc,
+    join: Callable[[Any, Any], Any],
     neighbors: NDArray[Any],
-    faces: NDArray[Any],
-    at: NDArray[Any],
+    joins: Joined,
 ) -> NDArray[Any]:
-    """For each face the least, or the greatest, value of all faces that it is joined with, over
-    others too."""
-    others = neighbors[at, faces]
+    """For each face what a function, as the least of two, makes of its value and those of all faces
+    that it is joined with, over others too."""
     found = values.copy()
-    while len(faces):
+    others = [across.take(it).astype(np.intp) for across, it in zip(neighbors, joins)]
+    while any(map(len, joins)):
         before = found.copy()
-        join.at(found, faces, found[others])
+        # A face stands in each list once.
+        for faces, beyond in zip(joins, others):
+            found[faces] = join(found.take(faces), found.take(beyond))
         # A face with this value knows one that has it.
         if np.array_equal(found, before):
             break
     return found
 
 
-def from_least(corners: NDArray[Any], keys: NDArray[Any]) -> NDArray[Any]:
-    """The corners of faces, each from the one with the least key on: rows of three."""
-    a, b, c = corners
-    of_a, of_b, of_c = keys[a], keys[b], keys[c]
-    is_b = (of_b < of_a) & (of_b < of_c)
-    is_c = (of_c < of_a) & (of_c < of_b)
-    rows = np.empty((len(a), 3), corners.dtype)
-    rows[:, 0] = np.where(is_b, b, np.where(is_c, c, a))
-    rows[:, 1] = np.where(is_b, c, np.where(is_c, a, b))
-    rows[:, 2] = np.where(is_b, a, np.where(is_c, b, c))
-    return rows
+class Wanted(NamedTuple):
+    """Which cells are wanted, by their points: those whose least point is of some, and that have a
+    corner, or have none, of others. Each array says it of each point."""
+
+    is_least: NDArray[Any]
+    is_corner: NDArray[Any]
+    has_corner: bool
+
+    def rows(self, corners: List[Any]) -> NDArray[Any]:
+        """Those of cells, their corners from the least on as columns, as rows of three."""
+        is_wanted = self.is_least.take(corners[0])
+        if self.has_corner or self.is_corner.any():
+            a, b, c = (self.is_corner.take(it) for it in corners)
+            is_wanted &= (a | b | c) == self.has_corner
+        some = np.flatnonzero(is_wanted)
+        rows = np.empty((len(some), 3), corners[0].dtype)
+        for column, corner in enumerate(corners):
+            rows[:, column] = corner.take(some)
+        return rows
+
+
+def from_least(corners: NDArray[Any], keys: NDArray[Any]) -> List[NDArray[Any]]:
+    """The corners of faces, each from the one with the least key on, as three columns."""
+    count = corners.shape[1]
+    of_all = [keys.take(it) for it in corners.astype(np.intp)]
+    least = np.minimum(np.minimum(of_all[0], of_all[1]), of_all[2])
+    turns = (of_all[1] == least).view(np.uint8) + (of_all[2] == least).view(np.uint8) * np.uint8(2)
+    flat, columns = corners.ravel(), np.arange(count)
+    ways = (np.array([(turn + k) % 3 * count for turn in range(3)], np.intp) for k in range(3))
+    return [flat.take(way.take(turns) + columns).astype(np.intp) for way in ways]
 
 
 def polygons(
-    keys: NDArray[Any],
-    corners: NDArray[Any],
-    neighbors: NDArray[Any],
-    faces: NDArray[Any],
-    at: NDArray[Any],
-    is_sure: NDArray[Any],
+    faces_of: Faces, keys: NDArray[Any], joins: Joined, is_joined: NDArray[Any], wanted: Wanted
 ) -> NDArray[Any]:
-    """The polygons that joined faces make, where one of these is sure, each cut from its point with
-    the least key."""
-    order = np.argsort(keys, kind="stable")
-    rank = np.empty(len(keys), np.int64)
-    rank[order] = np.arange(len(keys))
-    least = spread_over(rank[corners].min(0), np.minimum, neighbors, faces, at)
-    is_sure = spread_over(is_sure, np.logical_or, neighbors, faces, at)
-    is_joined = np.zeros(corners.shape, bool)
-    is_joined[at, faces] = True
-    some = np.flatnonzero(is_joined.any(0) & is_sure)
-    apex = order[least[some]]
-    rows = []
+    """The polygons that joined faces make, each cut from its point with the least key."""
+    _, corners, neighbors, _ = faces_of
+    some = np.flatnonzero(is_joined[0] | is_joined[1] | is_joined[2])
+    first = np.zeros(corners.shape[1], np.intp)
+    first[some] = from_least(corners.take(some, axis=1), keys)[0]
+    lesser = lambda a, b: a + (b - a) * (keys.take(b) < keys.take(a))  # noqa: E731
+    first = spread_over(first, lesser, neighbors, joins)
+    some = some.compress(wanted.is_least.take(first.take(some)))
+    apex, rows = first.take(some), []
+    of_all = [it.take(some).astype(np.intp) for it in corners]
     for k in range(3):
-        start, end = corners[(k + 1) % 3, some], corners[(k + 2) % 3, some]
-        is_side = ~is_joined[k, some] & (start != apex) & (end != apex)
-        rows.append(np.stack([apex[is_side], start[is_side], end[is_side]], 1))
+        start, end = of_all[(k + 1) % 3], of_all[(k + 2) % 3]
+        is_side = np.flatnonzero(~is_joined[k].take(some) & (start != apex) & (end != apex))
+        rows.append(wanted.rows([it.take(is_side) for it in (apex, start, end)]))
     return np.concatenate(rows)
 
 
-def cells(faces_of: Faces, is_sure: NDArray[Any]) -> NDArray[Any]:
-    """The faces of a constrained Delaunay triangulation that are sure, but each polygon of points
+def cells(faces_of: Faces, wanted: Wanted) -> NDArray[Any]:
+    """The faces of a constrained Delaunay triangulation that are wanted, but each polygon of points
     on one circle that no constraint cuts is cut from its least point, by x and then y: rows of
-    three, counterclockwise from that on. A polygon is sure where one of its faces is."""
-    points, corners, neighbors = faces_of[:3]
+    three, counterclockwise from that on."""
+    points, corners = faces_of[:2]
     keys = (points[:, 0] << 32) + points[:, 1]
-    faces, at = joined(faces_of)
-    is_alone = is_sure.copy()
-    is_alone[faces] = False
-    alone = from_least(corners[:, is_alone], keys)
-    if not len(faces):
-        return alone
-    return np.concatenate([alone, polygons(keys, corners, neighbors, faces, at, is_sure)])
+    joins = joined(faces_of)
+    is_joined = np.zeros(corners.shape, bool)
+    for k, faces in enumerate(joins):
+        is_joined[k, faces] = True
+    rows = [np.empty((0, 3), np.intp)]
+    for begin in range(0, corners.shape[1], TOGETHER):
+        some = slice(begin, begin + TOGETHER)
+        alone = corners[:, some].compress(~is_joined[:, some].any(0), axis=1)
+        rows.append(wanted.rows(from_least(alone, keys)))
+    if is_joined.any():
+        rows.append(polygons(faces_of, keys, joins, is_joined, wanted))
+    return np.concatenate(rows)

@@ -62,3 +62,20 @@ def hull_rows(points: NDArray[Any]) -> NDArray[Any]:
     if len(places) < 2:
         return rows
     return np.array([place[2] for place in chain(places) + chain(places[::-1])])
+
+
+def are_inside(boxes: NDArray[Any], polygon: NDArray[Any]) -> NDArray[Any]:
+    """Which boxes, rows of x and y from, x and y to, lie strictly inside of a polygon of corners of
+    a hull, counterclockwise. None lies inside of fewer than three.
+
+    >>> are_inside(np.array([(1, 1, 2, 2), (0, 1, 2, 2)]), np.array([(0, 0), (4, 0), (0, 9)]))
+    array([ True, False])
+    """
+    is_inside = np.full(len(boxes), len(polygon) > 2)
+    boxes, polygon = boxes.astype(np.int64), polygon.astype(np.int64)
+    for start, end in zip(polygon, np.roll(polygon, -1, axis=0)):
+        dx, dy = end - start
+        # The corner of each box that is least on the side's left.
+        x, y = boxes[:, 2 if dy > 0 else 0], boxes[:, 1 if dx > 0 else 3]
+        is_inside &= dx * (y - start[1]) - dy * (x - start[0]) > 0
+    return is_inside

@@ -59,3 +59,17 @@ def rounds(points: NDArray[Any]) -> List[NDArray[Any]]:
     if len(ends) == 1:
         return [np.arange(len(points))]
     return np.split(np.random.default_rng(0).permutation(len(points)), ends[:0:-1])
+
+
+def near_rounds(count: int) -> List[NDArray[Any]]:
+    """The same of so many rows in which near points mostly stand beside each other: of each few in a
+    row one is picked for an earlier round."""
+    draw, found, rows = np.random.default_rng(0), [], np.arange(count)
+    while len(rows) > FIRST:
+        begins = np.arange(0, len(rows) - TIMES + 1, TIMES)
+        picked = begins + draw.integers(0, TIMES, len(begins))
+        is_left = np.ones(len(rows), bool)
+        is_left[picked] = False
+        found.append(rows.compress(is_left))
+        rows = rows[picked]
+    return [rows, *found[::-1]]

@@ -57,8 +57,31 @@ def common_points(segments: NDArray[Any], one: NDArray[Any]) -> NDArray[Any]:
     return np.array(sorted(set(found)), np.int64).reshape(-1, 2)
 
 
+def may_enter(
+    segments: NDArray[Any], corners: NDArray[Any], boxes: NDArray[Any]
+) -> NDArray[Any]:
+    """Of faces, corners of shape (3, f, 2) and their bounds, and segments, which may have a point
+    inside of which, of shape (f, m): the bounds meet, and the corners are not all on one side."""
+    bounds = bounds_of(segments)
+    low, high = bounds[None, :, :2], bounds[None, :, 2:]
+    given: NDArray[Any] = ((low < boxes[:, None, 2:]) & (high > boxes[:, None, :2])).all(2)
+    # A segment along an axis has bounds of no width, which lie within those of a face or do not.
+    row, column = np.nonzero(given)
+    ends, at = segments[column, ENDS].T, corners[:, row]
+    places = np.stack([side(*ends, *corner.T) for corner in at])
+    given[row, column] = (places < 0).any(0) & (places > 0).any(0)
+    return given
+
+
+def longest_of(segments: NDArray[Any]) -> NDArray[Any]:
+    """Those that are likely to hide most."""
+    lengths = np.hypot(*(segments[:, 2:4] - segments[:, 0:2]).T.astype(np.float64))
+    given: NDArray[Any] = segments[np.argsort(-lengths, kind="stable")[:AMONG]]
+    return given
+
+
 # How many segments, the longest, may hide points from a face, and of how many these are chosen.
-HIDERS, AMONG = 4, 200
+HIDERS, AMONG = 3, 200
 
 
 def hiders_of(
@@ -67,8 +90,7 @@ def hiders_of(
     """For faces, corners of shape (3, f, 2), and boxes round their disks: segments that may hide
     points of the disks from them, of shape (HIDERS, f, 4): the ends of each, with the face on its
     left or on it. Where there are fewer, both ends are 0."""
-    lengths = np.hypot(*(segments[:, 2:4] - segments[:, 0:2]).T)
-    ends = segments[np.argsort(-lengths, kind="stable")[:AMONG], ENDS]
+    ends = longest_of(segments)[:, ENDS]
     ax, ay, bx, by = ends.T
     at_x, at_y = corners[..., 0, None], corners[..., 1, None]
     places = side(ax, ay, bx, by, at_x, at_y)
@@ -78,8 +100,8 @@ def hiders_of(
     is_near = (low[None] <= boxes[:, None, 2:4]) & (high[None] >= boxes[:, None, 0:2])
     may_hide = is_near.all(2) & (is_left | is_right)
     found = np.zeros((HIDERS, corners.shape[1], 4), np.int64)
-    # The longest come first.
-    chosen = np.argsort(~may_hide, axis=1, kind="stable")[:, :HIDERS]
+    ranks = np.where(may_hide, -angles_of(ends, corners.mean(0)), np.inf)
+    chosen = np.argsort(ranks, axis=1, kind="stable")[:, :HIDERS]
     for number, of_face in enumerate(chosen.T):
         rows = np.flatnonzero(may_hide[np.arange(len(boxes)), of_face])
         some = ends[of_face[rows]]
@@ -89,17 +111,30 @@ def hiders_of(
     return found
 
 
+def angles_of(ends: NDArray[Any], places: NDArray[Any]) -> NDArray[Any]:
+    """How wide each of some segments looks from each place, of shape (f, m)."""
+    ux, uy = (ends[:, k] - places[:, k, None] for k in (0, 1))
+    vx, vy = (ends[:, k + 2] - places[:, k, None] for k in (0, 1))
+    given: NDArray[Any] = np.arctan2(np.abs(ux * vy - uy * vx), ux * vx + uy * vy)
+    return given
+
+
 def are_hidden(
     ends: NDArray[Any], corners: NDArray[Any], x: NDArray[Any], y: NDArray[Any]
 ) -> NDArray[Any]:
-    """Which points, rows of them for each face, a segment on whose left or line the face is hides
-    from it: they are beyond it, and the ways to them from all three corners cross it, and so those
+    """Which points, one for each face, a segment on whose left or line the face is hides from it:
+    they are beyond it, and the ways to them from all three corners cross it, and so those
     from each point of the face. These points are a convex set."""
-    ux, uy, vx, vy = (it[:, None] for it in ends.T)
+    ux, uy, vx, vy = ends.T
     is_hidden = side(ux, uy, vx, vy, x, y) < 0
-    for corner in corners:
-        cx, cy = (it[:, None] for it in corner.T)
-        is_hidden &= (side(cx, cy, x, y, ux, uy) <= 0) & (side(cx, cy, x, y, vx, vy) >= 0)
+    rows = np.flatnonzero(is_hidden)
+    ux, uy, vx, vy = ends[rows].T
+    x, y = x[rows], y[rows]
+    is_between = np.ones(len(rows), bool)
+    for cx, cy in (corner[rows].T for corner in corners):
+        is_between &= side(cx, cy, x, y, ux, uy) <= 0
+        is_between &= side(cx, cy, x, y, vx, vy) >= 0
+    is_hidden[rows] = is_between
     given: NDArray[Any] = is_hidden
     return given
 

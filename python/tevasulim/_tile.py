@@ -8,11 +8,12 @@ from typing import Any, Dict, Iterator, List, NamedTuple, Optional, Tuple
 import numpy as np
 from numpy.typing import NDArray
 
-from ._circles import Faces, cells, circle_test, disks
+from ._circles import Faces, Wanted, cells, circle_test, disks
+from ._memory import freed_is_kept
 from ._mesh import Mesh
 from ._segments import ENDS, NONE, NUMBERS, ROW, are_hidden, bounds_of, common_points, crossing
-from ._segments import hiders_of, meet, side
-from ._tile_files import Neighbour, TileFiles, save
+from ._segments import hiders_of, may_enter, meet, side
+from ._tile_files import BLOCK, Neighbour, TileFiles, save
 from .errors import CrossingError
 
 # How wide a halo is at first, in mean distances of the tile's points.
@@ -20,8 +21,9 @@ HALO = 6.0
 # How many points are taken at first for one circle, those deepest inside. Each time that something
 # was given twice as many are taken: many points may be inside and hidden.
 DEEPEST, MOST_AT_ONCE = 8, 4096
-# How many circles are looked at together.
-AT_ONCE = 1024
+# How many circles are looked at together, and with how many blocks of points in all; and how many
+# pairs of a face and a segment.
+AT_ONCE, BLOCKS_AT_ONCE, PAIRS = 1024, 4096, 1 << 18
 
 
 class TileReport(NamedTuple):
@@ -42,14 +44,17 @@ class TileReport(NamedTuple):
 
 class Plan(NamedTuple):
     """What each tile knows of all: the part of the plane of each, and the bounds of its points, as
-    rows of x and y from, x and y to; the corners of the hull of all points, with their numbers; and
-    for each part of the segments where those of a tile begin."""
+    rows of x and y from, x and y to; the corners of the hull of all points, with their numbers; for
+    each part of the segments where those of a tile begin; the longest segments of all; and which
+    tiles have points that are not corners of that hull, which all tiles know."""
 
     boxes: NDArray[Any]
     bounds: NDArray[Any]
     corners: NDArray[Any]
     numbers: NDArray[Any]
     segments: List[List[int]]
+    longest: NDArray[Any]
+    has_others: NDArray[Any]
 
 
 def keys_of(points: NDArray[Any]) -> NDArray[Any]:
@@ -67,17 +72,6 @@ def are_listed(keys: NDArray[Any], points: NDArray[Any]) -> NDArray[Any]:
     return given
 
 
-def are_numbers(numbers: NDArray[Any], some: NDArray[Any]) -> NDArray[Any]:
-    """Which numbers are among some others, which are few."""
-    least = int(some.min())
-    is_some = np.zeros(int(some.max()) - least + 1, bool)
-    is_some[some - least] = True
-    at = numbers - least
-    is_in = (at >= 0) & (at < len(is_some))
-    is_in[is_in] = is_some[at[is_in]]
-    return is_in
-
-
 def are_within(found: NDArray[Any], region: NDArray[Any]) -> NDArray[Any]:
     """Which disks, as `disks` gives them, are surely in a region."""
     x, y, _, wide = found.T
@@ -87,18 +81,17 @@ def are_within(found: NDArray[Any], region: NDArray[Any]) -> NDArray[Any]:
 
 
 class Disks:
-    """The closed disks of some faces, corners of shape (3, f), whose circles `disks` found, and what
-    constraints hide of them."""
+    """The closed disks of some faces, corners of shape (3, f), and what constraints hide of
+    them."""
 
     def __init__(
         self,
         points: NDArray[Any],
         corners: NDArray[Any],
-        found: NDArray[Any],
         is_constraint: NDArray[Any],
         segments: NDArray[Any],
     ):
-        self.corners = points[corners]
+        self.corners, found = points[corners], disks(points, corners)
         self.is_constraint = is_constraint
         self.centers, self.radii = found[:, :2], found[:, 3]
         # So that no box which a disk reaches is passed over.
@@ -119,27 +112,28 @@ class Disks:
         dx = np.maximum(np.maximum(bounds[:, 0] - x, x - bounds[:, 2]), 0)
         dy = np.maximum(np.maximum(bounds[:, 1] - y, y - bounds[:, 3]), 0)
         ranks: NDArray[Any] = dx * dx + dy * dy - self.reaches_2[rows, None]
-        # What hides the four corners of a box hides all of it.
-        is_hidden = [np.ones(ranks.shape, bool) for _ in range(3 + len(self.hiders))]
-        for k, m in ((0, 1), (2, 1), (2, 3), (0, 3)) if len(self.hiders) else ():
-            at_x, at_y = (np.broadcast_to(bounds[:, it], ranks.shape) for it in (k, m))
-            for number, hidden in enumerate(self.hidden(rows, at_x, at_y)):
-                is_hidden[number] &= hidden
         if len(self.hiders):
-            ranks[np.logical_or.reduce(is_hidden)] = np.inf
+            # What hides the four corners of a box hides all of it.
+            row, box = np.nonzero(ranks < 0)
+            is_hidden = np.ones((3 + len(self.hiders), len(row)), bool)
+            for k, m in (0, 1), (2, 1), (2, 3), (0, 3):
+                corners = bounds[box, k], bounds[box, m]
+                is_hidden &= np.stack(list(self.hidden(rows[row], *corners)))
+            all_hidden = is_hidden.any(0)
+            ranks[row[all_hidden], box[all_hidden]] = np.inf
         return ranks
 
     def hidden(
         self, rows: NDArray[Any], x: NDArray[Any], y: NDArray[Any]
     ) -> Iterator[NDArray[Any]]:
-        """For some of them, and rows of points of the disk each, which of these points each side
-        that is a constraint, and each segment that may hide some, hides."""
+        """For points of their disks, each of the disk of a row, which of them each side that is a
+        constraint, and each segment that may hide some, hides."""
         corners = self.corners[:, rows]
         for k in range(3):
             # All of a disk that is beyond a side is seen from the face through that side.
             start, end = corners[(k + 1) % 3], corners[(k + 2) % 3]
-            ax, ay, bx, by = (it[:, None] for it in (*start.T, *end.T))
-            yield self.is_constraint[k, rows, None] & (side(ax, ay, bx, by, x, y) < 0)
+            (ax, ay), (bx, by) = start.T, end.T
+            yield self.is_constraint[k, rows] & (side(ax, ay, bx, by, x, y) < 0)
         for ends_of_hider in self.hiders[:, rows]:
             yield are_hidden(ends_of_hider, corners, x, y)
 
@@ -152,9 +146,10 @@ class Disks:
         signs, depths = np.full(points.shape[:2], -1, np.int8), np.zeros(points.shape[:2])
         signs[near], depths[near] = circle_test(a, b, c, points[near].astype(np.int64))
         if len(self.hiders):
-            whole = points.astype(np.int64)
-            for is_hidden in self.hidden(rows, whole[..., 0], whole[..., 1]):
-                signs[is_hidden] = -1
+            row, place = np.nonzero(signs >= 0)
+            x, y = points[row, place].astype(np.int64).T
+            is_hidden = np.logical_or.reduce(list(self.hidden(rows[row], x, y)))
+            signs[row[is_hidden], place[is_hidden]] = -1
         return signs, depths
 
 
@@ -164,22 +159,19 @@ class Crossing(Exception):
 
 class Part:
     """Some of all points, rows of int64 with their numbers and whether they are a tile's own, and
-    their triangulation, with the segments between them that are known."""
+    their triangulation, with the segments between them that are known. A point's row is that of its
+    vertex."""
 
     def __init__(
-        self,
-        tile: Tile,
-        points: NDArray[Any],
-        numbers: NDArray[Any],
-        is_own: NDArray[Any],
-        segments: NDArray[Any],
+        self, tile: Tile, points: NDArray[Any], numbers: NDArray[Any], segments: NDArray[Any]
     ):
         self.tile = tile
-        self.points, self.numbers, self.is_own = points, numbers, is_own
+        self.points, self.numbers = np.empty((0, 2), np.int64), np.empty(0, np.int64)
         self.segments = NONE
         self._keys: Optional[NDArray[Any]] = None
-        self.mesh = Mesh(points.astype(np.int32))
+        self.mesh = Mesh()
         try:
+            self.insert_all(points, numbers)
             self.constrain(segments)
             self.look()
         except BaseException:
@@ -190,23 +182,39 @@ class Part:
         self.mesh.close()
 
     def look(self) -> None:
-        """Reads the faces as they are now, and finds their circles."""
+        """Reads the faces as they are now."""
         self.corners, self.neighbors, self.is_constraint = self.mesh.faces()
-        self.found = disks(self.points, self.corners)
+        self.is_own = self.tile.are_own(self.points)
 
     def faces_at(self, is_asked: NDArray[Any]) -> NDArray[Any]:
         """The faces with a corner of some points."""
         a, b, c = self.corners
         return np.flatnonzero(is_asked[a] | is_asked[b] | is_asked[c])
 
-    def disks_of(self, faces: NDArray[Any]) -> Disks:
-        words = self.corners[:, faces], self.found[faces], self.is_constraint[:, faces]
-        return Disks(self.points, *words, self.segments)
+    def faces_past(self, region: NDArray[Any]) -> NDArray[Any]:
+        """All faces of which something that may be seen from them in their closed disks is beyond a
+        region that has all its points here, and others: a way from a face to what is seen in its
+        disk leads through faces whose disks have it too, to one that is not within the region."""
+        a, b, c = self.corners
+        is_past = ~meet(np.hstack([self.points, self.points]), region)
+        front = np.flatnonzero(is_past[a] | is_past[b] | is_past[c])
+        is_found = np.zeros(len(a), bool)
+        is_found[front] = True
+        found = [front]
+        while len(front):
+            others = self.neighbors[:, front]
+            others = np.unique(others[(others >= 0) & ~self.is_constraint[:, front]])
+            others = others[~is_found[others]]
+            is_found[others] = True
+            front = others[~are_within(disks(self.points, self.corners[:, others]), region)]
+            found.append(front)
+        return np.concatenate(found)
 
-    def boxes_of(self, faces: NDArray[Any]) -> NDArray[Any]:
-        """The bounds of some faces, as rows of x and y from, x and y to."""
-        at = self.points[self.corners[:, faces]]
-        return np.hstack([at.min(0), at.max(0)])
+    def disks_of(self, faces: NDArray[Any]) -> Disks:
+        words = self.corners[:, faces], self.is_constraint[:, faces]
+        longest = self.tile.plan.longest
+        is_new = ~np.isin(longest[:, ROW], self.segments[:, ROW])
+        return Disks(self.points, *words, np.concatenate([self.segments, longest[is_new]]))
 
     def is_known(self, points: NDArray[Any]) -> NDArray[Any]:
         if not len(points):
@@ -220,12 +228,11 @@ class Part:
         order = np.argsort(self.numbers, kind="stable")
         return order[np.searchsorted(self.numbers, numbers, sorter=order)]
 
-    def insert_all(self, points: NDArray[Any], numbers: NDArray[Any], is_own: NDArray[Any]) -> None:
+    def insert_all(self, points: NDArray[Any], numbers: NDArray[Any]) -> None:
         """Inserts further points, none of which is known."""
-        self.mesh.insert_all(points.astype(np.int32))
-        self.points = np.concatenate([self.points, points])
-        self.numbers = np.concatenate([self.numbers, numbers])
-        self.is_own = np.concatenate([self.is_own, is_own])
+        rows = self.mesh.insert_all(points)
+        self.points = np.concatenate([self.points, points[rows]])
+        self.numbers = np.concatenate([self.numbers, numbers[rows]])
         self._keys = None
 
     def constrain(self, segments: NDArray[Any]) -> None:
@@ -246,35 +253,30 @@ class Part:
         crosses one elsewhere."""
         points = common_points(self.segments, segment)
         points = points[~self.is_known(points)]
-        numbers, is_own = self.tile.numbers_at(points)
+        numbers = self.tile.numbers_at(points)
         is_there = numbers >= 0
         if not is_there.any():
             others = self.segments[crossing(self.segments, segment), ROW]
             raise Crossing(int(segment[ROW]), int(others.min(initial=segment[ROW])))
-        self.insert_all(points[is_there], numbers[is_there], is_own[is_there])
+        self.insert_all(points[is_there], numbers[is_there])
 
     def add(
-        self,
-        points: NDArray[Any],
-        numbers: NDArray[Any],
-        is_own: NDArray[Any],
-        segments: NDArray[Any],
+        self, points: NDArray[Any], numbers: NDArray[Any], segments: NDArray[Any]
     ) -> None:
         """Takes further points, none of which is known, and segments with their ends."""
         ends, of_them = ends_of(segments)
         numbers, first = np.unique(np.concatenate([numbers, of_them]), return_index=True)
-        is_own = np.concatenate([is_own, self.tile.are_own(ends)])[first]
         points = np.concatenate([points, ends])[first]
         is_new = ~self.is_known(points)
-        self.insert_all(points[is_new], numbers[is_new], is_own[is_new])
+        self.insert_all(points[is_new], numbers[is_new])
         self.constrain(segments)
         self.look()
 
-    def cells(self, is_sure: NDArray[Any]) -> NDArray[Any]:
-        """The cells of faces that are sure whose least point is the tile's own: rows of points."""
-        words = self.points, self.corners, self.neighbors, self.is_constraint, self.found
-        rows = cells(Faces(*words), is_sure)
-        given: NDArray[Any] = rows[self.is_own[rows[:, 0]]]
+    def cells(self, is_open: NDArray[Any], are_at: bool) -> NDArray[Any]:
+        """The cells whose least point is the tile's own, by the numbers of their corners: those at
+        points that are open, or all others."""
+        faces = Faces(self.points, self.corners, self.neighbors, self.is_constraint)
+        given: NDArray[Any] = self.numbers[cells(faces, Wanted(self.is_own, is_open, are_at))]
         return given
 
 
@@ -312,7 +314,7 @@ class Tile:
         self.points = self.points.astype(np.int64)
         self.tiles = [Neighbour(files, it) for it in range(len(plan.bounds))]
         self.bounds = plan.bounds.astype(np.int64)
-        self.is_there = plan.bounds[:, 0] <= plan.bounds[:, 2]
+        self.is_there = plan.has_others
         self.region = self.widened(plan.boxes[tile])
         self.asked, self.deepest = 0, DEEPEST
         self._segments: Dict[int, Any] = {}
@@ -331,16 +333,15 @@ class Tile:
         given: NDArray[Any] = (x >= x0) & (x < x1) & (y >= y0) & (y < y1)
         return given
 
-    def numbers_at(self, points: NDArray[Any]) -> Tuple[NDArray[Any], NDArray[Any]]:
-        """The numbers of the points at some positions, or -1 where none is, and whether these are
-        the tile's own."""
+    def numbers_at(self, points: NDArray[Any]) -> NDArray[Any]:
+        """The numbers of the points at some positions, or -1 where none is."""
         numbers = np.full(len(points), -1, np.int64)
         boxes = self.plan.boxes
         for row, (x, y) in enumerate(points.tolist()):
             is_in = (boxes[:, 0] <= x) & (x < boxes[:, 2]) & (boxes[:, 1] <= y) & (y < boxes[:, 3])
             (tile,) = np.flatnonzero(is_in)
             numbers[row] = self.files.numbers_at(int(tile), points[row : row + 1])[0]
-        return numbers, self.are_own(points)
+        return numbers
 
     def segments_in(self, box: NDArray[Any]) -> NDArray[Any]:
         """The segments whose bounds meet a box, by their rows."""
@@ -360,7 +361,7 @@ class Tile:
         """The points of other tiles in the region."""
         x0, y0, x1, y1 = self.region
         points, numbers = [np.empty((0, 2), np.int64)], [np.empty(0, np.int64)]
-        is_asked = meet(self.bounds, self.region) & self.is_there
+        is_asked = meet(self.bounds, self.region) & (self.bounds[:, 0] <= self.bounds[:, 2])
         is_asked[self.tile] = False
         for i in np.flatnonzero(is_asked):
             boxes = self.tiles[i].boxes()
@@ -385,7 +386,7 @@ class Tile:
         is_new = ~meet(np.hstack([more, more]), self.region)
         points = np.concatenate([points, more[is_new]])
         numbers = np.append(numbers, of_them[is_new])
-        return Part(self, points, numbers, np.arange(len(points)) < len(self.points), segments)
+        return Part(self, points, numbers, segments)
 
     def part_at(self, part: Part, is_open: NDArray[Any], given: Given, more: NDArray[Any]) -> Part:
         """A smaller part: some points of a part, their neighbours in it, what was given, the
@@ -405,23 +406,25 @@ class Tile:
         points = np.concatenate([part.points[rows], points, ends, self.plan.corners])
         numbers = np.concatenate([part.numbers[rows], numbers, of_ends, self.plan.numbers])
         numbers, first = np.unique(numbers, return_index=True)
-        points = points[first]
-        return Part(self, points, numbers, self.are_own(points), segments)
+        return Part(self, points[first], numbers, segments)
 
     def lacking(self, part: Part, faces: NDArray[Any]) -> Tuple[NDArray[Any], NDArray[Any]]:
         """Which faces of a part a segment may enter that the part does not know, and these
         segments."""
-        is_lacking, found = np.zeros(len(faces), bool), [NONE]
-        if not self.plan.segments:
+        is_lacking = np.zeros(len(faces), bool)
+        if not self.plan.segments or not len(faces):
             return is_lacking, NONE
-        known = part.segments[:, ROW]
-        for place, box in enumerate(part.boxes_of(faces)):
-            segments = self.segments_in(box)
-            segments = segments[~np.isin(segments[:, ROW], known)]
-            is_lacking[place] = len(segments) > 0
-            found.append(segments)
-        every = np.concatenate(found)
-        return is_lacking, every[np.unique(every[:, ROW], return_index=True)[1]]
+        corners = part.points[part.corners[:, faces]]
+        boxes = np.hstack([corners.min(0), corners.max(0)])
+        segments = self.segments_in(np.concatenate([boxes[:, :2].min(0), boxes[:, 2:].max(0)]))
+        segments = segments[~np.isin(segments[:, ROW], part.segments[:, ROW])]
+        is_needed, some = np.zeros(len(segments), bool), max(PAIRS // max(len(segments), 1), 1)
+        for begin in range(0, len(faces) if len(segments) else 0, some):
+            rows = slice(begin, begin + some)
+            may = may_enter(segments, corners[:, rows], boxes[rows])
+            is_lacking[rows] = may.any(1)
+            is_needed |= may.any(0)
+        return is_lacking, segments[is_needed]
 
     def ask(self, part: Part, faces: NDArray[Any], tiles: NDArray[Any]) -> Given:
         """Points of some tiles, unknown to a part, inside of the disks of its faces or, for those
@@ -451,21 +454,28 @@ def ask_tile(
     given: Given,
     deepest: int,
 ) -> None:
-    """The same of one tile, block by block."""
+    """The same of one tile, the nearest block first, and then ever more of them."""
     ranks = asked.ranks(rows, tile.boxes())
     order, reached = np.argsort(ranks, axis=1, kind="stable"), (ranks < 0).sum(1)
-    for turn in range(reached.max(initial=0)):
-        asking = np.flatnonzero((reached > turn) & ~given.is_done[rows])
+    first, width = 0, 1
+    while True:
+        asking = np.flatnonzero((reached > first) & ~given.is_done[rows])
         if not len(asking):
             return
-        points, numbers = tile.blocks(order[asking, turn])
+        turns = np.arange(first, min(first + width, order.shape[1]))
+        points, numbers = (
+            it.reshape(len(asking), -1, *it.shape[3:])
+            for it in tile.blocks(order[asking][:, turns])
+        )
         signs, depths = asked.depths(rows[asking], points)
+        signs[np.repeat(turns >= reached[asking, None], BLOCK, axis=1)] = -1
         # Without constraints a known point is never inside.
         maybe = np.nonzero(signs >= 0 if len(part.segments) else signs == 0)
         is_known = part.is_known(points[maybe])
         signs[maybe[0][is_known], maybe[1][is_known]] = -1
         take_inside(points, numbers, signs, depths, rows[asking], given, deepest)
         take_border(points, numbers, signs, rows[asking], given)
+        first, width = first + width, min(2 * width, max(BLOCKS_AT_ONCE // len(asking), 1))
 
 
 def take_inside(
@@ -515,40 +525,27 @@ class Work:
         part, self.rounds = self.tile.part(), 1
         try:
             self.known = len(part.points)
-            mine = part.faces_at(part.is_own)
-            reaching = mine[~are_within(part.found[mine], self.tile.region)]
+            past = part.faces_past(self.tile.region)
+            past = past[part.is_own[part.corners[:, past]].any(0)]
             others = self.tile.is_there.copy()
             others[self.tile.tile] = False
-            given = self.tile.ask(part, reaching, np.flatnonzero(others))
-            is_lacking, segments = self.tile.lacking(part, reaching)
-            unsure = reaching[given.is_given | is_lacking]
-            is_sure = np.zeros(part.corners.shape[1], bool)
-            is_sure[mine] = True
-            is_sure[unsure] = False
-            rows = part.numbers[part.cells(is_sure)]
-            if not len(unsure):
-                of_all: NDArray[Any] = rows
-                return of_all
+            given = self.tile.ask(part, past, np.flatnonzero(others))
+            is_lacking, segments = self.tile.lacking(part, past)
+            unsure = past[given.is_given | is_lacking]
             is_open = np.zeros(len(part.points), bool)
             is_open[part.corners[:, unsure]] = True
             is_open &= part.is_own
+            rows = part.cells(is_open, False)
+            if not len(unsure):
+                return rows
             smaller = self.tile.part_at(part, is_open, given, segments)
-            return self.with_cells_of(smaller, part.numbers[is_open], rows)
+            asked = part.numbers[is_open]
         finally:
             part.close()
-
-    def with_cells_of(self, smaller: Part, asked: NDArray[Any], rows: NDArray[Any]) -> NDArray[Any]:
-        """The rows, and the cells at some points, by number, of a smaller part. A cell that both
-        have stands there once: it is cut alike."""
         try:
-            more = self.sure_cells(smaller, asked)
+            return np.concatenate([rows, self.sure_cells(smaller, asked)])
         finally:
             smaller.close()
-        if not len(more):
-            return rows
-        is_again = are_numbers(rows[:, 0], more[:, 0])
-        both = np.unique(np.concatenate([rows[is_again], more]), axis=0)
-        return np.concatenate([rows[~is_again], both])
 
     def sure_cells(self, smaller: Part, asked: NDArray[Any]) -> NDArray[Any]:
         """The cells at some own points, after each face there is made sure."""
@@ -556,22 +553,20 @@ class Work:
         again = np.empty(0, np.int64)
         while True:
             self.rounds += 1
-            every = smaller.faces_at(np.isin(smaller.numbers, asked))
+            is_asked = np.isin(smaller.numbers, asked)
             # A face that nothing was given for, and that is as it was, is sure already.
-            is_asked = ~are_same(smaller.corners, looked)
-            is_asked[again] = True
-            faces, looked = every[is_asked[every]], smaller.corners
+            is_new = ~are_same(smaller.corners, looked)
+            is_new[again] = True
+            faces, looked = smaller.faces_at(is_asked), smaller.corners
+            faces = faces[is_new[faces]]
             given = self.tile.ask(smaller, faces, tiles)
             is_lacking, segments = self.tile.lacking(smaller, faces)
             again = faces[given.is_given | is_lacking]
-            points, numbers = given.points()
             if not len(again):
-                is_sure = np.zeros(smaller.corners.shape[1], bool)
-                is_sure[every] = True
-                of_all: NDArray[Any] = smaller.numbers[smaller.cells(is_sure)]
-                return of_all
+                return smaller.cells(is_asked, True)
+            points, numbers = given.points()
             self.fetched += len(numbers)
-            smaller.add(points, numbers, self.tile.are_own(points), segments)
+            smaller.add(points, numbers, segments)
 
 
 def are_same(corners: NDArray[Any], before: NDArray[Any]) -> NDArray[Any]:
@@ -582,6 +577,7 @@ def are_same(corners: NDArray[Any], before: NDArray[Any]) -> NDArray[Any]:
     return is_same
 
 
+@freed_is_kept()
 def cells_of_tile(files: TileFiles, tile: int, plan: Plan) -> TileReport:
     """Writes the cells of a tile."""
     begin = time.process_time()

@@ -9,11 +9,13 @@ from typing import Any, Dict, List, NamedTuple, Tuple
 import numpy as np
 from numpy.typing import NDArray
 
-from ._hull import hull_rows
+from ._hull import are_inside, hull_rows
 from ._library import MOST
+from ._memory import freed_is_kept
 from ._numbers import point_list
 from ._order import near_keys
-from ._segments import bounds_of, split
+from ._segments import bounds_of, longest_of, split
+from ._tile_parts import Reading, points_in
 from .errors import NoSuchPointError, TevasulimError
 
 # How many points a block has.
@@ -36,6 +38,18 @@ def save(name: str, array: NDArray[Any]) -> None:
     os.replace(part, name)
 
 
+# What the files of a run hold, which have nothing but rows: the kind of number, and how many a row.
+ROWS: Dict[str, Tuple[Any, int]] = {
+    "cut-points": (np.int32, 2),
+    "cut-numbers": (np.int64, 1),
+    "points": (np.int32, 2),
+    "numbers": (np.int64, 1),
+    "keys": (np.uint64, 1),
+    "boxes": (np.int32, 4),
+    "segments": (np.int64, 7),
+}
+
+
 def plan_of(sample: NDArray[Any], tiles: int) -> Any:
     """How the plane is cut, by halves of about as many sampled points for each tile: a tile is
     None, and a cut is an axis, the coordinate from which on points are in the second part, and both
@@ -43,12 +57,12 @@ def plan_of(sample: NDArray[Any], tiles: int) -> Any:
     if tiles > 1:
         spread = np.ptp(sample.astype(np.int64), axis=0) if len(sample) else np.zeros(2)
         axis = int(spread[1] > spread[0])
-        values = np.sort(sample[:, axis])
-        half = tiles // 2
-        larger = values[values > values[0]] if len(values) else values
+        values, half = sample[:, axis], tiles // 2
+        larger = values[values > values.min(initial=MOST)]
         if len(larger):
-            at = max(int(values[len(values) * half // tiles]), int(larger[0]))
-            low = sample[:, axis] < at
+            middle = len(values) * half // tiles
+            at = max(int(np.partition(values, middle)[middle]), int(larger.min()))
+            low = values < at
             return axis, at, plan_of(sample[low], half), plan_of(sample[~low], tiles - half)
     return None
 
@@ -141,8 +155,36 @@ class TileFiles:
         self.folder = folder
 
     def name(self, kind: str, number: int) -> str:
-        return os.path.join(self.folder, f"{kind}-{number}.npy")
+        ending = "rows" if kind in ROWS else "npy"
+        return os.path.join(self.folder, f"{kind}-{number}.{ending}")
 
+    def write(self, kind: str, number: int, rows: NDArray[Any]) -> None:
+        """Writes rows in one step."""
+        name = self.name(kind, number)
+        part = f"{name}.{os.getpid()}"
+        np.ascontiguousarray(rows, ROWS[kind][0]).tofile(part)
+        os.replace(part, name)
+
+    def rows(self, kind: str, number: int) -> NDArray[Any]:
+        """Rows that were written, of which only what is looked at is read."""
+        name, (of_type, columns) = self.name(kind, number), ROWS[kind]
+        count = os.path.getsize(name) // (np.dtype(of_type).itemsize * columns)
+        shape = (count, columns) if columns > 1 else (count,)
+        if not count:
+            return np.empty(shape, of_type)
+        return np.asarray(np.memmap(name, of_type, "r", shape=shape))
+
+    def take(self, part: Any, number: int, reading: Reading) -> str:
+        """The name of a .npy of the points of a part that was handed in: the part itself where it
+        is the name of one."""
+        if isinstance(part, str) and part.endswith(".npy") and reading == Reading():
+            if not load(part).dtype.names:
+                return part
+        name = self.name("given", number)
+        save(name, points_in(part, reading))
+        return name
+
+    @freed_is_kept()
     def cut(self, part: str, number: int, first: int, plan: Any, tiles: int) -> List[int]:
         """Cuts what was handed in by tile: the points in the order of their tiles, and their
         numbers, from `first` on. Gives where each tile begins."""
@@ -151,16 +193,20 @@ class TileFiles:
         tile = np.empty(len(points), np.uint16 if tiles <= 2**16 else np.int32)
         assign(plan, points, np.arange(len(points)), tile)
         order = np.argsort(tile, kind="stable")
-        save(self.name("cut-points", number), points[order])
-        save(self.name("cut-numbers", number), first + order.astype(np.int64))
+        self.write("cut-points", number, points[order])
+        self.write("cut-numbers", number, first + order.astype(np.int64))
         given: List[int] = np.searchsorted(tile[order], np.arange(tiles + 1)).tolist()
         return given
 
-    def gather(self, tile: int, parts: List[Tuple[int, int, int]]) -> Gathered:
+    @freed_is_kept()
+    def gather(
+        self, tile: int, parts: List[Tuple[int, int, int]], polygon: NDArray[Any]
+    ) -> Gathered:
         """Gathers the points of a tile, each once with its least number, from parts with a begin
-        and an end."""
+        and an end. Corners of a polygon are given, so that what lies inside is no corner of the
+        hull of all."""
         points, numbers = (
-            np.concatenate([load(self.name(kind, part))[begin:end] for part, begin, end in parts])
+            np.concatenate([self.rows(kind, part)[begin:end] for part, begin, end in parts])
             if parts
             else empty
             for kind, empty in (
@@ -179,14 +225,16 @@ class TileFiles:
         boxes = boxes_of(points) if len(points) else np.empty((0, 4), np.int32)
         files = ("points", points), ("numbers", numbers), ("boxes", boxes), ("keys", keys[is_first])
         for kind, array in files:
-            save(self.name(kind, tile), array)
+            self.write(kind, tile, array)
         low, high = boxes[:, :2].min(0, initial=MOST), boxes[:, 2:].max(0, initial=-MOST)
-        corners = hull_rows(points)
+        is_outer = np.repeat(~are_inside(boxes, polygon), BLOCK)[: len(points)]
+        outer = np.flatnonzero(is_outer)
+        corners = outer[hull_rows(points[outer])]
         return Gathered(len(points), np.concatenate([low, high]), points[corners], numbers[corners])
 
     def numbers_at(self, tile: int, points: NDArray[Any]) -> NDArray[Any]:
         """The numbers of a tile's points at some positions, or -1 where none is."""
-        keys, numbers = load(self.name("keys", tile)), load(self.name("numbers", tile))
+        keys, numbers = self.rows("keys", tile), self.rows("numbers", tile)
         if not len(keys):
             return np.full(len(points), -1, np.int64)
         wanted = near_keys(points)
@@ -195,10 +243,10 @@ class TileFiles:
 
     def place(
         self, part: str, number: int, first: int, points: List[str], firsts: List[int], plan: Any
-    ) -> List[int]:
+    ) -> Tuple[List[int], NDArray[Any]]:
         """Finds the ends of the segments of a part, whose rows begin with `first`, in the parts of
         the points, and sorts the segments by the tiles that they may meet. Gives where each tile
-        begins."""
+        begins, and the longest segments."""
         numbers = segment_list(part, firsts[-1])
         ends = positions_of(numbers.ravel(), points, firsts)
         tile = np.empty(len(ends), np.int32)
@@ -212,23 +260,21 @@ class TileFiles:
         # A point and itself are joined by nothing.
         segments = segments[segments[:, 4] != segments[:, 5]]
         each = split(plan, bounds_of(segments), np.arange(len(segments)))
-        save(self.name("segments", number), segments[np.concatenate(each)])
+        self.write("segments", number, segments[np.concatenate(each)])
         assert len(each) == tiles
-        given: List[int] = np.cumsum([0, *map(len, each)]).tolist()
-        return given
+        return np.cumsum([0, *map(len, each)]).tolist(), longest_of(segments)
 
     def segments(self, tile: int, begins: List[List[int]]) -> NDArray[Any]:
         """The segments that a tile may meet, by their rows."""
         found = [
-            load(self.name("segments", number))[begin[tile] : begin[tile + 1]]
+            self.rows("segments", number)[begin[tile] : begin[tile + 1]]
             for number, begin in enumerate(begins)
         ]
-        given: NDArray[Any] = np.concatenate(found).astype(np.int64)
-        return given
+        return np.concatenate(found)
 
     def points(self, tile: int) -> Tuple[NDArray[Any], NDArray[Any]]:
-        """The points of a tile and their numbers, read whole."""
-        return np.load(self.name("points", tile)), np.load(self.name("numbers", tile))
+        """The points of a tile and their numbers."""
+        return self.rows("points", tile), self.rows("numbers", tile)
 
 
 class Neighbour:
@@ -236,43 +282,37 @@ class Neighbour:
 
     def __init__(self, files: TileFiles, tile: int):
         self.files, self.tile = files, tile
-        self.bytes = 0
         self._boxes: Any = None
-        self._read: Dict[Any, Any] = {}
 
     def boxes(self) -> NDArray[Any]:
         """The bounds of its blocks."""
         if self._boxes is None:
-            self._boxes = np.load(self.files.name("boxes", self.tile)).astype(np.int64)
-            self.bytes += self._boxes.nbytes // 2
-            self._points = load(self.files.name("points", self.tile))
-            self._numbers = load(self.files.name("numbers", self.tile))
+            self._boxes = self.files.rows("boxes", self.tile).astype(np.int64)
+            self._points, self._numbers = self.files.points(self.tile)
+            self._is_read = np.zeros(len(self._boxes), bool)
         given: NDArray[Any] = self._boxes
         return given
 
-    def block(self, number: int) -> Tuple[NDArray[Any], NDArray[Any]]:
-        """The points of a block and their numbers. A block is read once."""
-        found = self._read.get(number)
-        if found is None:
-            rows = slice(BLOCK * number, BLOCK * (number + 1))
-            found = np.array(self._points[rows]), np.array(self._numbers[rows])
-            self.bytes += sum(it.nbytes for it in found)
-            self._read[number] = found
-        return found
+    @property
+    def bytes(self) -> int:
+        """How many bytes were read of it."""
+        if self._boxes is None:
+            return 0
+        each = self._points.itemsize * 2 + self._numbers.itemsize
+        given: int = self._boxes.nbytes // 2 + int(self._is_read.sum()) * BLOCK * each
+        return given
 
     def blocks(self, numbers: NDArray[Any]) -> Tuple[NDArray[Any], NDArray[Any]]:
-        """The points of a block for each number, and their numbers, as rows of one length: the last
-        point of a block that is shorter stands there often."""
-        each, places = np.unique(numbers, return_inverse=True)
-        found = [self.block(it) for it in each.tolist()]
-        last = [np.minimum(np.arange(BLOCK), len(points) - 1) for points, _ in found]
-        points = np.stack([points[rows] for (points, _), rows in zip(found, last)])
-        of_them = np.stack([of_points[rows] for (_, of_points), rows in zip(found, last)])
-        return points[places], of_them[places]
+        """The points of some blocks, and their numbers, with one axis more than the blocks'
+        numbers: the last point of a block that is shorter stands there often."""
+        self._is_read[numbers] = True
+        places = numbers[..., None] * BLOCK + np.arange(BLOCK)
+        np.minimum(places, len(self._points) - 1, out=places)
+        return self._points[places], self._numbers[places]
 
     def rows(self, blocks: NDArray[Any]) -> Tuple[NDArray[Any], NDArray[Any]]:
         """The points of some blocks, and their numbers."""
-        if not len(blocks):
-            return np.empty((0, 2), np.int32), np.empty(0, np.int64)
-        points, numbers = zip(*map(self.block, blocks.tolist()))
-        return np.concatenate(points), np.concatenate(numbers)
+        self._is_read[blocks] = True
+        places = (blocks[:, None] * BLOCK + np.arange(BLOCK)).ravel()
+        places = places[places < len(self._points)]
+        return self._points[places], self._numbers[places]

@@ -25,21 +25,23 @@ import operator
 import os
 import shutil
 import tempfile
-from typing import Any, Dict, List, NamedTuple, Optional, Sequence
+from typing import Any, Dict, List, NamedTuple, Optional, Sequence, Tuple
 
 import numpy as np
 from numpy.typing import NDArray
 
 from ._hull import hull_rows
 from ._runner import Runner
+from ._segments import NONE, longest_of
 from ._tile import Plan, TileReport, cells_of_tile
 from ._tile_files import TileFiles, boxes_in, plan_of, survey
+from ._tile_parts import TABLES, Reading, ending, parts_of, segments_in
 from .errors import CrossingError, TevasulimError
 
 __all__ = ["triangulate_tiles", "neighbors", "TiledCells", "TileReport"]
 
-# How many points of all are looked at before the plane is cut.
-SAMPLE = 200_000
+# How many points of all are looked at before the plane is cut, and of these for their hull.
+SAMPLE, FOR_HULL = 200_000, 2_000
 
 
 class TiledCells(NamedTuple):
@@ -76,17 +78,24 @@ def neighbors(cells: Sequence[Any]) -> List[NDArray[np.int64]]:
     return np.split(beyond, np.cumsum([len(it) for it in arrays])[:-1])
 
 
-def names_of(parts: Any, files: TileFiles, kind: str) -> List[str]:
-    """What was handed in, as names of files."""
-    if isinstance(parts, (str, os.PathLike, np.ndarray)):
-        parts = [parts]
+def names_of(given: Any, files: TileFiles, runner: Runner, reading: Reading) -> List[str]:
+    """The points that were handed in, as names of .npy files. Workers read what is named, and this
+    process writes what it holds."""
+    tasks = [(part, i, reading) for i, part in enumerate(parts_of(given))]
+    named = [it for it in tasks if isinstance(it[0], str) or hasattr(it[0], "compute")]
+    found = dict(zip((it[1] for it in named), runner.run(files.take, named)))
+    return [found.get(it[1]) or files.take(*it) for it in tasks]
+
+
+def segments_of(given: Any, files: TileFiles) -> List[str]:
+    """The segments that were handed in, as names of .npy files."""
     names = []
-    for i, part in enumerate(parts):
-        if isinstance(part, (str, os.PathLike)):
-            names.append(os.path.abspath(part))
-        else:
-            names.append(files.name(kind, i))
-            np.save(names[-1], part)
+    for i, part in enumerate(parts_of(given)):
+        is_array = not isinstance(part, str)
+        names.append(part if not is_array else files.name("given-segments", i))
+        if is_array or ending(part) in TABLES:
+            names[-1] = files.name("given-segments", i)
+            np.save(names[-1], part if is_array else segments_in(part))
     return names
 
 
@@ -112,7 +121,9 @@ def cut_plane(
         ]
         for tile in range(len(boxes))
     ]
-    gathered = runner.run(files.gather, list(enumerate(parts)))
+    some = sample[:: max(len(sample) // FOR_HULL, 1)].astype(np.int64)
+    polygon = some[hull_rows(some)]
+    gathered = runner.run(files.gather, [(tile, part, polygon) for tile, part in enumerate(parts)])
     for i in range(len(names)):
         os.remove(files.name("cut-points", i))
         os.remove(files.name("cut-numbers", i))
@@ -120,9 +131,15 @@ def cut_plane(
     numbers = np.concatenate([it.numbers for it in gathered])
     rows = hull_rows(corners)
     bounds = np.stack([it.bounds for it in gathered])
-    segments = place_segments(of_segments, names, firsts, cuts, runner, files)
+    placed = place_segments(of_segments, names, firsts, cuts, runner, files)
+    longest = longest_of(np.concatenate([NONE, *(some for _, some in placed)]))
     of_boxes = np.array([[x[0], y[0], x[1], y[1]] for x, y in boxes])
-    return Plan(of_boxes, bounds, corners[rows], numbers[rows], segments)
+    begins = [it for it, _ in placed]
+    # How many points of each tile are corners of the hull of all.
+    tile_of = np.repeat(np.arange(len(boxes)), [len(it.numbers) for it in gathered])
+    known = np.bincount(tile_of[rows], minlength=len(boxes))
+    has_others = np.array([it.size for it in gathered]) > known
+    return Plan(of_boxes, bounds, corners[rows], numbers[rows], begins, longest, has_others)
 
 
 def place_segments(
@@ -132,8 +149,9 @@ def place_segments(
     cuts: Any,
     runner: Runner,
     files: TileFiles,
-) -> List[List[int]]:
-    """Sorts the segments of each part by the tiles that they may meet: where each tile begins."""
+) -> List[Tuple[List[int], NDArray[Any]]]:
+    """Sorts the segments of each part by the tiles that they may meet: where each tile begins, and
+    the longest segments."""
     counts = [len(np.load(part, mmap_mode="r")) for part in parts]
     rows = np.cumsum([0, *counts]).tolist()
     tasks = [(part, i, rows[i], names, firsts, cuts) for i, part in enumerate(parts)]
@@ -141,8 +159,8 @@ def place_segments(
 
 
 def stop_where_crossed(reports: List[TileReport]) -> None:
-    """Raises the error of the first segment that crosses an earlier one, as one triangulation of all
-    does."""
+    """Raises the error of the first segment that crosses an earlier one, as one triangulation of
+    all does."""
     crossed = [it.crossing for it in reports if it.crossing]
     if crossed:
         row, other = min(crossed)
@@ -156,6 +174,10 @@ def triangulate_tiles(
     folder: Optional[str] = None,
     *,
     segments: Any = (),
+    scale: Optional[int] = None,
+    columns: Optional[str] = None,
+    header: bool = False,
+    layer: Any = None,
     resources: Optional[Dict[str, float]] = None,
     progress: bool = False,
 ) -> TiledCells:
@@ -164,10 +186,12 @@ def triangulate_tiles(
 
     Parameters
     ----------
-    points : list of array_like or str
-        Parts, each an array of shape (n, 2) or the name of such a .npy that each worker reaches.
-        The number of a point is its row in all parts after each other. Coordinates are whole
-        numbers from -2**29 to 2**29.
+    points : list of array_like, frame or str, or a frame of dask.dataframe
+        Parts: an array of shape (n, 2), or one with names for its columns, as LAS has; a frame of
+        pandas or geopandas; or the name of a file that each worker reaches: a .npy of such an
+        array, a table (.csv, .tsv; .txt, .xyz: columns apart by spaces), a .parquet, or what
+        geopandas reads. The number of a point is its row in all parts after each other. Coordinates
+        are whole numbers from -2**29 to 2**29.
     tile_size : int
         About how many points a tile has. A worker needs about 1000 bytes for each.
     client : distributed.Client or concurrent.futures.Executor, optional
@@ -178,8 +202,18 @@ def triangulate_tiles(
         with cells are left, and an index that names them. Without one, a folder of this machine is
         used, and arrays are given.
     segments : list of array_like or str
-        Parts, each an array of shape (m, 2) or the name of such a .npy: pairs of numbers of points,
-        which are joined by constraints. They may overlap and meet at points, and may not cross.
+        Parts, each an array of shape (m, 2) or the name of such a .npy or table: pairs of numbers
+        of points, which are joined by constraints. They may overlap and meet at points, and may not
+        cross.
+    scale : int, optional
+        How many parts a unit has, as 100 for coordinates with two decimals: others are refused.
+    columns : str, optional
+        The columns of x and y, by names, as "east,north", or places, as "0,1"; without it x and y,
+        or the first two of a table without names.
+    header : bool
+        Whether the first row of a table has names, which `columns` by names says too.
+    layer : str or int, optional
+        The layer of a file with several.
     resources : dict, optional
         What a task needs of the resources that the workers of a Dask cluster were started with, as
         `{"memory": 2e8}`, so that not too many run at once.
@@ -200,6 +234,8 @@ def triangulate_tiles(
         and the message names both rows.
     TevasulimError, TypeError, ValueError
         Where a part is refused; `index` is the row of the point or segment in that part.
+    ImportError
+        Where a part needs pandas, geopandas or another package that is not installed.
 
     Examples
     --------
@@ -214,7 +250,8 @@ def triangulate_tiles(
     runner = Runner(client, resources, progress)
     try:
         files = TileFiles(room)
-        given = names_of(points, files, "given"), names_of(segments, files, "given-segments")
+        reading = Reading(columns, header, layer, scale)
+        given = names_of(points, files, runner, reading), segments_of(segments, files)
         plan = cut_plane(*given, tile_size, runner, files)
         tiles = range(len(plan.boxes))
         reports = runner.run(cells_of_tile, [(files, tile, plan) for tile in tiles])
