@@ -5,10 +5,10 @@ from ctypes import byref, c_size_t
 from typing import Any, Tuple
 
 import numpy as np
-from numpy.typing import NDArray
 
 from . import _library as library
 from ._order import near_rounds
+from ._types import NDArray
 from .errors import CrossingError
 
 # How many faces are copied together, so that they stay in a processor's cache.

@@ -5,7 +5,8 @@ from __future__ import annotations
 from typing import Any, List, Tuple
 
 import numpy as np
-from numpy.typing import NDArray
+
+from ._types import NDArray
 
 # Columns of a row.
 ENDS, NUMBERS, ROW = slice(0, 4), slice(4, 6), 6

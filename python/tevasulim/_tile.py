@@ -6,7 +6,6 @@ import time
 from typing import Any, Dict, Iterator, List, NamedTuple, Optional, Tuple
 
 import numpy as np
-from numpy.typing import NDArray
 
 from ._circles import Faces, Wanted, cells, circle_test, disks
 from ._memory import freed_is_kept
@@ -14,6 +13,7 @@ from ._mesh import Mesh
 from ._segments import ENDS, NONE, NUMBERS, ROW, are_hidden, bounds_of, common_points, crossing
 from ._segments import hiders_of, may_enter, meet, side
 from ._tile_files import BLOCK, Neighbour, TileFiles, save
+from ._types import NDArray
 from .errors import CrossingError
 
 # How wide a halo is at first, in mean distances of the tile's points.

@@ -7,7 +7,6 @@ import os
 from typing import Any, Dict, List, NamedTuple, Tuple
 
 import numpy as np
-from numpy.typing import NDArray
 
 from ._hull import are_inside, hull_rows
 from ._library import MOST
@@ -16,6 +15,7 @@ from ._numbers import point_list
 from ._order import near_keys
 from ._segments import bounds_of, longest_of, split
 from ._tile_parts import Reading, points_in
+from ._types import NDArray
 from .errors import NoSuchPointError, TevasulimError
 
 # How many points a block has.

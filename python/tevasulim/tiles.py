@@ -28,7 +28,6 @@ import tempfile
 from typing import Any, Dict, List, NamedTuple, Optional, Sequence, Tuple
 
 import numpy as np
-from numpy.typing import NDArray
 
 from ._hull import hull_rows
 from ._runner import Runner
@@ -36,6 +35,7 @@ from ._segments import NONE, longest_of
 from ._tile import Plan, TileReport, cells_of_tile
 from ._tile_files import TileFiles, boxes_in, plan_of, survey
 from ._tile_parts import TABLES, Reading, ending, parts_of, segments_in
+from ._types import NDArray
 from .errors import CrossingError, TevasulimError
 
 __all__ = ["triangulate_tiles", "neighbors", "TiledCells", "TileReport"]
