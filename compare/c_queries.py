@@ -9,7 +9,7 @@ from geometry import (
     meets_rectangle,
     met_by_segment,
 )
-from questions import Questions
+from places import outer_sides, place_of
 from session import in_range
 
 # Where a point is, and what a line meets, by number.
@@ -31,7 +31,6 @@ class Queries:
         self.pairs = [pair(i, j) for i, j, _ in edges]
         self.corners = [it[:3] for it in faces]
         self.room = len(edges) + len(self.points) + 9
-        self.questions = Questions(state, self.pairs, self.corners)
 
     def list(self, name, width, *words):
         """A status and the rows that a query gives."""
@@ -63,9 +62,10 @@ class Queries:
             expect(is_inside(*corners, p), True, f"{p} in the face {self.corners[index]}")
         else:
             expect(kind, OUTSIDE, f"the place of {p}")
-            beside = {pair(i, j) for i, j in self.questions.outer_sides(p)}
+            beside = {pair(i, j) for i, j in outer_sides(self.points, self.pairs, p)}
             expect(self.pairs[index] in beside, True, f"{p} outside the edge {self.pairs[index]}")
-            expect(self.questions.place(p), None, f"{p} outside")
+            found = place_of(self.points, self.pairs, self.corners, p)
+            expect(found, [], f"what {p} is on, which is outside")
 
     def nearest(self, asked):
         status, near = self.kept.locate("nearest", asked, 1)

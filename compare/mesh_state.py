@@ -1,4 +1,4 @@
-"""The state that crates/test_sessions prints: its vertices, edges and faces with their links, and
+"""The state that crates/test_calls prints: its vertices, edges and faces with their links, and
 whether they are those of points and constraints."""
 import re
 from ast import literal_eval
@@ -15,10 +15,12 @@ FACE = re.compile(r"face (\d+) (\[.*?\]) \d+")
 
 class MeshState:
     """What the lines of a state say: vertices by their index, with what the vertex carries and the
-    edge that it names; directed edges by theirs; and the corners of each inner face."""
+    edge that it names; directed edges by theirs; and the corners of each inner face, from the least
+    one on and as they are listed."""
 
     def __init__(self, lines):
-        self.points, self.tags, self.out_edges, self.edges, self.faces = [], [], [], [], {}
+        self.points, self.tags, self.out_edges, self.edges = [], [], [], []
+        self.faces, self.listed = {}, {}
         indexes = {"vertex": [], "edge": [], "face": []}
         for line in lines:
             vertex, edge, face = (kind.fullmatch(line) for kind in (VERTEX, EDGE, FACE))
@@ -32,7 +34,9 @@ class MeshState:
                 links = literal_eval(edge[3])
                 self.edges.append(Edge(literal_eval(edge[2]), *links, edge[4] == "true"))
             elif face:
-                self.faces[int(face[1])] = tuple(literal_eval(face[2]))
+                corners = self.listed[int(face[1])] = tuple(literal_eval(face[2]))
+                least = corners.index(min(corners))
+                self.faces[int(face[1])] = corners[least:] + corners[:least]
         firsts = {"vertex": 0, "edge": 0, "face": 1}
         self.are_in_order = all(
             found == list(range(firsts[kind], firsts[kind] + len(found)))

@@ -1,5 +1,5 @@
-"""The calls that compare/refused_calls and compare/refused_hints make, as lines for
-test_sessions."""
+"""The calls that compare/refused_calls and compare/refused_hints make, as lines for test_calls."""
+from session import vertex_handle, vertex_text
 
 SHAPES = [
     "edges_in_rectangle -50 -30 50 40",
@@ -39,7 +39,7 @@ SCRIPT = [
     "write_data 500",
     "try_clone",
     "insert 30 60 14",
-    "add_constraint 2 3",
+    "try_add_constraint 2 3",
     "remove_constraint_edge 2 3",
     "try_add_constraint 6 4",
     "write_data 600",
@@ -59,7 +59,7 @@ SCRIPT = [
     "try_clone",
     "insert_all -70 44 60 -3 61 -4 60 -3",
     "with_capacity 50 150 100",
-    "plain",
+    "begin 0",
     f"insert_all {' '.join(f'{7 * i} {i * i % 10}' for i in range(23))}",
     "insert_all 3 4 0 50 3 4 11 -9",
     "reserve 200",
@@ -69,21 +69,21 @@ SCRIPT = [
 WITHOUT_MEMORY = [
     (0, "clear", "0"),
     (0, "remove 0", "None"),
-    (7, "replace_vertex 1 90", "Some(3)"),
+    (7, "replace_vertex 1 90", f"Some({vertex_text((-40, -10), 3)})"),
     (0, "insert 536870913 0 1", "Err(TooLarge)"),
     (0, "with_capacity 0 0 0", "Ok(())"),
     (0, "with_capacity 5000000000 0 0", "Err(OutOfIndexes)"),
-    (7, "insert 40 10 77", "Ok(2)"),
-    (11, "insert 40 10 77", "Ok(2)"),
-    (11, "insert_with_hint 40 10 78 0", "Ok(2)"),
+    (7, "insert 40 10 77", f"Ok({vertex_handle(2)})"),
+    (11, "insert 40 10 77", f"Ok({vertex_handle(2)})"),
+    (11, "insert_with_hint 40 10 78 0", f"Ok({vertex_handle(2)})"),
     (11, "insert 0 -536870913 1", "Err(TooLarge)"),
     (11, "locate_and_remove 41 10", "Some(Ok(None))"),
     (11, "insert_all 1 1 0 536870913", "Err(Vertex { place: 1, error: TooLarge })"),
     (0, "insert_all", "Ok([])"),
     (11, "reserve 5000000000", "Err(OutOfIndexes)"),
-    (SCRIPT.index("add_constraint 2 3"), "try_add_constraint 1 1", "path"),
-    (SCRIPT.index("add_constraint 2 3"), "remove_constraint_edge 6 3", "Some(Ok(false))"),
-    (SCRIPT.index("remove_constraint_edge 2 3"), "try_add_constraint 6 4", "path"),
+    (SCRIPT.index("try_add_constraint 2 3"), "try_add_constraint 1 1", "Some(Ok([]))"),
+    (SCRIPT.index("try_add_constraint 2 3"), "remove_constraint_edge 6 3", "Some(Ok(false))"),
+    (SCRIPT.index("remove_constraint_edge 2 3"), "try_add_constraint 6 4", "Some(Ok([]))"),
 ]
 # Lists of edits, each after some lines: of both types, with steps refused for other reasons.
 PLACES = [(0, 0), (40, 10), (-30, 50), (10, -70), (90, 90), (20, 5)]
@@ -95,7 +95,7 @@ REPLAYED = [
         [*INSERTED, "list_remove 2", "list_remove 99", "list_add 0 1"],
     ),
     (
-        SCRIPT[: SCRIPT.index("add_constraint 2 3")],
+        SCRIPT[: SCRIPT.index("try_add_constraint 2 3")],
         ["list_insert 1 60", "list_add 2 3", "list_insert 33 44", "list_add 6 4", "list_remove 7",
          "list_replace 0 1 1", "list_release 2 3", "list_release 0 9", "list_clear", *INSERTED[:2]],
     ),
@@ -111,31 +111,23 @@ QUIET_STATES = [
 # Questions, and edits that put nothing in: of both types, and of one.
 QUIET = {
     "both": [
-        *("state", "data", "constraints", "counts", "on_line", "vertices", "hull", "lists"),
-        *("positions", "bounds", "sums", "ends 0", "clear", "swap", "is_constrained"),
-        *(f"{call} {place}" for call in ("locate", "locate_with_hint", "locate_vertex", "hint")
+        *("state", "counts", "elements", "names", "hull", "position 0", "ends 0", "ends 1"),
+        *("corners 1", "write_data 50", "swap", "clear", "told", "asked"),
+        *(f"{call} {place}" for call in ("locate", "locate_vertex", "hint")
           for place in ("0 0", "11 3", "500 -500", "20 60", "536870913 0")),
-        *("items 0 0 40 10", "items -500 -400 500 300", "items 7 7 7 7", "items 300 0 400 0"),
-        *("number_between 0 1", "write_between 0 1 5", "write_directed 1 6", "write_face 1 7"),
-        *("write_face 0 8", "write_data 50", "replace_vertex 0 99", "replace_vertex 99 0"),
-        *("remove 99", "locate_and_remove 501 501", "insert 0 536870913 1"),
-        *("insert_with_hint -536870913 0 1 0", "with_capacity 0 0 0"),
+        *(f"locate_with_hint {place} {hint}" for hint in (0, 3, 1000)
+          for place in ("0 0", "11 3", "500 -500", "20 60", "536870913 0")),
+        *("line 0 0 40 10", "line -500 -400 500 300", "line 7 7 7 7", "line 300 0 400 0"),
+        *("line_of_handles 0 4", "line_of_handles 2 1", "line_of_handles 0 99"),
+        *("replace_vertex 0 99", "replace_vertex 99 0", "remove 99", "locate_and_remove 501 501"),
+        *("insert 0 536870913 1", "insert_with_hint -536870913 0 1 0", "with_capacity 0 0 0"),
     ],
-    "plain": ["nearest_neighbor 3 4", "nearest_neighbor 500 500", "told", "asked"],
+    "plain": ["nearest_neighbor 3 4", "nearest_neighbor 500 500"],
     "constrained": [
-        *("num_constraints", "can_add_constraint 0 4", "can_add_constraint 2 6"),
         *("exists_constraint 0 1", "exists_constraint 3 2", "is_constraint_edge 0 1"),
         *("intersects_constraint 0 0 40 60", "intersects_constraint -500 5 500 5"),
-        *("try_add_constraint 3 3", "remove_constraint_edge 99 0", "told", "asked"),
-    ],
-}
-# Walks, of whose items the program makes a list.
-LISTED = {
-    "both": ["line 0 0 40 10", "line -500 -400 500 300", "line 7 7 7 7", "line 300 0 400 0"],
-    "plain": [],
-    "constrained": [
-        *("line_of_handles 0 4", "conflicts 0 0 40 60", "conflicts -500 5 500 5"),
-        *("conflicts_of_handles 0 4", "conflicts_of_handles 2 6"),
+        *("conflicts 0 0 40 60", "conflicts -500 5 500 5", "conflicts_of_handles 0 4"),
+        *("conflicts_of_handles 2 6", "try_add_constraint 3 3", "remove_constraint_edge 99 0"),
     ],
 }
 # Edits and copies with a hierarchy of hints.
@@ -160,7 +152,7 @@ HINTED = [
     "try_clone",
     "from_delaunay",
     "insert 1 60 11",
-    "add_constraint 1 2",
+    "try_add_constraint 1 2",
     "insert 5 5 12",
     "try_add_constraint 3 4",
     "add_constraint_edge -100 -95 100 -95",
@@ -174,7 +166,7 @@ HINTED = [
 ]
 # Where hints are asked for.
 POSITIONS = [(40, 10), (-30, 50), (-60, -20), (50, -50), (-80, 80), (20, 30)]
-# The hierarchies of test_sessions, each by the word that chooses it, with its branch factor.
+# The hierarchies of test_calls, each by the word that chooses it, with its branch factor.
 FACTORS = [("3", 0), ("4", 1), ("5", 2), ("6", 3), ("7", 16)]
 # So many vertices before HINTED that a hierarchy by 16 has a vertex beside the first.
 CROWD = [f"insert {300 + 7 * i} {200 - i * i} {i}" for i in range(12)]

@@ -1,4 +1,4 @@
-"""What compare/refused_calls and compare/refused_hints share: runs of crates/test_sessions some of
+"""What compare/refused_calls and compare/refused_hints share: runs of crates/test_calls some of
 whose growths are refused."""
 import os
 import re
@@ -7,10 +7,11 @@ import sys
 from refusing import NONE, Program
 
 HERE = os.path.dirname(os.path.realpath(__file__))
-PROGRAM = f"{HERE}/../crates/test_sessions/out/test_sessions"
+PROGRAM = f"{HERE}/../crates/test_calls/out/test_calls"
 # What a call says that was refused for memory.
 REFUSAL = re.compile(
-    r"(.* > )?\(?(Some\()?Err\((AllocError|OutOfMemory|(Insertion|NoRoom)\(OutOfMemory\))\)\)?(, \d+\))?"
+    r"(.* > )?(Some\(\(?)?Err\((AllocError|OutOfMemory|(Insertion|NoRoom)\(OutOfMemory\))\)"
+    r"(\)|, \d+\)\))?|.* > OutOfMemory"
 )
 
 # Calls of several steps.
@@ -35,9 +36,9 @@ class Trial:
         return lines, growths, refused
 
     def state(self):
-        """All vertices, edges and faces with their links and data, and the constraints."""
-        calls = "state", "is_constrained", "constraints"
-        return [it for line in calls for it in self.ask(line)[0]]
+        """All vertices, edges and faces with their links and data, and which edges are
+        constraints."""
+        return self.ask("state")[0]
 
     def hints(self, positions):
         return [self.ask(f"hint {x} {y}")[0][0].split(" > ")[1] for x, y in positions]
@@ -67,13 +68,21 @@ def steps_of(command, lines, line, look):
         step(line)
         trial.end()
         return seen, growths
-    found = []
-    for place in range(0, len(words), 2):
-        x, y = words[place : place + 2]
-        found.append(re.search(r"Ok\((\d+)\)", step(f"insert {x} {y} 5"))[1])
+    ends = list(zip(words[::2], words[1::2]))
+    indexes = []
+
+    def join(first, last):
+        """Joins two vertices of the chain, which get their numbers back."""
+        step(" ".join(["add_constraint_edge", *ends[first], *ends[last]]))
+        for place in first, last:
+            trial.ask(f"replace_vertex {indexes[place]} {place}")
+        seen[-1] = look(trial)
+
+    for place, (x, y) in enumerate(ends):
+        indexes.append(re.search(r"index: (\d+)", step(f"insert {x} {y} {place}"))[1])
         if place:
-            step(f"add_constraint {found[-2]} {found[-1]}")
+            join(place - 1, place)
     if name == "add_closed_edges":
-        step(f"add_constraint {found[-1]} {found[0]}")
+        join(len(ends) - 1, 0)
     trial.end()
     return seen, growths

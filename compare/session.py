@@ -1,4 +1,4 @@
-"""What the calls of crates/test_sessions give, worked out from lists of points and constraints: the
+"""What the calls of crates/test_calls give, worked out from lists of points and constraints: the
 edits here, and the questions in questions.py."""
 from copy import deepcopy
 
@@ -7,8 +7,6 @@ from plain_state import LIMIT, PlainState
 # How many times a square of all points is quartered until each quarter has one.
 LEVELS = 32
 
-# What vertices carry that come as ends of constraints.
-CHAINED = 5
 TOO_LARGE = "Err(Insertion(TooLarge))"
 
 
@@ -75,18 +73,19 @@ class Tagged(PlainState):
 
     def join_points(self, p, q):
         """What a constraint between two points gives, which become vertices."""
-        i = self.put(p, CHAINED)
-        j = None if i is None else self.put(q, CHAINED)
+        i = self.put(p, 0)
+        j = None if i is None else self.put(q, 1)
         return TOO_LARGE if j is None else self.join_vertices(i, j)
 
     def join_vertices(self, i, j):
         return f"Ok({truth(self.join(i, j)[1])})" if self.is_free(i, j) else "Err(Conflict)"
 
     def join_all(self, path, closed):
-        """What a chain of constraints gives. The steps before a refused one stand."""
+        """What a chain of constraints gives, whose vertices carry their places. The steps before a
+        refused one stand."""
         indexes = []
-        for p in path:
-            indexes.append(self.put(p, CHAINED))
+        for place, p in enumerate(path):
+            indexes.append(self.put(p, place))
             if indexes[-1] is None:
                 return TOO_LARGE
             if len(indexes) > 1 and self.join_vertices(*indexes[-2:]) == "Err(Conflict)":
@@ -101,24 +100,28 @@ def vertex_text(p, tag):
 
 
 def inserted(index):
-    return "Err(TooLarge)" if index is None else f"Ok({index})"
+    return "Err(TooLarge)" if index is None else f"Ok({vertex_handle(index)})"
+
+
+def vertex_handle(index):
+    return f"FixedVertexHandle {{ index: {index} }}"
 
 
 class Session:
-    """A triangulation without constraints and one that may have some, with their last copies, and a
-    list of edits that are still to be made."""
+    """A triangulation, plain or with constraints, its last copy, and a list of edits that are still
+    to be made."""
 
     def __init__(self):
-        self.plain, self.plain_copy = Tagged(), Tagged()
-        self.constrained, self.constrained_copy = Tagged(), Tagged()
-        self.is_constrained, self.listed_edits, self.sheet = False, [], []
+        self.points, self.is_constrained = Tagged(), False
+        self.copy, self.listed_edits = (Tagged(), False), []
 
     def state(self):
-        return self.constrained if self.is_constrained else self.plain
+        return self.points
 
     def edit(self, name, numbers, edges=()):
         """What a call that changes something gives, or nothing where it is no such call. Where it
-        goes by whether two vertices are joined, the edges say that."""
+        goes by whether two vertices are joined, the edges say that. Of `try_add_constraint` the
+        pairs of vertices of its path are given, or nothing is made."""
         call = getattr(self, f"call_{name}", None)
         if name.startswith("list_"):
             self.listed_edits.append((name, *numbers))
@@ -130,9 +133,9 @@ class Session:
         return call(*numbers)
 
     def call_insert(self, x, y, tag=0):
-        return inserted(self.state().put((x, y), tag))
+        return inserted(self.points.put((x, y), tag))
 
-    def call_insert_with_hint(self, x, y, tag, _hint):
+    def call_insert_with_hint(self, x, y, tag=0, _hint=0):
         return self.call_insert(x, y, tag)
 
     call_insert_counting = call_insert
@@ -144,14 +147,13 @@ class Session:
         for place, p in enumerate(points):
             if not in_range(p):
                 return place, []
-        return None, self.state().put_all(points)
+        return None, self.points.put_all(points)
 
     def call_insert_all(self, *numbers):
         outside, steps = self.put_list(numbers)
         if outside is not None:
             return f"Err(Vertex {{ place: {outside}, error: TooLarge }})"
-        handles = [f"FixedVertexHandle {{ index: {index} }}" for _, index in sorted(steps)]
-        return f"Ok([{', '.join(handles)}])"
+        return f"Ok([{', '.join(vertex_handle(index) for _, index in sorted(steps))}])"
 
     def steps_told(self, numbers):
         """What an insertion of a list tells of each of its steps."""
@@ -163,124 +165,86 @@ class Session:
         return [f"{it}, {left} left" for it, left in zip(told, lefts)] + ["none is left: true"]
 
     def call_reserve(self, additional):
-        full = 6 * (len(self.state().points) + additional) >= 2**32
+        full = 6 * (len(self.points.points) + additional) >= 2**32
         return "Err(OutOfIndexes)" if full else "Ok(())"
 
     def call_replace_vertex(self, i, tag):
-        tags = self.state().tags
+        tags = self.points.tags
         if i >= len(tags):
             return "None"
         former, tags[i] = tags[i], tag
-        return f"Some({former})"
+        return f"Some({vertex_text(self.points.points[i], former)})"
 
     def call_remove(self, i):
-        state = self.state()
-        return f"Some(Ok({state.take(i)}))" if i < len(state.points) else "None"
+        is_there = i < len(self.points.points)
+        return f"Some(Ok({self.points.take(i)}))" if is_there else "None"
 
     def call_locate_and_remove(self, x, y):
-        state = self.state()
+        points = self.points.points
         if not in_range((x, y)):
             return "None"
-        if (x, y) not in state.points:
+        if (x, y) not in points:
             return "Some(Ok(None))"
-        return f"Some(Ok(Some({state.take(state.points.index((x, y)))})))"
+        return f"Some(Ok(Some({self.points.take(points.index((x, y)))})))"
 
     def call_clear(self):
-        self.replace_state(Tagged())
+        self.points = Tagged()
         return "0"
 
     def call_with_capacity(self, vertices, edges, faces):
         if vertices >= 2**32 or edges >= 2**31 or faces >= 2**32:
             return "Err(OutOfIndexes)"
-        self.replace_state(Tagged())
+        self.points = Tagged()
         return "Ok(())"
-
-    def replace_state(self, state):
-        if self.is_constrained:
-            self.constrained = state
-        else:
-            self.plain = state
-
-    def call_fill(self):
-        for i in range(324):
-            k = i * 85 % 324
-            self.call_insert(k % 18, k // 18)
-        return str(len(self.state().points))
-
-    def call_thin(self, removals):
-        for i in range(removals):
-            if self.state().points:
-                self.call_remove(i * 37 % 101 % len(self.state().points))
-        return str(len(self.state().points))
-
-    def call_insert_row(self, first, last):
-        for x in range(first, last):
-            self.call_insert(x, 0)
-        return str(len(self.state().points))
 
     def call_from_delaunay(self):
-        self.constrained, self.plain, self.is_constrained = self.plain, Tagged(), True
+        self.is_constrained = True
         return "Ok(())"
 
-    def call_plain(self):
-        self.is_constrained = False
-        return "()"
-
-    def call_constrained(self):
-        self.is_constrained = True
+    def call_begin(self, _hints):
+        self.points, self.is_constrained = Tagged(), False
         return "()"
 
     def call_try_clone(self):
-        copy = deepcopy(self.state())
-        if self.is_constrained:
-            self.constrained_copy = copy
-        else:
-            self.plain_copy = copy
+        self.copy = deepcopy(self.points), self.is_constrained
         return "Ok(())"
 
     def call_swap(self):
-        if self.is_constrained:
-            pair = self.constrained_copy, self.constrained
-            self.constrained, self.constrained_copy = pair
-        else:
-            self.plain, self.plain_copy = self.plain_copy, self.plain
+        (self.points, self.is_constrained), self.copy = self.copy, (
+            self.points,
+            self.is_constrained,
+        )
         return "()"
 
-    def call_sheet(self, *numbers):
-        self.sheet = list(zip(numbers[::2], numbers[1::2]))
-        return str(len(self.sheet))
+    def call_write_data(self, _first):
+        return "()"
 
-    def are_there(self, i, j):
-        return max(i, j) < len(self.state().points)
-
-    def call_add_constraint(self, i, j):
-        state = self.state()
-        if not self.are_there(i, j) or not state.is_free(i, j):
-            return "None"
-        return f"Some(Ok({truth(state.join(i, j)[1])}))"
+    # -- Of a triangulation with constraints alone
 
     def call_try_add_constraint(self, i, j):
-        if not self.are_there(i, j):
+        if max(i, j) >= len(self.points.points):
             return "None"
-        return " ".join(["path", *(f"{a}>{b}" for a, b in self.state().join(i, j)[0])])
+        return self.points.join(i, j)[0]
 
-    def call_add_constraint_edge(self, x, y, u, v):
-        return f"Some({self.state().join_points((x, y), (u, v))})"
+    def call_add_constraint_edge(self, *numbers):
+        points = list(zip(numbers[::2], numbers[1::2]))
+        return f"Some({self.points.join_points(*points[:2])})" if len(points) > 1 else "None"
 
-    def call_refusal(self, x, y, u, v):
-        said = {TOO_LARGE: "TooLarge", "Err(Conflict)": "Conflict"}
-        return said.get(self.state().join_points((x, y), (u, v)), "none")
+    def join_all(self, numbers, closed):
+        """What a chain of constraints gives, or what its error says."""
+        said = self.points.join_all(list(zip(numbers[::2], numbers[1::2])), closed)
+        return {TOO_LARGE: "TooLarge", "Err(Conflict)": "Conflict"}.get(said, "()")
 
     def call_add_constraint_edges(self, *numbers):
-        return self.state().join_all(list(zip(numbers[::2], numbers[1::2])), False)
+        return self.join_all(numbers, False)
 
     def call_add_closed_edges(self, *numbers):
-        return self.state().join_all(list(zip(numbers[::2], numbers[1::2])), True)
+        return self.join_all(numbers, True)
 
     def call_remove_constraint_edge(self, edges, i, j):
         pair = tuple(sorted((i, j)))
         if pair not in edges:
             return "None"
-        was = pair in self.state().walls
-        self.state().walls.discard(pair)
+        was = pair in self.points.walls
+        self.points.walls.discard(pair)
         return f"Some(Ok({truth(was)}))"

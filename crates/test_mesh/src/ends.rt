@@ -19,8 +19,8 @@ pub fn lengths<V, DE, UE, F>(mesh: &Dcel<V, DE, UE, F>) -> [usize; 8] {
     ]
 }
 
-/// The index of the last vertex, directed edge, undirected edge, face, inner face and Voronoi face,
-/// and the last name of a vertex and of an undirected edge.
+/// The index of the last vertex, directed edge, undirected edge, face and inner face, and of what
+/// the last Voronoi face, directed and undirected Voronoi edge belong to.
 pub fn lasts<V, DE, UE, F>(mesh: &Dcel<V, DE, UE, F>) -> [Option<u32>; 8] {
     [
         mesh.vertices().next_back().map(|vertex| vertex.index()),
@@ -31,12 +31,31 @@ pub fn lasts<V, DE, UE, F>(mesh: &Dcel<V, DE, UE, F>) -> [Option<u32>; 8] {
         mesh.voronoi_faces()
             .next_back()
             .map(|face| face.as_delaunay_vertex().index()),
+        mesh.directed_voronoi_edges()
+            .next_back()
+            .map(|edge| edge.as_delaunay_edge().index()),
+        mesh.undirected_voronoi_edges()
+            .next_back()
+            .map(|edge| edge.as_delaunay_edge().index()),
+    ]
+}
+
+/// The last name of a vertex, a directed edge, an undirected edge, a face and an inner face.
+pub fn last_names<V, DE, UE, F>(mesh: &Dcel<V, DE, UE, F>) -> [Option<u32>; 5] {
+    [
         mesh.fixed_vertices()
             .next_back()
             .map(|vertex| vertex.index()),
+        mesh.fixed_directed_edges()
+            .next_back()
+            .map(|edge| edge.index()),
         mesh.fixed_undirected_edges()
             .next_back()
             .map(|edge| edge.index()),
+        mesh.fixed_faces().next_back().map(|face| face.index()),
+        mesh.fixed_inner_faces()
+            .next_back()
+            .map(|face| face.index()),
     ]
 }
 

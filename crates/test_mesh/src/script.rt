@@ -6,7 +6,7 @@ use crate::elements::{
     counts, directed_edge, edge_data, edge_kind, edges_between, face, links, undirected_edge,
     vertex,
 };
-use crate::ends::{copies, lasts, lengths};
+use crate::ends::{copies, last_names, lasts, lengths};
 use crate::growth::{
     append_unconnected_vertex, create_new_face_adjacent_to_edge,
     create_single_face_between_edge_and_next, extend_line, flip_cw, insert_into_triangle,
@@ -132,6 +132,7 @@ fn list(rt: &impl Print, mesh: &Mesh, call: &Call<'_>) -> io::Result<()> {
         "names" => call.tell(rt, &names(mesh)),
         "lengths" => call.tell(rt, &lengths(mesh)),
         "lasts" => call.tell(rt, &lasts(mesh)),
+        "last_names" => call.tell(rt, &last_names(mesh)),
         "copies" => call.tell(rt, &copies(mesh)),
         "show" => call.tell(rt, &mesh.vertices()),
         _ => compare(rt, mesh, call),

@@ -1,11 +1,7 @@
 //! The commands of the grammar, whether they are answered yet or not.
 
-use crate::dialogue::written;
-use delaunay_core::LastUsedVertexHintGenerator;
-use std::alloc::Global;
 use triangulate_run::command::{Command, Coordinates};
 use triangulate_run::grammar::parse;
-use triangulate_run::sheet::Sheet;
 
 fn at(x: i64, y: i64) -> Coordinates {
     Coordinates { x, y }
@@ -42,29 +38,13 @@ fn a_line_that_is_no_text_is_no_command() -> bool {
     found == (None, None, None)
 }
 
-// Lines with bytes that are no text, between others, and their replies.
-const INPUT: &[u8] = b"counts\xff\ncounts\n\xff\ninsert 0 \xff1\ncounts\n";
-
-const OUTPUT: &[u8] = b"bad line\n0 0 0 0\nbad line\nbad line\n0 0 0 0\n";
-
-fn a_line_that_is_no_text_is_answered(alloc: Global) -> bool {
-    match written::<LastUsedVertexHintGenerator>(alloc, Sheet::G, INPUT) {
-        Some(output) => output.as_slice() == OUTPUT,
-        None => false,
-    }
-}
-
 /// What is to hold of the grammar, and whether it does.
-pub(crate) fn checks(alloc: Global) -> [(&'static str, bool); 3] {
+pub(crate) fn checks() -> [(&'static str, bool); 2] {
     [
         ("each command is read", each_command_is_read()),
         (
             "a line that is no text is no command",
             a_line_that_is_no_text_is_no_command(),
-        ),
-        (
-            "it is answered as a bad line",
-            a_line_that_is_no_text_is_answered(alloc),
         ),
     ]
 }

@@ -1,8 +1,0 @@
-use Rattle.delaunay_queries.proofs.Calls.{kept_in_mesh}
-use Rattle.test_points.specs.Vertices.{position_of}
-use Rattle.test_shapes.proofs.comparisons.mesh_of.Goals as goal
-
-pub returns-clause-kept : goal.returns-clause-kept
-returns-clause-kept g c =
-    kept_in_mesh position_of (g.T.Triangulation.state c.args.triangulation.now) c.s.result
-    c.s.ensures.state c.recall_invariant.ensures.kept
