@@ -1,2 +1,3 @@
 pub mod Parts
+pub mod Hidden
 pub mod Theorems

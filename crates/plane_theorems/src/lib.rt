@@ -34,7 +34,8 @@ pub fn sight_holds()
     ensures { SightTheorems }
 {}
 
-/// Theorems: which faces of a part of the points and constraints are faces of the whole.
+/// Theorems: which faces of a part of the points and constraints are faces of the whole, and what
+/// the part need not know of it.
 pub fn parts_hold()
     ensures { PartTheorems }
 {}

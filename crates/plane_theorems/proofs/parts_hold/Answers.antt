@@ -1,5 +1,6 @@
 use Rattle.plane_theorems.proofs.Parts.Known.{part_face_is_seen, part_faces_tie}
 use Rattle.plane_theorems.proofs.Parts.Around.{part_knows_faces}
+use Rattle.plane_theorems.proofs.Parts.Behind.{beyond_side_is_hidden}
 use Rattle.plane_theorems.proofs.parts_hold.Goals as goal
 
 pub returns : goal.returns
@@ -7,4 +8,5 @@ returns c = record {
   part_face_is_seen = part_face_is_seen;
   part_faces_tie = part_faces_tie;
   part_knows_faces = part_knows_faces;
+  beyond_side_is_hidden = beyond_side_is_hidden;
 }

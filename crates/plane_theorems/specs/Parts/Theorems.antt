@@ -1,4 +1,6 @@
--- Theorems: which faces of a part of the points and constraints are faces of the whole.
+-- Theorems: which faces of a part of the points and constraints are faces of the whole, and what
+-- the part need not know of it.
+use Rattle.plane_theorems.specs.Parts.Hidden.{BeyondSideIsHidden}
 use Rattle.plane_theorems.specs.Parts.Parts.{PartFaceIsSeen, PartFacesTie, PartKnowsFaces}
 
 -- each field is a theorem
@@ -14,3 +16,6 @@ pub record PartTheorems : Type 0 where
   -- where a part with the hull of the whole knows the disks of its faces at a vertex, each
   -- face of the whole there has one circle with a face of the part there
   pub part_knows_faces : PartKnowsFaces
+  -- within the closed disk of a triple of a part, what the whole has beyond a side that is a
+  -- constraint of the part is not seen from inside the triple, so the part need not know it
+  pub beyond_side_is_hidden : BeyondSideIsHidden

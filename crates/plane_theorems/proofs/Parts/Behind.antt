@@ -31,7 +31,7 @@ use Rattle.plane.specs.Laws.{squared_way}
 use Rattle.plane.specs.Delaunay.{IsSeen}
 use Rattle.plane.specs.Tiling.{Triangulation, vertex}
 use Rattle.plane_theorems.specs.Parts.Parts.{IsPartOfPlane}
-use Rattle.plane_parts.specs.Hidden.{BeyondSideIsHidden}
+use Rattle.plane_theorems.specs.Parts.Hidden.{BeyondSideIsHidden}
 
 -- ---- numbers
 sum_positive : (s e a b : ℤ) → s ≡ e +ℤ (a +ℤ b) → pos 0 ≤ℤ e → pos 0 <ℤ a → pos 0 ≤ℤ b → pos 0 <ℤ s
