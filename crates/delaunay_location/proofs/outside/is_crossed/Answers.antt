@@ -11,3 +11,10 @@ side-requires-2-clause-point_covered g c = rw (← c.placed.view_is) at
 
 pub returns-then-is_on_right_side_or_on_line : goal.returns-then-is_on_right_side_or_on_line
 returns-then-is_on_right_side_or_on_line g c = grind arith
+
+pub side_along-requires-then-is_on_right_side_or_on_line-clause-within :
+    goal.side_along-requires-then-is_on_right_side_or_on_line-clause-within
+side_along-requires-then-is_on_right_side_or_on_line-clause-within g c = grind arith
+
+pub returns-else-is_on_right_side_or_on_line : goal.returns-else-is_on_right_side_or_on_line
+returns-else-is_on_right_side_or_on_line g c = grind arith
