@@ -1,6 +1,6 @@
 -- The sides of the face on the left of an edge: the edges beyond them, and when a position is
 -- inside it.
--- Lemmas: across_edge, next_side, located_inside.
+-- Lemmas: across_edge, next_side, prev_side, located_inside.
 use Rattle.std.proofs.Common.{◌≡◌, ◌⊎◌, ℕ, ◌<◌, ◌≤◌, List, length, map}
 use Rattle.std.proofs.Common.{sym, ap, ◌∙◌, subst, inl, inr, arith}
 use Rattle.std.specs.Prelude.{ℤ}
@@ -65,6 +65,11 @@ module _ {V D U F : Type 0} {at : V → Point} {s : State V D U F} (kept : IsTri
     next_ends = sym (kept.valid.sound.edges (next m e) round.next_in).starts
         ∙ ap (origin m) round.next_next
 
+    -- where the edge before an edge ends
+    prev_ends : origin m (rev (prev m e)) ≡ origin m e
+    prev_ends = sym (kept.valid.sound.edges (prev m e) round.prev_in).starts
+        ∙ ap (origin m) round.next_prev
+
     -- the edge after an edge of an inner face, with the positions of its ends
     pub next_side : {S : Type 0} {number : S → ℤ} {IsCovered : Point → Type 0} {h : ℕ}
         {from to corner : Point2 S} → IsStop number IsCovered points m (length s.directed)
@@ -79,6 +84,22 @@ module _ {V D U F : Type 0} {at : V → Point} {s : State V D U F} (kept : IsTri
       to = at_corner ∙ ap (point_at points) (sym next_ends);
       from_covered = stop.to_covered;
       to_covered = covered;
+    })
+
+    -- the edge before it
+    pub prev_side : {S : Type 0} {number : S → ℤ} {IsCovered : Point → Type 0} {h : ℕ}
+        {from to corner : Point2 S} → IsStop number IsCovered points m (length s.directed)
+        (record { edge = e; from = from; to = to })
+        → place_of number corner ≡ point_at points (origin m (prev m e))
+        → IsCovered (place_of number corner) → h ≡ prev m e
+        → IsStop number IsCovered points m (length s.directed)
+        (record { edge = h; from = corner; to = from })
+    prev_side stop at_corner covered same = rw same (record {
+      within = (let f = kept.fits.directed_fit in let n = round.prev_in in omega (arith, f, n));
+      from = at_corner;
+      to = stop.from ∙ ap (point_at points) (sym prev_ends);
+      from_covered = covered;
+      to_covered = stop.from_covered;
     })
 
     module _ (p : Point) where

@@ -51,8 +51,10 @@ fn is_in_cone<V: HasPosition, DE, UE, F, P: PlaneTests<V::Scalar>>(
         (place_of V.Scalar.whole position) edge }
 {
     let here = placed.dcel.directed_edge(edge);
-    !here.is_outer_edge()
-        && placed.side_along(edge, position).is_on_left_side()
+    if here.is_outer_edge() {
+        return false;
+    }
+    placed.side_along(edge, position).is_on_left_side()
         && placed
             .side_along(here.prev().fix(), position)
             .is_on_left_side()

@@ -1,6 +1,6 @@
 //! A new vertex outside the hull, or off the edges of the line of all vertices.
 ghost use Rattle.std.specs.Prelude.{◌≡◌, ◌⊎◌, ◌↔◌, ◌+◌, ◌*◌, ◌<◌, length, map, All, IsTrue};
-ghost use Rattle.delaunay_legalization.specs.half_edge_links.Mesh.{origin, rev, face};
+ghost use Rattle.delaunay_legalization.specs.half_edge_links.Mesh.{origin, rev, next, prev, face};
 ghost use Rattle.delaunay_legalization.specs.half_edge_links.Room.{HasRoomFor};
 ghost use Rattle.delaunay_legalization.specs.half_edge_dcel.Contents.{edges};
 ghost use Rattle.delaunay_legalization.specs.plane.Fraction.{whole as fraction};
@@ -20,6 +20,32 @@ use delaunay_legalization::half_edge_dcel::{
     Dcel, FixedDirectedEdgeHandle, FixedVertexHandle, MeshViews,
 };
 use delaunay_legalization::{position_of, turns_left};
+
+// The edge after an edge in its loop.
+#[inline(always)]
+fn edge_after<V, DE, UE, F>(
+    dcel: &Dcel<V, DE, UE, F>,
+    edge: FixedDirectedEdgeHandle,
+) -> FixedDirectedEdgeHandle
+    requires { edge < length dcel.now.directed }
+    ensures value { result ≡ next dcel.now.mesh edge }
+    ensures within { result < length dcel.now.directed }
+{
+    dcel.directed_edge(edge).next().fix()
+}
+
+// The edge before an edge in its loop.
+#[inline(always)]
+fn edge_before<V, DE, UE, F>(
+    dcel: &Dcel<V, DE, UE, F>,
+    edge: FixedDirectedEdgeHandle,
+) -> FixedDirectedEdgeHandle
+    requires { edge < length dcel.now.directed }
+    ensures value { result ≡ prev dcel.now.mesh edge }
+    ensures within { result < length dcel.now.directed }
+{
+    dcel.directed_edge(edge).prev().fix()
+}
 
 // Whether a position is strictly on the left of an edge.
 fn is_on_left<V: HasPosition, DE, UE, F, P: PlaneTests<V::Scalar>>(
@@ -79,18 +105,13 @@ pub fn insert_outside<
     let edges = dcel.num_directed_edges() as u32;
     let mut ahead = FixedDirectedEdgeHandle::from_index(edges - 3);
     let behind = FixedDirectedEdgeHandle::from_index(edges - 1);
-    while is_on_left(
-        dcel,
-        dcel.directed_edge(ahead).next().fix(),
-        position,
-        tests,
-    ) {
+    while is_on_left(dcel, edge_after(dcel, ahead), position, tests) {
         ahead = dcel.create_single_face_between_edge_and_next(ahead);
     }
-    let mut before = dcel.directed_edge(behind).prev().fix();
+    let mut before = edge_before(dcel, behind);
     while is_on_left(dcel, before, position, tests) {
         let behind = dcel.create_single_face_between_edge_and_next(before);
-        before = dcel.directed_edge(behind).prev().fix();
+        before = edge_before(dcel, behind);
     }
     vertex
 }

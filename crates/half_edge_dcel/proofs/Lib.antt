@@ -1,6 +1,7 @@
 pub use Rattle.half_edge_links.proofs as half_edge_links_lemmas
 -- Data beside the parts of a mesh: lists that grow, shrink or are turned.
 pub mod Fits
+pub mod FaceData
 pub mod EdgeLists
 pub mod Turning
 pub mod TakenOut

@@ -1,4 +1,4 @@
-use Rattle.std.proofs.Common.{◌≡◌, refl, rules}
+use Rattle.std.proofs.Common.{◌∙◌, refl}
 use Rattle.delaunay_legalization.specs.half_edge_links.Mesh.{next}
 use Rattle.delaunay_legalization.proofs.MeshLegal.{joins_directed}
 use Rattle.delaunay_legalization.proofs.Legalizing.{fixed_stay}
@@ -23,7 +23,8 @@ returns-then-not-is_in_circle-clause-stays g c _ =
 
 pub returns-then-is_constraint_edge-clause-stays : goal.returns-then-is_constraint_edge-clause-stays
 returns-then-is_constraint_edge-clause-stays g c _ =
-    let at_next : c.fix.result ≡ next c.args.dcel.now.mesh c.args.spoke = search rules in
+    let here = c.directed_edge.ensures in
+    let at_next = c.fix.ensures.value ∙ rw (here.dcel, here.index) at c.next.ensures.index in
     stays_as_is (λ free. absurd (free
     (joins_directed c.args.dcel.now.mesh _ (next c.args.dcel.now.mesh c.args.spoke)
     (rw (← at_next, ← c.as_undirected-edge.ensures)
@@ -31,7 +32,8 @@ returns-then-is_constraint_edge-clause-stays g c _ =
 
 pub flip-requires : goal.flip-requires
 flip-requires g c =
-    let at_next : c.fix.result ≡ next c.args.dcel.now.mesh c.args.spoke = search rules in
+    let here = c.directed_edge.ensures in
+    let at_next = c.fix.ensures.value ∙ rw (here.dcel, here.index) at c.next.ensures.index in
     let fails = (read_tells c.requires.turn c.requires.opposite c.requires.centre
     c.if-opposite.false c.is_in_circle.ensures).0 c.if-not-is_in_circle.false in
     let may = flips_either c.requires.turn fails at_next
@@ -45,7 +47,8 @@ flip-requires g c =
 
 pub returns : goal.returns
 returns g c =
-    let at_next : c.fix.result ≡ next c.args.dcel.now.mesh c.args.spoke = search rules in
+    let here = c.directed_edge.ensures in
+    let at_next = c.fix.ensures.value ∙ rw (here.dcel, here.index) at c.next.ensures.index in
     let fails = (read_tells c.requires.turn c.requires.opposite c.requires.centre
     c.if-opposite.false c.is_in_circle.ensures).0 c.if-not-is_in_circle.false in
     let may = flips_either c.requires.turn fails at_next

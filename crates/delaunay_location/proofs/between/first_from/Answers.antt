@@ -69,3 +69,9 @@ pub first_on_outline-requires-clause-start : goal.first_on_outline-requires-clau
 first_on_outline-requires-clause-start g c =
     without_triangulation (placed_value c.placed.view_is c.placed.invariant)
     (rw c.in-NoTriangulation.is at c.requires.start)
+
+pub first_on_edge-requires-clause-ends : goal.first_on_edge-requires-clause-ends
+first_on_edge-requires-clause-ends g c = grind arith
+
+pub first_along-requires-clause-ends : goal.first_along-requires-clause-ends
+first_along-requires-clause-ends g c = grind arith

@@ -1,4 +1,5 @@
-use Rattle.std.proofs.Common.{sym, ap, rules, ◌∙◌}
+use Rattle.std.proofs.Common.{sym, ap, rules, ◌∙◌, arith}
+use Rattle.std.proofs.lemmas.Grind.{common_steps}
 use Rattle.delaunay_location.proofs.OneLine.{all_outer, located_right}
 use Rattle.delaunay_location.proofs.Questions.{located_left}
 use Rattle.delaunay_location.proofs.line.place_on_line.Goals as goal
@@ -19,3 +20,6 @@ returns-then-is_on_right_side g c =
 
 pub nearer_edge-edge-requires-clause-can : goal.nearer_edge-edge-requires-clause-can
 nearer_edge-edge-requires-clause-can g c = search (rules, g.met.P.PlaneTests.covered_are_in_range)
+
+pub walk_along-requires-2-clause-within : goal.walk_along-requires-2-clause-within
+walk_along-requires-2-clause-within g c = grind (arith, common_steps)

@@ -40,3 +40,6 @@ returns g c h below =
     let count = c.num_directed_edges-index-end.ensures.value in
     let within = rw (← c.placed.view_is) at below in
     c.loop-index.invariant h (omega (arith, within, c.loop-index-test.false, count))
+
+pub returns-then-is_strictly_within : goal.returns-then-is_strictly_within
+returns-then-is_strictly_within g c = grind arith

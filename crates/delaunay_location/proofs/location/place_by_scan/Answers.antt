@@ -1,4 +1,5 @@
 use Rattle.std.proofs.Common.{◌≤◌, length, map, sym, ◌∙◌, arith, rules}
+use Rattle.std.proofs.lemmas.Grind.{common_steps}
 use Rattle.std.proofs.lemmas.List.{length-map}
 use Rattle.delaunay_legalization.specs.delaunay_core.Place.{place_of}
 use Rattle.delaunay_legalization.specs.Parts.{IsApart}
@@ -53,3 +54,9 @@ returns g c =
     (rw (← c.placed.view_is) at c.in_default.ensures)
     (rw (← c.placed.view_is) at c.in_default-face_around.ensures) several _
     c.edge_from_nearest.ensures)
+
+pub returns-then-num_vertices-lt2 : goal.returns-then-num_vertices-lt2
+returns-then-num_vertices-lt2 g c = grind (arith, common_steps)
+
+pub place_at_edges-requires-clause-apart : goal.place_at_edges-requires-clause-apart
+place_at_edges-requires-clause-apart g c = grind (arith, common_steps)

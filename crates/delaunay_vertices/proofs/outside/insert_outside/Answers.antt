@@ -1,4 +1,4 @@
-use Rattle.std.proofs.Common.{◌≡◌, ◌∙◌, false, map, ap, inl, inr, refl, sym, subst, arith, rules}
+use Rattle.std.proofs.Common.{◌≡◌, ◌∙◌, false, map, ap, inl, inr, refl, sym, subst, arith}
 use Rattle.std.proofs.lemmas.List.{length-map}
 use Rattle.delaunay_legalization.specs.half_edge_links.Mesh.{origin}
 use Rattle.delaunay_legalization.specs.plane.Fraction.{whole}
@@ -90,7 +90,7 @@ pub create_single_face_between_edge_and_next-ahead-requires-clause-apart :
 create_single_face_between_edge_and_next-ahead-requires-clause-apart g c =
     let j = c.loop-ahead.invariant in
     ahead_apart j (seen_if j c.position-position.ensures c.is_on_left-in-loop-ahead.ensures
-    (search rules) c.loop-ahead-test.true)
+    c.edge_after.ensures.value c.loop-ahead-test.true)
 
 pub create_single_face_between_edge_and_next-ahead-requires-clause-room :
     goal.create_single_face_between_edge_and_next-ahead-requires-clause-room
@@ -102,14 +102,14 @@ loop-ahead-smaller g c =
     let j = c.loop-ahead.invariant in
     let done = c.create_single_face_between_edge_and_next-ahead.ensures in
     (step_ahead j (seen_if j c.position-position.ensures c.is_on_left-in-loop-ahead.ensures
-    (search rules) c.loop-ahead-test.true) done.data done.edges done.links done.edge).1
+    c.edge_after.ensures.value c.loop-ahead-test.true) done.data done.edges done.links done.edge).1
 
 pub loop-ahead-preserved : goal.loop-ahead-preserved
 loop-ahead-preserved g c =
     let j = c.loop-ahead.invariant in
     let done = c.create_single_face_between_edge_and_next-ahead.ensures in
     (step_ahead j (seen_if j c.position-position.ensures c.is_on_left-in-loop-ahead.ensures
-    (search rules) c.loop-ahead-test.true) done.data done.edges done.links done.edge).0
+    c.edge_after.ensures.value c.loop-ahead-test.true) done.data done.edges done.links done.edge).0
 
 pub loop-position-init : goal.loop-position-init
 loop-position-init g c = record {
@@ -117,9 +117,9 @@ loop-position-init g c = record {
   behind = c.from_index-behind.result;
   joining = c.loop-ahead.invariant;
   unseen = unseen_if c.loop-ahead.invariant c.position-position.ensures
-      c.is_on_left-in-loop-ahead.ensures (search rules) c.loop-ahead-test.false;
-  before_is = search rules;
-  before_in = search rules;
+      c.is_on_left-in-loop-ahead.ensures c.edge_after.ensures.value c.loop-ahead-test.false;
+  before_is = c.edge_before-before.ensures.value;
+  before_in = c.edge_before-before.ensures.within;
 }
 
 pub is_on_left-requires-in-loop-position : goal.is_on_left-requires-in-loop-position
@@ -152,8 +152,9 @@ loop-position-smaller g c =
     let done = c.create_single_face_between_edge_and_next-behind.ensures in
     (step_behind b (seen_if b.joining c.position-position.ensures
     c.is_on_left-in-loop-position.ensures refl c.loop-position-test.true)
-    {i = c.fix-before-in-loop-position.result} done.data done.edges done.links done.edge
-    (search rules) (search rules)).1
+    done.data done.edges done.links done.edge
+    c.edge_before-before-in-loop-position.ensures.value
+    c.edge_before-before-in-loop-position.ensures.within).1
 
 pub loop-position-preserved : goal.loop-position-preserved
 loop-position-preserved g c =
@@ -161,7 +162,8 @@ loop-position-preserved g c =
     let done = c.create_single_face_between_edge_and_next-behind.ensures in
     (step_behind b (seen_if b.joining c.position-position.ensures
     c.is_on_left-in-loop-position.ensures refl c.loop-position-test.true) done.data done.edges
-    done.links done.edge (search rules) (search rules)).0
+    done.links done.edge c.edge_before-before-in-loop-position.ensures.value
+    c.edge_before-before-in-loop-position.ensures.within).0
 
 pub returns : goal.returns
 returns g c =

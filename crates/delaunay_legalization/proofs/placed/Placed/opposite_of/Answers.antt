@@ -1,4 +1,4 @@
-use Rattle.std.proofs.Common.{◌∙◌, sym, inl, inr, rules}
+use Rattle.std.proofs.Common.{◌∙◌, sym, inl, inr}
 use Rattle.delaunay_legalization.proofs.Questions.{both_ways, covered_in}
 use Rattle.delaunay_legalization.proofs.placed.Placed.opposite_of.Goals.{then-is_outer_edge}
 use Rattle.delaunay_legalization.proofs.placed.Placed.opposite_of.Goals.{else-is_outer_edge}
@@ -12,6 +12,9 @@ returns g c =
     let sites = g.P.PlaneTests.sites c.self.inside.tests.now in
     let outer = rw (c.directed_edge-spoke.ensures.index, c.directed_edge-spoke.ensures.dcel) at
     c.is_outer_edge.ensures in
+    let spoke = c.directed_edge-spoke.ensures in
+    let edge = c.next-edge.ensures in
+    let twin = c.rev-twin.ensures in
     rw (← c.self.view_is) (record {
       outer = elim c.if-is_outer_edge.branch [
         | then-is_outer_edge w ↦ (
@@ -35,17 +38,43 @@ returns g c =
             )
       ];
       from = record {
-        place = search rules;
+        place = rw (
+          c.fix.ensures.value,
+          c.from.ensures.index,
+          edge.dcel,
+          edge.index,
+          spoke.dcel,
+          spoke.index,
+        ) at c.position_of.ensures.place;
         site = covered_in sites sites (λ _ s. s) _ _ c.self.invariant.sites
             c.position_of.ensures.listed;
       };
       to = record {
-        place = search (rules, ends);
+        place = rw (
+          c.fix-2.ensures.value,
+          c.from-2.ensures.index,
+          c.next.ensures.dcel,
+          c.next.ensures.index,
+          edge.dcel,
+          edge.index,
+          spoke.dcel,
+          spoke.index,
+          ends,
+        ) at c.position_of-2.ensures.place;
         site = covered_in sites sites (λ _ s. s) _ _ c.self.invariant.sites
             c.position_of-2.ensures.listed;
       };
       beyond = record {
-        place = search rules;
+        place = rw (
+          c.fix-3.ensures.value,
+          c.prev_from.ensures.index,
+          twin.dcel,
+          twin.index,
+          edge.dcel,
+          edge.index,
+          spoke.dcel,
+          spoke.index,
+        ) at c.position_of-3.ensures.place;
         site = covered_in sites sites (λ _ s. s) _ _ c.self.invariant.sites
             c.position_of-3.ensures.listed;
       };

@@ -2,9 +2,14 @@ use Rattle.delaunay_legalization.proofs.Questions.{both_ways}
 use Rattle.delaunay_vertices.proofs.Convex.{convex_read}
 use Rattle.delaunay_vertices.proofs.choice.Spokes.is_convex_at.Goals as goal
 
-pub turns_left-requires-clause-a_covered : goal.turns_left-requires-clause-a_covered
-turns_left-requires-clause-a_covered g c =
-    g.met.P.PlaneTests.sites_are_covered _ _ c.end_of-before.ensures.site
+pub turns_left-requires : goal.turns_left-requires
+turns_left-requires g c =
+    let covers = g.met.P.PlaneTests.sites_are_covered c.self.inside.tests.now in
+    record {
+      a_covered = covers _ c.end_of-before.ensures.site;
+      b_covered = covers _ c.end_of-corner.ensures.site;
+      c_covered = covers _ c.end_of-after.ensures.site;
+    }
 
 pub turns_left-requires-then-turns_left : goal.turns_left-requires-then-turns_left
 turns_left-requires-then-turns_left g c =

@@ -1,4 +1,5 @@
 use Rattle.std.proofs.Common.{◌≡◌, [], length, ◌∙◌, arith, rules}
+use Rattle.std.proofs.lemmas.Grind.{common_steps}
 use Rattle.half_edge_links.specs.Mesh.{Mesh}
 use Rattle.half_edge_dcel.proofs.Fits.{fits_grown_edge, fits_vertex, fits_hung, one_longer}
 use Rattle.half_edge_dcel.proofs.EdgeLists.{adds_edges, length-ends}
@@ -42,3 +43,9 @@ returns g c =
       };
       edges = adds_edges _ (length-ends fit) links.extends.ends undirected.grows;
     })
+
+pub extend_line-requires-clause-line : goal.extend_line-requires-clause-line
+extend_line-requires-clause-line g c = grind (arith, common_steps)
+
+pub extend_line-requires-clause-alone : goal.extend_line-requires-clause-alone
+extend_line-requires-clause-alone g c = grind (arith, common_steps)

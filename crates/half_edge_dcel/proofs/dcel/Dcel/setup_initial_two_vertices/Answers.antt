@@ -1,4 +1,5 @@
 use Rattle.std.proofs.Common.{arith, refl, ap, rules, ◌≡◌, length}
+use Rattle.std.proofs.lemmas.Grind.{common_steps}
 use Rattle.half_edge_links.specs.Mesh.{Mesh}
 use Rattle.half_edge_dcel.proofs.Fits.{fits_grown_edge, fits_connected}
 use Rattle.half_edge_dcel.proofs.Outlines.{no_faces}
@@ -36,3 +37,9 @@ returns-clause-data g c =
       directed = directed.grows;
       undirected = undirected.grows;
     })
+
+pub connect-requires-clause-vertices : goal.connect-requires-clause-vertices
+connect-requires-clause-vertices g c = grind (arith, common_steps)
+
+pub returns-clause-edges : goal.returns-clause-edges
+returns-clause-edges g c = grind (arith, common_steps)
