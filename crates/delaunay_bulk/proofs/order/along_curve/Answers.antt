@@ -1,4 +1,5 @@
 use Rattle.std.proofs.Common.{◌≡◌, List, length, rules, refl, ap, arith}
+use Rattle.std.proofs.lemmas.Grind.{common_steps}
 use Rattle.std.specs.Vec.Iter.{into_iter_items}
 use Rattle.std.proofs.lemmas.List.Sorted.{IsNonDecreasingBy-from_sort_by_key, answers_always}
 use Rattle.delaunay_bulk.specs.declared.order.Keyed.{Keyed}
@@ -30,3 +31,6 @@ returns g c =
     c.in_ok-sort_by_key.ensures.sorted (λ a r q k. search rules))
     (c.in_ok-sort_by_key.ensures.stable (λ (p : Keyed g.row.V.Denot). p.key)
     (answers_always _ _ _ (λ q a r p k. search rules)))
+
+pub loop-vertex-init : goal.loop-vertex-init
+loop-vertex-init g c = grind (arith, common_steps)

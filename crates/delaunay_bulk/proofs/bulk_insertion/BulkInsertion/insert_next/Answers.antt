@@ -1,4 +1,5 @@
-use Rattle.std.proofs.Common.{◌∙◌, map, sym, ap}
+use Rattle.std.proofs.Common.{◌∙◌, map, sym, ap, arith}
+use Rattle.std.proofs.lemmas.Grind.{common_steps}
 use Rattle.delaunay_interface.proofs.Stepping.{inserted_sites}
 use Rattle.delaunay_bulk.specs.Order.{entry_of}
 use Rattle.delaunay_bulk.proofs.Turns.{next_site}
@@ -17,3 +18,6 @@ returns-in-Ok-clause-sites g c =
     c.in-Ok.ensures.inserts sites c.requires.sites
     (next_site place sites c.requires.new_sites
     (sym c.self.view_is ∙ ap (map entry_of) c.in-Some.ensures.items))
+
+pub returns-in_default-clause-inserts : goal.returns-in_default-clause-inserts
+returns-in_default-clause-inserts g c = grind (arith, common_steps)
