@@ -1,4 +1,5 @@
-use Rattle.std.proofs.Common.{ℕ, ◌/◌, ◌∙◌, ap, sym, subst}
+use Rattle.std.proofs.Common.{ℕ, ◌/◌, ◌∙◌, ap, sym, subst, arith}
+use Rattle.std.proofs.lemmas.Grind.{common_steps}
 use Rattle.delaunay_location.specs.half_edge_links.Mesh.{face_edge, next, prev}
 use Rattle.delaunay_shapes.specs.Start.{HasSides}
 use Rattle.delaunay_shapes.proofs.FirstEdges.{three_sides}
@@ -20,3 +21,6 @@ returns-clause-starts g c =
     (three_sides m (face_edge m c.args.face) c.fix-first.result c.fix-second.result
     c.fix-third.result first second
     third)
+
+pub returns-clause-within : goal.returns-clause-within
+returns-clause-within g c = grind (arith, common_steps)

@@ -1,4 +1,4 @@
-use Rattle.std.proofs.Common.{◌/◌}
+use Rattle.std.proofs.Common.{◌/◌, arith}
 use Rattle.delaunay_shapes.proofs.FirstEdges.{if_ok}
 use Rattle.delaunay_shapes.proofs.shape_search.ShapeSearch.edges_at.Goals as goal
 
@@ -23,3 +23,9 @@ returns-in-Some-clause-within g c =
 pub returns-in-None-clause-starts : goal.returns-in-None-clause-starts
 returns-in-None-clause-starts g c = rw c.in-OutsideOfConvexHull.is
     (λ h within outer inside. absurd (c.in-None.ensures.none h within outer inside))
+
+pub returns-in-OnEdge-clause-starts : goal.returns-in-OnEdge-clause-starts
+returns-in-OnEdge-clause-starts g c = grind arith
+
+pub returns-in-OnFace-clause-starts : goal.returns-in-OnFace-clause-starts
+returns-in-OnFace-clause-starts g c = grind arith
