@@ -3,7 +3,7 @@
 -- removed_from_constrained, not_added_to_plain, added_to_constrained, not_released_in_plain,
 -- released_in_constrained, is_allowed, is_not_allowed, is_constrained, still_plain,
 -- still_constrained.
-use Rattle.std.proofs.Common.{◌≡◌, ◌<◌, ℕ, Bool, List, length, refl, sym, subst, ap, arith}
+use Rattle.std.proofs.Common.{◌≡◌, ℕ, List, refl, sym, subst, ap, arith}
 use Rattle.std.specs.Prelude.{Option, Some, Result, Ok, Err, IfErr, IfOk}
 use Rattle.delaunay_edit.specs.plane.Fraction.{Point}
 use Rattle.delaunay_edit.specs.plane.Plain.{Unconstrains}
