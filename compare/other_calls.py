@@ -128,7 +128,8 @@ class OtherCalls:
         if self.edits % 2 and max(int(i), int(j)) < count:
             yield f"add_constraint_edge {numbers_of(self.points[int(k)] for k in (i, j))}"
         else:
-            yield f"try_add_constraint {i} {j}"
+            name = ("try_add_constraint", "add_constraint_unless_crossed")[self.edits // 2 % 2]
+            yield f"{name} {i} {j}"
 
     def edit_chain(self, *vertices):
         yield f"add_constraint_edges {numbers_of(self.points[int(k)] for k in vertices)}"

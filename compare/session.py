@@ -226,6 +226,12 @@ class Session:
             return "None"
         return self.points.join(i, j)[0]
 
+    def call_add_constraint_unless_crossed(self, i, j):
+        if max(i, j) >= len(self.points.points):
+            return "None"
+        made = self.points.join_vertices(i, j)
+        return "Some(Ok(None))" if made == "Err(Conflict)" else f"Some(Ok(Some({made[3:-1]})))"
+
     def call_add_constraint_edge(self, *numbers):
         points = list(zip(numbers[::2], numbers[1::2]))
         return f"Some({self.points.join_points(*points[:2])})" if len(points) > 1 else "None"

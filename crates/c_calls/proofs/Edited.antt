@@ -1,30 +1,35 @@
 -- How an edit of a triangulation that C keeps ended, by what the library's edit says.
--- Lemmas: edited_at, is_removed, is_not_removed, removes_none, removed_from_plain,
--- removed_from_constrained, is_added, is_not_added, is_crossing, adds_no_first, adds_no_second,
--- not_added_to_plain, added_to_constrained, is_allowed, is_not_allowed, is_constrained,
--- still_plain, still_constrained.
-use Rattle.std.proofs.Common.{◌≡◌, ◌<◌, ℕ, Bool, List, length, refl, sym, subst, ap}
-use Rattle.std.specs.Prelude.{Option, Some, Result, Ok, Err, IfErr, IfOk, OnOk, OnErr}
+-- Lemmas: edited_at, removal_ended, addition_ended, release_ended, removed_from_plain,
+-- removed_from_constrained, not_added_to_plain, added_to_constrained, not_released_in_plain,
+-- released_in_constrained, is_allowed, is_not_allowed, is_constrained, still_plain,
+-- still_constrained.
+use Rattle.std.proofs.Common.{◌≡◌, ℕ, List, refl, sym, subst, ap, arith}
+use Rattle.std.specs.Prelude.{Option, Some, Result, Ok, Err, IfErr, IfOk}
 use Rattle.delaunay_edit.specs.plane.Fraction.{Point}
-use Rattle.delaunay_edit.specs.plane.Plain.{Adds, CanAdd, Removes, Unconstrains}
+use Rattle.delaunay_edit.specs.plane.Plain.{Unconstrains}
 use Rattle.delaunay_edit.specs.delaunay_legalization.declared.cdt_edge.CdtEdge.{CdtEdge}
-use Rattle.delaunay_edit.specs.delaunay_legalization.Constraints.{points_and_constraints_by}
 use Rattle.delaunay_edit.specs.delaunay_legalization.State.{State, points_and_constraints}
 use Rattle.delaunay_edit.specs.Constrained.{none, constrained, constraint_edges}
-use Rattle.delaunay_edit.specs.ConstraintEdits.{AddsConstraint}
 use Rattle.delaunay_edit.specs.Data.{HasOtherEdgeData}
-use Rattle.delaunay_edit.specs.Edits.{RemovesVertex}
-use Rattle.delaunay_interface.specs.Views.{CanAddConstraint}
+use Rattle.delaunay_journal.specs.declared.edit.Edit.TheVariants.{AddConstraint, Remove}
+use Rattle.delaunay_journal.specs.declared.edit.Edit.TheVariants.{ReleaseConstraint}
+use Rattle.delaunay_journal.specs.declared.edit.Outcome.{Outcome}
+use Rattle.delaunay_journal.specs.declared.edit.Outcome.TheVariants.{Added, Refused, Released}
+use Rattle.delaunay_journal.specs.declared.edit.Outcome.TheVariants.{Removed}
+use Rattle.delaunay_journal.specs.declared.edit.Refusal.TheVariants as reason
+use Rattle.delaunay_journal.specs.Journal.{Gives}
+use Rattle.delaunay_journal.specs.Marking.{Marking, flag_marking}
 use Rattle.c_calls.specs.declared.raw.NumberedPoint.{NumberedPoint}
 use Rattle.c_calls.specs.declared.kept.KeptPoints.{KeptPoints}
 use Rattle.c_calls.specs.declared.kept.KeptPoints.TheVariants.{Plain, Constrained}
-use Rattle.c_calls.specs.declared.statuses.TheConstants.{WELL, IS_PLAIN, NO_SUCH_VERTEX}
-use Rattle.c_calls.specs.declared.statuses.TheConstants.{CROSSING, IS_CONSTRAINED}
-use Rattle.c_calls.specs.declared.statuses.TheConstants.{OUT_OF_MEMORY}
-use Rattle.c_calls.specs.Edits.{AddsKept, Addition, AllowsConstraints, EditsAt}
-use Rattle.c_calls.specs.Edits.{IsSameKind, Removal, RemovesKept}
+use Rattle.c_calls.specs.declared.statuses.TheConstants.{WELL, IS_PLAIN}
+use Rattle.c_calls.specs.declared.statuses.TheConstants.{IS_CONSTRAINED, OUT_OF_MEMORY}
+use Rattle.c_calls.specs.Answers.{status_of_outcome}
+use Rattle.c_calls.specs.Edits.{AddsKept, Addition, AllowsConstraints, AreThere, EditsAt}
+use Rattle.c_calls.specs.Edits.{IsSameKind, Release, ReleasesKept, Removal, RemovesKept}
 use Rattle.c_calls.specs.Edits.{removed, removal_of_none, removal_refused}
 use Rattle.c_calls.specs.Edits.{added, addition_of_none, addition_crossing, addition_refused}
+use Rattle.c_calls.specs.Edits.{released, release_of_free, release_refused}
 use Rattle.c_calls.specs.Kept.{IsKeptDelaunay, kept_place}
 
 -- what an open handle has afterwards
@@ -34,29 +39,51 @@ pub edited_at : (Edits : KeptPoints → KeptPoints → Type 0) (old new : KeptPo
 edited_at Edits old new kept is edits headline =
     record { new = new; is_kept = is; edits = edits; headline = headline }
 
--- ---- a removal
-module _ {V D U F E : Type 0} (place : V → Point) (constraints : List U → List ℕ)
-    (vertex handle : ℕ) (same : handle ≡ vertex) (r : Result V E) (old new : State V D U F)
-    (removes : RemovesVertex place constraints handle r old new) where
-  -- it was done
-  pub is_removed : (v : V) → r ≡ Ok v → Removal place constraints vertex WELL old new
-  is_removed v ok = subst (λ (n : ℕ). Removal place constraints n WELL old new) same
-      (removed refl (subst (λ (w : Result V E). OnOk w (Removes place
-      (points_and_constraints_by constraints old) (points_and_constraints_by constraints new)
-      handle)) ok removes.plain))
+-- ---- edits, by what the journal's step gave
+module _ {V D U F : Type 0} (place : V → Point) (constraints : List U → List ℕ)
+    (marking : Marking U) (old new : State V D U F) where
+  -- a removal
+  pub removal_ended : (vertex status : ℕ) (o : Outcome V) → status ≡ status_of_outcome o
+      → Gives place constraints marking (Remove vertex) o old new
+      → Removal place constraints vertex status old new
+  removal_ended vertex status (Removed v) told gives = removed told gives.plain
+  removal_ended vertex status (Refused reason.NoVertex) told (past, same) =
+      removal_of_none told (λ there. let beyond = past in omega (arith, there, beyond)) same
+  removal_ended vertex status (Refused reason.OutOfMemory) told (there, same) =
+      removal_refused told there same
+  removal_ended vertex status (Refused r) told gives = absurd gives.0
+  removal_ended vertex status o told gives = absurd gives
 
-  -- memory was refused
-  pub is_not_removed : (e : E) → r ≡ Err e → vertex < length old.vertices
-      → Removal place constraints vertex OUT_OF_MEMORY old new
-  is_not_removed e err there = removal_refused refl there
-      (subst (λ (w : Result V E). OnErr w (new ≡ old)) err removes.err)
+module _ {V D U F : Type 0} (place : V → Point) (from to status : ℕ)
+    (old new : State V D (CdtEdge U) F) where
+  -- an addition of constraints
+  pub addition_ended : (o : Outcome V) → status ≡ status_of_outcome o
+      → Gives place constraint_edges flag_marking (AddConstraint from to) o old new
+      → Addition place from to status old new
+  addition_ended (Added made) told gives = added told gives.plain
+  addition_ended (Refused reason.NoVertex) told (gone, same) = addition_of_none told gone.1 same
+  addition_ended (Refused reason.Conflict) told (crosses, same) =
+      addition_crossing told (crosses.0.1, crosses.0.2) crosses.1 same
+  addition_ended (Refused reason.OutOfMemory) told (free, same) =
+      addition_refused told free.1 same
+  addition_ended (Refused reason.NoConstraints) told (plain, same) = absurd (cc)
+  addition_ended (Refused r) told gives = absurd gives.0
+  addition_ended o told gives = absurd gives
 
--- no vertex had the index
-pub removes_none : {V D U F : Type 0} (place : V → Point) (constraints : List U → List ℕ)
-    (vertex : ℕ) (s : State V D U F) → ¬ (vertex < length s.vertices)
-    → Removal place constraints vertex NO_SUCH_VERTEX s s
-removes_none place constraints vertex s none = removal_of_none refl none refl
+  -- a release of the constraint between two vertices that are there
+  pub release_ended : AreThere old from to → (o : Outcome V) → status ≡ status_of_outcome o
+      → Gives place constraint_edges flag_marking (ReleaseConstraint from to) o old new
+      → Release place from to status old new
+  release_ended there Released told gives = released told gives.plain
+  release_ended there (Refused reason.NotConstrained) told (free, same) =
+      release_of_free told there free.1 same
+  release_ended there (Refused reason.OutOfMemory) told (joined, same) =
+      release_refused told joined.1 same
+  release_ended there (Refused reason.NoConstraints) told (plain, same) = absurd (cc)
+  release_ended there (Refused r) told gives = absurd gives.0
+  release_ended there o told gives = absurd gives
 
+-- ---- an edit of either type
 -- of a plain triangulation
 pub removed_from_plain : (vertex status : ℕ) (k : KeptPoints)
     (a b : State NumberedPoint (Unit {0}) (Unit {0}) (Unit {0})) → k ≡ Plain a
@@ -73,44 +100,6 @@ removed_from_constrained vertex status k a b is h =
     subst (λ (w : KeptPoints). RemovesKept vertex status w (Constrained b)) (sym is) h
 
 -- ---- an addition of constraints
-module _ {V D U F : Type 0} (place : V → Point) (from to i j : ℕ) (starts : i ≡ from)
-    (ends : j ≡ to) (old new : State V D (CdtEdge U) F) where
-  module _ {E : Type 0} (r : Result Bool E) (adds : AddsConstraint place i j r old new) where
-    -- it was done
-    pub is_added : (made : Bool) → r ≡ Ok made → Addition place from to WELL old new
-    is_added made ok = added refl
-        (subst (λ (n : ℕ). Adds place (constrained old) (constrained new) from n) ends
-        (subst (λ (n : ℕ). Adds place (constrained old) (constrained new) n j) starts
-        (subst (λ (w : Result Bool E). OnOk w (Adds place
-        (constrained old) (constrained new) i j)) ok adds.plain)))
-
-    -- memory was refused
-    pub is_not_added : (e : E) → r ≡ Err e → CanAddConstraint place old i j
-        → Addition place from to OUT_OF_MEMORY old new
-    is_not_added e err can = addition_refused refl
-        (subst (λ (n : ℕ). CanAdd place (constrained old) from n) ends
-        (subst (λ (n : ℕ). CanAdd place (constrained old) n j) starts can.free))
-        (subst (λ (w : Result Bool E). OnErr w (new ≡ old)) err adds.err)
-
--- a constraint crosses the segment
-pub is_crossing : {V D U F : Type 0} (place : V → Point) (from to i j : ℕ) → i ≡ from → j ≡ to
-    → (s : State V D (CdtEdge U) F) → from < length s.vertices → to < length s.vertices
-    → ¬ CanAddConstraint place s i j → Addition place from to CROSSING s s
-is_crossing place from to i j starts ends s first second crosses =
-    addition_crossing refl (first, second) (λ free. crosses (record {
-      free = subst (λ (n : ℕ). CanAdd place (constrained s) i n) (sym ends)
-          (subst (λ (n : ℕ). CanAdd place (constrained s) n to) (sym starts) free);
-    })) refl
-
-module _ {V D U F : Type 0} (place : V → Point) (from to : ℕ) (s : State V D (CdtEdge U) F) where
-  -- the first vertex is not there
-  pub adds_no_first : ¬ (from < length s.vertices) → Addition place from to NO_SUCH_VERTEX s s
-  adds_no_first none = addition_of_none refl (λ both. none both.0) refl
-
-  -- the second is not
-  pub adds_no_second : ¬ (to < length s.vertices) → Addition place from to NO_SUCH_VERTEX s s
-  adds_no_second none = addition_of_none refl (λ both. none both.1) refl
-
 -- to a plain triangulation
 pub not_added_to_plain : (from to : ℕ) (k new : KeptPoints)
     (a : State NumberedPoint (Unit {0}) (Unit {0}) (Unit {0})) → k ≡ Plain a → new ≡ Plain a
@@ -124,6 +113,21 @@ pub added_to_constrained : (from to status : ℕ) (k : KeptPoints)
     → Addition kept_place from to status a b → AddsKept from to status k (Constrained b)
 added_to_constrained from to status k a b is h =
     subst (λ (w : KeptPoints). AddsKept from to status w (Constrained b)) (sym is) h
+
+-- ---- a release
+-- in a plain triangulation
+pub not_released_in_plain : (from to : ℕ) (k new : KeptPoints)
+    (a : State NumberedPoint (Unit {0}) (Unit {0}) (Unit {0})) → k ≡ Plain a → new ≡ Plain a
+    → ReleasesKept from to IS_PLAIN k new
+not_released_in_plain from to k new a is stays =
+    subst (λ (w : KeptPoints). ReleasesKept from to IS_PLAIN w new) (sym is) (refl, stays)
+
+-- in a constrained one
+pub released_in_constrained : (from to status : ℕ) (k : KeptPoints)
+    (a b : State NumberedPoint (Unit {0}) (CdtEdge (Unit {0})) (Unit {0})) → k ≡ Constrained a
+    → Release kept_place from to status a b → ReleasesKept from to status k (Constrained b)
+released_in_constrained from to status k a b is h =
+    subst (λ (w : KeptPoints). ReleasesKept from to status w (Constrained b)) (sym is) h
 
 -- ---- a plain triangulation that was to become a constrained one
 module _ (k : KeptPoints) (a : State NumberedPoint (Unit {0}) (Unit {0}) (Unit {0}))
@@ -174,13 +178,11 @@ pub still_constrained : (k : KeptPoints)
 still_constrained k a b is = subst (λ (w : KeptPoints). IsSameKind w (Constrained b)) (sym is) refl
 
 -- ---- for the functions that make the edits
-pub ruleset removals = (is_removed, is_not_removed, removes_none)
-
 pub ruleset removals_kept = (removed_from_plain, removed_from_constrained)
 
-pub ruleset additions = (is_added, is_not_added, is_crossing, adds_no_first, adds_no_second)
-
 pub ruleset additions_kept = (not_added_to_plain, added_to_constrained)
+
+pub ruleset releases_kept = (not_released_in_plain, released_in_constrained)
 
 pub ruleset allowances = (is_allowed, is_not_allowed, is_constrained)
 

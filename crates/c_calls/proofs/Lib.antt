@@ -6,7 +6,6 @@ pub mod Opened
 pub mod Inserted
 pub mod Edited
 pub mod Listed
-pub mod Released
 pub mod Chains
 pub mod Numbers
 pub mod Texts

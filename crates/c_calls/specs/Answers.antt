@@ -7,10 +7,15 @@ use Rattle.delaunay_edit.specs.delaunay_core.declared.math.InsertionError.TheVar
   OutOfMemory,
   OutOfIndexes,
 }
+use Rattle.delaunay_journal.specs.declared.edit.Outcome.{Outcome}
+use Rattle.delaunay_journal.specs.declared.edit.Outcome.TheVariants.{Refused}
+use Rattle.delaunay_journal.specs.declared.edit.Refusal.{Refusal}
+use Rattle.delaunay_journal.specs.declared.edit.Refusal.TheVariants as refusal
 use Rattle.c_calls.specs.declared.raw.NumberedPoint.{NumberedPoint}
 use Rattle.c_calls.specs.declared.kept.KeptPoints.{KeptPoints}
 use Rattle.c_calls.specs.declared.statuses.TheConstants.{ALREADY_OPEN, WELL, TOO_LARGE}
-use Rattle.c_calls.specs.declared.statuses.TheConstants.{NO_SUCH_KIND}
+use Rattle.c_calls.specs.declared.statuses.TheConstants.{NO_SUCH_KIND, NO_SUCH_VERTEX, IS_PLAIN}
+use Rattle.c_calls.specs.declared.statuses.TheConstants.{CROSSING, NO_CONSTRAINT}
 use Rattle.c_calls.specs.declared.statuses.TheConstants.{OUT_OF_INDEXES, OUT_OF_MEMORY}
 use Rattle.c_calls.specs.Kept.{InsertsKept, IsKeptDelaunay, IsOfKind, kept_vertices}
 
@@ -19,6 +24,21 @@ abbrev pub status_of_error : InsertionError → ℕ
 status_of_error TooLarge = TOO_LARGE
 status_of_error OutOfIndexes = OUT_OF_INDEXES
 status_of_error OutOfMemory = OUT_OF_MEMORY
+
+-- the status of a refused edit
+abbrev pub status_of_reason : Refusal → ℕ
+status_of_reason (refusal.Insertion e) = status_of_error e
+status_of_reason refusal.NoVertex = NO_SUCH_VERTEX
+status_of_reason refusal.OtherPosition = NO_SUCH_VERTEX
+status_of_reason refusal.NoConstraints = IS_PLAIN
+status_of_reason refusal.Conflict = CROSSING
+status_of_reason refusal.NotConstrained = NO_CONSTRAINT
+status_of_reason refusal.OutOfMemory = OUT_OF_MEMORY
+
+-- the status of an edit
+abbrev pub status_of_outcome : {V : Type 0} → Outcome V → ℕ
+status_of_outcome (Refused r) = status_of_reason r
+status_of_outcome o = WELL
 
 -- the status of an insertion
 abbrev pub status_of_insertion : Result ℕ InsertionError → ℕ

@@ -9,12 +9,13 @@ use crate::kept::{ConstrainedPoints, KeptPoints, PlainPoints};
 use crate::lists::counts_of;
 use crate::raw::{NumberedPoint, RawCounts};
 use crate::statuses::{
-    CROSSING, IS_CONSTRAINED, IS_PLAIN, NO_CONSTRAINT, NO_SUCH_VERTEX, OUT_OF_MEMORY, WELL,
+    IS_CONSTRAINED, IS_PLAIN, NO_SUCH_VERTEX, OUT_OF_MEMORY, WELL, status_of_edit,
 };
 use delaunay_interface::Triangulation;
 use delaunay_interface::delaunay_core::math::InsertionError;
 use delaunay_interface::delaunay_core::point::Point2;
 use delaunay_interface::half_edge_mesh::FixedVertexHandle;
+use delaunay_journal::{Edit, Replayable, make_edit};
 use exact_predicates::ExactTests;
 use std::alloc::Global;
 
@@ -36,76 +37,33 @@ pub fn is_vertex<T: Triangulation>(points: &T, index: u32) -> bool
 }
 
 // Removes a vertex.
-#[tactic(auto, using(crate::proofs::Edited::removals))]
-fn remove<T: Triangulation<Vertex = NumberedPoint>>(points: &mut T, vertex: u32) -> u32
+fn remove<T: Replayable<Vertex = NumberedPoint>>(points: &mut T, vertex: u32) -> u32
     ensures { Removal kept_place T.Constraints.constraints vertex result
         (T.state points.old) (T.state points.new) }
 {
-    if !is_vertex(points, vertex) {
-        return NO_SUCH_VERTEX;
-    }
-    match points.remove(FixedVertexHandle::from_index(vertex), &ExactTests) {
-        Ok(_) => WELL,
-        Err(_) => OUT_OF_MEMORY,
-    }
+    let vertex = FixedVertexHandle::from_index(vertex);
+    status_of_edit(make_edit(points, Edit::Remove(vertex), &ExactTests))
 }
 
 /// Joins two vertices by constraints.
-#[tactic(auto, using(crate::proofs::Edited::additions))]
 pub fn constrain(points: &mut ConstrainedPoints, from: u32, to: u32) -> u32
     ensures { Addition kept_place from to result points.old points.new }
 {
-    if !is_vertex(points, from) || !is_vertex(points, to) {
-        return NO_SUCH_VERTEX;
-    }
-    let (from, to) = (
-        FixedVertexHandle::from_index(from),
-        FixedVertexHandle::from_index(to),
-    );
-    if !points.can_add_constraint(from, to, &ExactTests) {
-        return CROSSING;
-    }
-    match points.add_constraint(from, to, &ExactTests) {
-        Ok(_) => WELL,
-        Err(_) => OUT_OF_MEMORY,
-    }
-}
-
-// Takes from the edge between two vertices of the triangulation that it is a constraint.
-fn release_between(
-    points: &mut ConstrainedPoints,
-    from: FixedVertexHandle,
-    to: FixedVertexHandle,
-) -> u32
-    requires from_in { from < length points.old.vertices }
-    requires to_in { to < length points.old.vertices }
-    ensures { Release kept_place from to result points.old points.new }
-{
-    points.recall_invariant();
-    let Some(edge) = points.get_edge_from_neighbors(from, to) else {
-        return NO_CONSTRAINT;
-    };
-    let edge = edge.fix().as_undirected();
-    match points.remove_constraint_edge(edge, &ExactTests) {
-        Ok(true) => WELL,
-        Ok(false) => NO_CONSTRAINT,
-        Err(_) => OUT_OF_MEMORY,
-    }
+    let from = FixedVertexHandle::from_index(from);
+    let to = FixedVertexHandle::from_index(to);
+    status_of_edit(make_edit(points, Edit::AddConstraint(from, to), &ExactTests))
 }
 
 // Takes from the edge between two vertices that it is a constraint.
-#[tactic(auto, using(crate::proofs::Released::releases))]
 fn release(points: &mut ConstrainedPoints, from: u32, to: u32) -> u32
     ensures { Release kept_place from to result points.old points.new }
 {
     if !is_vertex(points, from) || !is_vertex(points, to) {
         return NO_SUCH_VERTEX;
     }
-    release_between(
-        points,
-        FixedVertexHandle::from_index(from),
-        FixedVertexHandle::from_index(to),
-    )
+    let from = FixedVertexHandle::from_index(from);
+    let to = FixedVertexHandle::from_index(to);
+    status_of_edit(make_edit(points, Edit::ReleaseConstraint(from, to), &ExactTests))
 }
 
 impl KeptPoints {
@@ -162,7 +120,7 @@ impl KeptPoints {
     }
 
     /// Takes from the edge between two vertices that it is a constraint.
-    #[tactic(auto, using(crate::proofs::Released::releases_kept))]
+    #[tactic(auto, using(crate::proofs::Edited::releases_kept))]
     pub fn release(&mut self, from: u32, to: u32) -> u32
         ensures { ReleasesKept from to result self.old self.new }
     {

@@ -1,8 +1,9 @@
 //! How a call ended, by a number.
 ghost use Rattle.std.specs.Prelude.{◌≡◌};
-ghost use Rattle.c_calls.specs.Answers.{status_of_error};
+ghost use Rattle.c_calls.specs.Answers.{status_of_error, status_of_outcome, status_of_reason};
 
 use delaunay_interface::delaunay_core::math::InsertionError;
+use delaunay_journal::{Outcome, Refusal};
 
 /// All went well.
 pub const WELL: u32 = 0;
@@ -66,5 +67,31 @@ pub fn status_of(error: InsertionError) -> u32
         InsertionError::TooLarge => TOO_LARGE,
         InsertionError::OutOfIndexes => OUT_OF_INDEXES,
         InsertionError::OutOfMemory => OUT_OF_MEMORY,
+    }
+}
+
+/// The status of a refused edit.
+pub fn status_of_refusal(refusal: Refusal) -> u32
+    ensures { result ≡ status_of_reason refusal }
+{
+    match refusal {
+        Refusal::Insertion(error) => status_of(error),
+        Refusal::NoVertex => NO_SUCH_VERTEX,
+        // No call for C moves a vertex, so that none is refused for this.
+        Refusal::OtherPosition => NO_SUCH_VERTEX,
+        Refusal::NoConstraints => IS_PLAIN,
+        Refusal::Conflict => CROSSING,
+        Refusal::NotConstrained => NO_CONSTRAINT,
+        Refusal::OutOfMemory => OUT_OF_MEMORY,
+    }
+}
+
+/// The status of an edit.
+pub fn status_of_edit<V: Drop>(outcome: Outcome<V>) -> u32
+    ensures { result ≡ status_of_outcome outcome }
+{
+    match outcome {
+        Outcome::Refused(refusal) => status_of_refusal(refusal),
+        _ => WELL,
     }
 }

@@ -55,7 +55,7 @@ impl<
         ensures vertices { self.new.vertices ≡ self.old.vertices }
         ensures headline { IsDelaunay V.place constraint_edges self.new }
     {
-        match self.try_join(from, to, tests) {
+        match self.add_constraint_unless_crossed(from, to, tests) {
             Ok(Some(made)) => Ok(made),
             Ok(None) => Err(ConstraintError::Conflict),
             Err(_) => Err(ConstraintError::Insertion(InsertionError::OutOfMemory)),

@@ -3,8 +3,7 @@ ghost use Rattle.std.specs.Prelude.{◌≡◌, ◌*◌, ◌<◌, ℕ, length, ma
 ghost use Rattle.delaunay_edit.specs.half_edge_links.Mesh.{origin, rev};
 ghost use Rattle.delaunay_edit.specs.plane.Plain.{Adds, CanAdd};
 ghost use Rattle.delaunay_edit.specs.Constrained.{constrained, constraint_edges, constraints_of};
-ghost use Rattle.delaunay_edit.specs.ConstraintEdits.{AddsConstraint, AddsIfFree};
-ghost use Rattle.delaunay_edit.specs.ConstraintEdits.{MarksEdges, MayJoin};
+ghost use Rattle.delaunay_edit.specs.ConstraintEdits.{AddsConstraint, MarksEdges};
 ghost use Rattle.delaunay_edit.specs.Counting.{HasPairs, IsMissing};
 ghost use Rattle.delaunay_edit.specs.Headline.{IsDelaunay};
 
@@ -86,37 +85,5 @@ impl<V: HasPosition, DE, UE, F, L: HintGenerator<V::Scalar>> ConstrainedDelaunay
         );
         self.num_constraints += missing;
         Ok(())
-    }
-
-    // Makes constraints of the pieces of the path between two vertices, and tells whether one was
-    // none, unless a constraint crosses the path: then it tells that by `None`, and takes no
-    // memory.
-    pub(crate) fn try_join<P: PlaneTests<V::Scalar>>(
-        &mut self,
-        from: FixedVertexHandle,
-        to: FixedVertexHandle,
-        tests: &P,
-    ) -> Result<Option<bool>, AllocError>
-        requires { MayJoin V.place (P.sites tests.now) self.old from to }
-        ensures adds { AddsIfFree V.place from to result self.old self.new }
-        ensures headline { IsDelaunay V.place constraint_edges self.new }
-    {
-        let dcel = self.mesh();
-        if from == to {
-            return Ok(Some(false));
-        }
-        if let Some(edge) = dcel.get_edge_from_neighbors(from, to) {
-            let edge = edge.fix();
-            return Ok(Some(self.constrain(edge)));
-        }
-        let placed = Placed { dcel, tests };
-        let Some(missing) = placed.count_path::<EdgeConstraints>(from, to) else {
-            return Ok(None);
-        };
-        if missing == 0 {
-            return Ok(Some(false));
-        }
-        self.join_path(from, to, missing, tests)?;
-        Ok(Some(true))
     }
 }

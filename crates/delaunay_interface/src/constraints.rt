@@ -12,8 +12,8 @@ ghost use Rattle.delaunay_edit.specs.delaunay_location.Conflicts.{IntersectsCons
 ghost use Rattle.delaunay_edit.specs.delaunay_location.Walk.{IsReady, WalksLine};
 ghost use Rattle.delaunay_edit.specs.Constrained.{IsFree, constrained, constraint_edges};
 ghost use Rattle.delaunay_edit.specs.Constrained.{constraints_of};
-ghost use Rattle.delaunay_edit.specs.ConstraintEdits.{AddsConstraint, AddsPathIfFree};
-ghost use Rattle.delaunay_edit.specs.ConstraintEdits.{ReleasesConstraint};
+ghost use Rattle.delaunay_edit.specs.ConstraintEdits.{AddsConstraint, AddsIfFree, AddsPathIfFree};
+ghost use Rattle.delaunay_edit.specs.ConstraintEdits.{MayJoin, ReleasesConstraint};
 ghost use Rattle.delaunay_edit.specs.Data.{HasOtherEdgeData};
 ghost use Rattle.delaunay_edit.specs.Headline.{AreSites, IsDelaunay};
 ghost use Rattle.delaunay_interface.specs.Views.{CanAddConstraint};
@@ -78,11 +78,51 @@ impl<V: HasPosition, DE, UE, F, L: HintGenerator<V::Scalar>> ConstrainedDelaunay
         ensures adds { AddsConstraint V.place from to result self.old self.new }
         ensures headline { IsDelaunay V.place constraint_edges self.new }
     {
-        match self.try_join(from, to, tests) {
+        match self.add_constraint_unless_crossed(from, to, tests) {
             Ok(Some(made)) => Ok(made),
             Ok(None) => unreachable!(),
             Err(refused) => Err(refused),
         }
+    }
+
+    /// Does what `add_constraint` does, unless a constraint crosses the segment, which it tells by
+    /// `None`. So `can_add_constraint` need not be asked before, and the segment is walked along
+    /// once less. Where a constraint crosses, nothing changes, and no memory is taken. It gives
+    /// `AllocError` where memory was refused, and then nothing changes either.
+    ///
+    /// ```
+    /// match site.add_constraint_unless_crossed(from, to, &ExactTests)? {
+    ///     Some(made) => println!(rt; "a wall, and a new one: {made}")?,
+    ///     None => println!(rt; "another wall is in the way")?,
+    /// }
+    /// ```
+    pub fn add_constraint_unless_crossed<P: PlaneTests<V::Scalar>>(
+        &mut self,
+        from: FixedVertexHandle,
+        to: FixedVertexHandle,
+        tests: &P,
+    ) -> Result<Option<bool>, AllocError>
+        requires { MayJoin V.place (P.sites tests.now) self.old from to }
+        ensures adds { AddsIfFree V.place from to result self.old self.new }
+        ensures headline { IsDelaunay V.place constraint_edges self.new }
+    {
+        let dcel = self.mesh();
+        if from == to {
+            return Ok(Some(false));
+        }
+        if let Some(edge) = dcel.get_edge_from_neighbors(from, to) {
+            let edge = edge.fix();
+            return Ok(Some(self.constrain(edge)));
+        }
+        let placed = Placed { dcel, tests };
+        let Some(missing) = placed.count_path::<EdgeConstraints>(from, to) else {
+            return Ok(None);
+        };
+        if missing == 0 {
+            return Ok(Some(false));
+        }
+        self.join_path(from, to, missing, tests)?;
+        Ok(Some(true))
     }
 
     /// Does what `add_constraint` does and gives the edges of the path, each directed along it, in

@@ -70,7 +70,8 @@ module _ {V D U F : Type 0} (place : V → Point) (constraints : List U → List
   IsRefusedFor (AddConstraint i j) NoVertex s =
       (marking.possible ≡ true) × ¬ ((i < length s.vertices) × (j < length s.vertices))
   IsRefusedFor (AddConstraint i j) Conflict s =
-      (marking.possible ≡ true) × ¬ CanAdd place (plain_of s) i j
+      ((marking.possible ≡ true) × (i < length s.vertices) × (j < length s.vertices))
+      × ¬ CanAdd place (plain_of s) i j
   IsRefusedFor (AddConstraint i j) OutOfMemory s =
       (marking.possible ≡ true) × CanAdd place (plain_of s) i j
   IsRefusedFor (ReleaseConstraint i j) NoConstraints s = marking.possible ≡ false

@@ -10,3 +10,4 @@ mod steps;
 pub use edit::{Edit, Outcome, PairEdit, Refusal};
 pub use replayable::Replayable;
 pub use replaying::replay;
+pub use steps::make_edit;

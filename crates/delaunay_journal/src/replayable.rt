@@ -64,11 +64,9 @@ impl<
                 if from.index() as usize >= count || to.index() as usize >= count {
                     return Outcome::Refused(Refusal::NoVertex);
                 }
-                if !self.can_add_constraint(from, to, tests) {
-                    return Outcome::Refused(Refusal::Conflict);
-                }
-                match self.add_constraint(from, to, tests) {
-                    Ok(made) => Outcome::Added(made),
+                match self.add_constraint_unless_crossed(from, to, tests) {
+                    Ok(Some(made)) => Outcome::Added(made),
+                    Ok(None) => Outcome::Refused(Refusal::Conflict),
                     Err(_) => Outcome::Refused(Refusal::OutOfMemory),
                 }
             }

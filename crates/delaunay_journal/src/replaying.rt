@@ -9,7 +9,7 @@ ghost use Rattle.delaunay_journal.specs.Journal.{Replays, edits_made};
 
 use crate::edit::{Edit, Outcome};
 use crate::replayable::Replayable;
-use crate::steps::make;
+use crate::steps::make_edit;
 use delaunay_interface::Triangulation;
 use delaunay_interface::delaunay_core::math::PlaneTests;
 use delaunay_interface::delaunay_core::point::HasPosition;
@@ -53,7 +53,7 @@ pub fn replay<T: Replayable, P: PlaneTests<<T::Vertex as HasPosition>::Scalar>>(
     points.recall_invariant();
     let mut outcomes = Vec::with_capacity(*edits.allocator(), edits.len())?;
     for edit in edits {
-        outcomes.push_reserved(make(points, edit, tests));
+        outcomes.push_reserved(make_edit(points, edit, tests));
     }
     Ok(outcomes)
 }

@@ -81,8 +81,17 @@ fn replace<T: Replayable>(
     Outcome::Replaced(points.replace_vertex(vertex, value))
 }
 
-// Makes an edit, or changes nothing.
-pub(crate) fn make<T: Replayable, P: PlaneTests<<T::Vertex as HasPosition>::Scalar>>(
+/// Makes an edit, or tells why it is refused, and changes nothing then. Whether it may be made is
+/// looked at on the way, so nothing is to be asked before.
+///
+/// ```
+/// match make_edit(&mut site, Edit::AddConstraint(from, to), &ExactTests) {
+///     Outcome::Added(_) => println!(rt; "a wall")?,
+///     Outcome::Refused(why) => println!(rt; "no wall: {why:?}")?,
+///     _ => println!(rt; "another edit")?,
+/// }
+/// ```
+pub fn make_edit<T: Replayable, P: PlaneTests<<T::Vertex as HasPosition>::Scalar>>(
     points: &mut T,
     edit: Edit<T::Vertex>,
     tests: &P,

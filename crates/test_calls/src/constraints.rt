@@ -20,6 +20,16 @@ fn try_add<L: HintGenerator<i64>>(
     Some(points.try_add_constraint(from, to, &ExactTests))
 }
 
+// Whether an edge of a path that nothing crosses became a constraint: nothing where one crosses.
+fn add_unless_crossed<L: HintGenerator<i64>>(
+    points: &mut Constrained<L>,
+    from: u32,
+    to: u32,
+) -> Option<Result<Option<bool>, AllocError>> {
+    let (from, to) = both(points, from, to)?;
+    Some(points.add_constraint_unless_crossed(from, to, &ExactTests))
+}
+
 // Whether the edge that joins two vertices was a constraint, which is released.
 fn release<L: HintGenerator<i64>>(
     points: &mut Constrained<L>,
@@ -105,6 +115,7 @@ pub fn constrain<L: HintGenerator<i64>>(
     let [from, to, _] = call.indexes();
     let printed = match call.name {
         "try_add_constraint" => call.tell(rt, &try_add(points, from, to)),
+        "add_constraint_unless_crossed" => call.tell(rt, &add_unless_crossed(points, from, to)),
         "remove_constraint_edge" => call.tell(rt, &release(points, from, to)),
         "exists_constraint" => call.tell(rt, &exists(points, from, to)),
         "is_constraint_edge" => call.tell(rt, &is_constraint(points, from, to)),

@@ -1,4 +1,4 @@
-use Rattle.delaunay_journal.proofs.steps.make.Goals as goal
+use Rattle.delaunay_journal.proofs.steps.make_edit.Goals as goal
 
 pub insert-requires-clause-new_site : goal.insert-requires-clause-new_site
 insert-requires-clause-new_site g c = c.requires.new_site c.in-Insert.value c.in-Insert.is

@@ -5,7 +5,7 @@ use Rattle.delaunay_edit.proofs.JoinedPairs.{index_found}
 use Rattle.delaunay_edit.proofs.EditingConstraints.{nothing_added, path_added}
 use Rattle.delaunay_edit.proofs.OnePieceAdded.{edge_told, none_missing, none_to_itself}
 use Rattle.delaunay_edit.proofs.OnePieceAdded.{some_missing}
-use Rattle.delaunay_interface.proofs.constraint_edits.ConstrainedDelaunayTriangulation+V+DE+UE+F+L.try_join.Goals as goal
+use Rattle.delaunay_interface.proofs.constraints.ConstrainedDelaunayTriangulation+V+DE+UE+F+L.add_constraint_unless_crossed.Goals as goal
 
 pub returns-then-eq-clause-adds : goal.returns-then-eq-clause-adds
 returns-then-eq-clause-adds g c =
