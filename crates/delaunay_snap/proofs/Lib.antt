@@ -1,0 +1,3 @@
+pub mod Connections
+pub mod Steps
+pub mod Outcomes
