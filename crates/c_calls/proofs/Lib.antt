@@ -1,7 +1,6 @@
 -- Handles, and the machine values behind them.
 pub mod Values
 pub mod Handles
-pub mod Opened
 -- How edits ended.
 pub mod Inserted
 pub mod Edited

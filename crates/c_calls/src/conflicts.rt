@@ -3,15 +3,14 @@ ghost use Rattle.std.specs.Prelude.{◌≡◌, ◌<◌, List};
 ghost use Rattle.delaunay_edit.specs.plane.Line.{Item};
 ghost use Rattle.delaunay_edit.specs.delaunay_legalization.Constraints.{constraints_by};
 ghost use Rattle.delaunay_edit.specs.delaunay_legalization.Shape.{IsTriangulated};
-ghost use Rattle.delaunay_edit.specs.delaunay_legalization.State.{state_of, triangulation_of};
+ghost use Rattle.delaunay_edit.specs.delaunay_legalization.State.{state_of};
 ghost use Rattle.delaunay_edit.specs.delaunay_location.Walk.{AreLeft, IsReady};
-ghost use Rattle.c_calls.specs.Conflicts.{FindsConflicts, IsConflictMet, PutsConflict};
+ghost use Rattle.c_calls.specs.Conflicts.{IsConflictMet, PutsConflict};
 ghost use Rattle.c_calls.specs.Conflicts.{TellsConflicts};
-ghost use Rattle.c_calls.specs.Kept.{kept_drawing, kept_place, kept_state};
 
-use crate::kept::KeptPoints;
 use crate::lines::{ACROSS_EDGE, may_ask_line, raw_meeting};
 use crate::queries::point_of;
+use crate::query::Query;
 use crate::raw::{NumberedPoint, RawMeeting, RawPoint, RawSegment};
 use crate::statuses::TOO_LARGE;
 use crate::told::{put, status_by_room};
@@ -20,6 +19,7 @@ use delaunay_interface::delaunay_core::point::HasPosition;
 use delaunay_interface::delaunay_legalization::ConstraintMarker;
 use delaunay_interface::{LineIntersectionIterator, Triangulation};
 use exact_predicates::ExactTests;
+use std::alloc::Global;
 
 // The constraint that a line crosses where it meets this, if it does.
 fn conflict_in(meeting: &RawMeeting) -> Option<RawSegment>
@@ -69,45 +69,36 @@ fn write_crossed<M: ConstraintMarker<UE>, V: HasPosition, DE, UE, F, P: PlaneTes
     status_by_room(conflicts.len(), count)
 }
 
-// Writes the constraints that a segment crosses, as far as there is room, and how many they are.
-fn write_conflicts<T: Triangulation<Vertex = NumberedPoint>>(
-    points: &T,
-    from: &RawPoint,
-    to: &RawPoint,
-    conflicts: &mut [RawSegment],
-    length: &mut usize,
-) -> u32
-    ensures { FindsConflicts (triangulation_of kept_place (T.state points.now))
-        (constraints_by T.Constraints.constraints (T.state points.now)) from.now to.now result
-        length.old length.new conflicts.old conflicts.new }
-{
-    if !may_ask_line(from, to) {
-        return TOO_LARGE;
-    }
-    points.recall_invariant();
-    let (start, end) = (point_of(from), point_of(to));
-    let mut line = LineIntersectionIterator::new(points, start, end, &ExactTests);
-    write_crossed::<T::Constraints, _, _, _, _, _>(&mut line, conflicts, length)
+/// The constraints that the segment between two points crosses.
+#[derive(Drop)]
+pub struct ListConflicts {
+    pub from: RawPoint,
+    pub to: RawPoint,
 }
 
-impl KeptPoints {
-    /// Writes the constraints that a segment crosses, as far as there is room, and how many they
-    /// are.
-    pub fn write_conflicts(
+impl Query for ListConflicts {
+    ghost use Rattle.c_calls.specs.Conflicts.{FindsConflicts};
+
+    type Item = RawSegment;
+
+    type Told = usize;
+
+    ghost tells = { λ q v status was told old new. FindsConflicts v.drawing v.constraints q.from
+        q.to status was told old new };
+
+    fn ask<T: Triangulation<Vertex = NumberedPoint>>(
         &self,
-        from: &RawPoint,
-        to: &RawPoint,
+        points: &T,
+        _alloc: Global,
         conflicts: &mut [RawSegment],
         length: &mut usize,
-    ) -> u32
-        ensures { FindsConflicts (kept_drawing self.now) (kept_state self.now).constraints from.now
-            to.now result length.old length.new conflicts.old conflicts.new }
-    {
-        match self {
-            KeptPoints::Plain(points) => write_conflicts(points, from, to, conflicts, length),
-            KeptPoints::Constrained(points) => {
-                write_conflicts(points, from, to, conflicts, length)
-            }
+    ) -> u32 {
+        if !may_ask_line(&self.from, &self.to) {
+            return TOO_LARGE;
         }
+        points.recall_invariant();
+        let (start, end) = (point_of(&self.from), point_of(&self.to));
+        let mut line = LineIntersectionIterator::new(points, start, end, &ExactTests);
+        write_crossed::<T::Constraints, _, _, _, _, _>(&mut line, conflicts, length)
     }
 }

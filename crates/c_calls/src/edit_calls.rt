@@ -8,7 +8,7 @@ ghost use Rattle.c_calls.specs.Kept.{unnumbered_at};
 ghost use Rattle.c_calls.specs.Lists.{AddsChainKept, InsertsListKept, NumbersKept};
 ghost use Rattle.c_calls.specs.Lists.{unnumbered_points};
 
-use crate::handle::Handle;
+use crate::handle::{Handle, with_kept};
 use crate::kept::KeptPoints;
 use crate::raw::RawPoint;
 use crate::statuses::{CLOSED, WELL, status_of};
@@ -23,17 +23,12 @@ impl Handle {
         ensures { EditsOpen (EditsAt (AllowsConstraints result)) result self.old.kept
             self.new.kept }
     {
-        let Some(mut kept) = self.take(alloc) else {
-            return CLOSED;
-        };
-        let (changed, status) = replace(
-            &mut *kept,
-            KeptPoints::new(alloc, false),
-        ).allow_constraints();
-        *kept = changed;
-        kept.recall_headline();
-        self.put(kept, alloc);
-        status
+        with_kept!(self, alloc, mut kept => {
+            let old = replace(&mut *kept, KeptPoints::new(alloc, false));
+            let (changed, status) = old.allow_constraints();
+            *kept = changed;
+            status
+        })
     }
 
     /// Forgets all.
@@ -41,11 +36,7 @@ impl Handle {
     pub fn clear(&mut self, alloc: Global) -> u32
         ensures { EditsOpen (EditsAt (ClearsKept result)) result self.old.kept self.new.kept }
     {
-        let Some(mut kept) = self.take(alloc) else {
-            return CLOSED;
-        };
-        kept.clear();
-        self.put(kept, alloc);
+        with_kept!(self, alloc, mut kept => kept.clear());
         WELL
     }
 
@@ -55,12 +46,7 @@ impl Handle {
         ensures { EditsOpen (InsertsAt (unnumbered_at x y) result vertex.new) result self.old.kept
             self.new.kept }
     {
-        let Some(mut kept) = self.take(alloc) else {
-            return CLOSED;
-        };
-        let inserted = kept.insert(Point2 { x, y });
-        self.put(kept, alloc);
-        match inserted {
+        match with_kept!(self, alloc, mut kept => kept.insert(Point2 { x, y })) {
             Ok(inserted) => {
                 *vertex = inserted.index();
                 WELL
@@ -75,13 +61,7 @@ impl Handle {
         ensures { EditsOpen (EditsAt (InsertsListKept (unnumbered_points positions.now) result
             vertices.old vertices.new)) result self.old.kept self.new.kept }
     {
-        let Some(mut kept) = self.take(alloc) else {
-            return CLOSED;
-        };
-        let status = kept.insert_all(alloc, positions, vertices);
-        kept.recall_headline();
-        self.put(kept, alloc);
-        status
+        with_kept!(self, alloc, mut kept => kept.insert_all(alloc, positions, vertices))
     }
 
     /// Removes a vertex.
@@ -90,13 +70,7 @@ impl Handle {
         ensures { EditsOpen (EditsAt (RemovesKept vertex result)) result self.old.kept
             self.new.kept }
     {
-        let Some(mut kept) = self.take(alloc) else {
-            return CLOSED;
-        };
-        let status = kept.remove(vertex);
-        kept.recall_headline();
-        self.put(kept, alloc);
-        status
+        with_kept!(self, alloc, mut kept => kept.remove(vertex))
     }
 
     /// Joins two vertices by constraints.
@@ -105,13 +79,7 @@ impl Handle {
         ensures { EditsOpen (EditsAt (AddsKept from to result)) result self.old.kept
             self.new.kept }
     {
-        let Some(mut kept) = self.take(alloc) else {
-            return CLOSED;
-        };
-        let status = kept.constrain(from, to);
-        kept.recall_headline();
-        self.put(kept, alloc);
-        status
+        with_kept!(self, alloc, mut kept => kept.constrain(from, to))
     }
 
     /// Joins each vertex of a list to the next, and the last to the first where it is closed, and
@@ -127,13 +95,7 @@ impl Handle {
         ensures { EditsOpen (EditsAt (AddsChainKept vertices.now closed result made.new)) result
             self.old.kept self.new.kept }
     {
-        let Some(mut kept) = self.take(alloc) else {
-            return CLOSED;
-        };
-        let status = kept.constrain_chain(vertices, closed, made);
-        kept.recall_headline();
-        self.put(kept, alloc);
-        status
+        with_kept!(self, alloc, mut kept => kept.constrain_chain(vertices, closed, made))
     }
 
     /// Takes from the edge between two vertices that it is a constraint.
@@ -142,13 +104,7 @@ impl Handle {
         ensures { EditsOpen (EditsAt (ReleasesKept from to result)) result self.old.kept
             self.new.kept }
     {
-        let Some(mut kept) = self.take(alloc) else {
-            return CLOSED;
-        };
-        let status = kept.release(from, to);
-        kept.recall_headline();
-        self.put(kept, alloc);
-        status
+        with_kept!(self, alloc, mut kept => kept.release(from, to))
     }
 
     /// Gives numbers to vertices.
@@ -157,12 +113,6 @@ impl Handle {
         ensures { EditsOpen (EditsAt (NumbersKept vertices.now numbers.now result)) result
             self.old.kept self.new.kept }
     {
-        let Some(mut kept) = self.take(alloc) else {
-            return CLOSED;
-        };
-        let status = kept.set_numbers(vertices, numbers);
-        kept.recall_headline();
-        self.put(kept, alloc);
-        status
+        with_kept!(self, alloc, mut kept => kept.set_numbers(vertices, numbers))
     }
 }

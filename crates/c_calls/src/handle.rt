@@ -8,6 +8,29 @@ use std::alloc::Global;
 use std::marker::Model;
 use std::mem::replace;
 
+// Does something with what a handle has, and puts it back. A closed handle ends the call.
+macro_rules! with_kept {
+    ($handle:expr, $alloc:expr, $kept:ident => $call:expr) => {{
+        let Some($kept) = $handle.take($alloc) else {
+            return CLOSED;
+        };
+        let told = $call;
+        $handle.put($kept, $alloc);
+        told
+    }};
+    ($handle:expr, $alloc:expr, mut $kept:ident => $call:expr) => {{
+        let Some(mut $kept) = $handle.take($alloc) else {
+            return CLOSED;
+        };
+        let told = $call;
+        $kept.recall_headline();
+        $handle.put($kept, $alloc);
+        told
+    }};
+}
+
+pub(crate) use with_kept;
+
 /// What C sees of a triangulation.
 #[repr(C)]
 pub struct Opaque {

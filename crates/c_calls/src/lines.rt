@@ -3,15 +3,14 @@ ghost use Rattle.std.specs.Prelude.{◌≡◌, ◌↔◌, List, IsTrue};
 ghost use Rattle.delaunay_edit.specs.plane.Line.{Item};
 ghost use Rattle.delaunay_edit.specs.delaunay_legalization.Constraints.{constraints_by};
 ghost use Rattle.delaunay_edit.specs.delaunay_legalization.Shape.{IsTriangulated};
-ghost use Rattle.delaunay_edit.specs.delaunay_legalization.State.{state_of, triangulation_of};
+ghost use Rattle.delaunay_edit.specs.delaunay_legalization.State.{state_of};
 ghost use Rattle.delaunay_edit.specs.delaunay_location.Walk.{AreLeft, IsReady};
-ghost use Rattle.c_calls.specs.Kept.{kept_drawing, kept_place, kept_state};
 ghost use Rattle.c_calls.specs.Links.{IsMetEdge, IsRawMeeting};
-ghost use Rattle.c_calls.specs.Queries.{FindsLine, MayAskLine, TellsItems};
+ghost use Rattle.c_calls.specs.Queries.{MayAskLine, TellsItems};
 
-use crate::kept::KeptPoints;
 use crate::lists::raw_edge;
 use crate::queries::{is_in_range, point_of};
+use crate::query::Query;
 use crate::raw::{NumberedPoint, RawMeeting, RawPoint};
 use crate::statuses::TOO_LARGE;
 use crate::told::{put, status_by_room};
@@ -21,6 +20,7 @@ use delaunay_interface::delaunay_legalization::ConstraintMarker;
 use delaunay_interface::half_edge_mesh::DirectedEdgeHandle;
 use delaunay_interface::{Intersection, LineIntersectionIterator, Triangulation};
 use exact_predicates::ExactTests;
+use std::alloc::Global;
 
 pub const AT_VERTEX: u32 = 0;
 
@@ -95,42 +95,36 @@ pub fn may_ask_line(from: &RawPoint, to: &RawPoint) -> bool
     is_in_range(from) && is_in_range(to)
 }
 
-// Writes what a segment meets, as far as there is room, and how much that is.
-fn write_met<T: Triangulation<Vertex = NumberedPoint>>(
-    points: &T,
-    from: &RawPoint,
-    to: &RawPoint,
-    meetings: &mut [RawMeeting],
-    length: &mut usize,
-) -> u32
-    ensures { FindsLine (triangulation_of kept_place (T.state points.now))
-        (constraints_by T.Constraints.constraints (T.state points.now)) from.now to.now result
-        length.old length.new meetings.old meetings.new }
-{
-    if !may_ask_line(from, to) {
-        return TOO_LARGE;
-    }
-    points.recall_invariant();
-    let (start, end) = (point_of(from), point_of(to));
-    let mut line = LineIntersectionIterator::new(points, start, end, &ExactTests);
-    write_meetings::<T::Constraints, _, _, _, _, _>(&mut line, meetings, length)
+/// What the segment between two points meets.
+#[derive(Drop)]
+pub struct WalkLine {
+    pub from: RawPoint,
+    pub to: RawPoint,
 }
 
-impl KeptPoints {
-    /// Writes what a segment meets, as far as there is room, and how much that is.
-    pub fn write_met(
+impl Query for WalkLine {
+    ghost use Rattle.c_calls.specs.Queries.{FindsLine};
+
+    type Item = RawMeeting;
+
+    type Told = usize;
+
+    ghost tells = { λ q v status was told old new. FindsLine v.drawing v.constraints q.from q.to
+        status was told old new };
+
+    fn ask<T: Triangulation<Vertex = NumberedPoint>>(
         &self,
-        from: &RawPoint,
-        to: &RawPoint,
+        points: &T,
+        _alloc: Global,
         meetings: &mut [RawMeeting],
         length: &mut usize,
-    ) -> u32
-        ensures { FindsLine (kept_drawing self.now) (kept_state self.now).constraints from.now
-            to.now result length.old length.new meetings.old meetings.new }
-    {
-        match self {
-            KeptPoints::Plain(points) => write_met(points, from, to, meetings, length),
-            KeptPoints::Constrained(points) => write_met(points, from, to, meetings, length),
+    ) -> u32 {
+        if !may_ask_line(&self.from, &self.to) {
+            return TOO_LARGE;
         }
+        points.recall_invariant();
+        let (start, end) = (point_of(&self.from), point_of(&self.to));
+        let mut line = LineIntersectionIterator::new(points, start, end, &ExactTests);
+        write_meetings::<T::Constraints, _, _, _, _, _>(&mut line, meetings, length)
     }
 }

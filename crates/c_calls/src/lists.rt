@@ -3,14 +3,11 @@ ghost use Rattle.std.specs.Prelude.{◌≡◌, ◌/◌, ◌<◌, length, map};
 ghost use Rattle.delaunay_edit.specs.half_edge_links.Mesh.{face_edge};
 ghost use Rattle.delaunay_edit.specs.delaunay_legalization.Constraints.{constraints_by};
 ghost use Rattle.delaunay_edit.specs.delaunay_legalization.State.{state_of, triangulation_of};
-ghost use Rattle.c_calls.specs.Kept.{kept_drawing, kept_state, kept_vertices};
 ghost use Rattle.c_calls.specs.Links.{IsMarkOf, IsRawEdge, IsRawFace, IsRawSide};
-ghost use Rattle.c_calls.specs.Queries.{IsElementAt, IsEdgeEntry, IsFaceEntry, ListsRawEdges};
-ghost use Rattle.c_calls.specs.Queries.{ListsRawFaces};
-ghost use Rattle.c_calls.specs.Queries.{ListsNumbers, ListsPositions, face_number, number_of};
-ghost use Rattle.c_calls.specs.Queries.{raw_position};
+ghost use Rattle.c_calls.specs.Queries.{IsElementAt, IsEdgeEntry, IsFaceEntry, ListsRawFaces};
+ghost use Rattle.c_calls.specs.Queries.{face_number, number_of, raw_position};
 
-use crate::kept::KeptPoints;
+use crate::query::Query;
 use crate::raw::{NumberedPoint, RawCounts, RawEdge, RawFace, RawPoint};
 use crate::statuses::{NONE, TOO_SHORT, WELL};
 use delaunay_interface::Triangulation;
@@ -18,6 +15,7 @@ use delaunay_interface::delaunay_legalization::ConstraintMarker;
 use delaunay_interface::half_edge_mesh::{
     DirectedEdgeHandle, FaceHandle, FixedFaceHandle, FixedUndirectedEdgeHandle, FixedVertexHandle,
 };
+use std::alloc::Global;
 
 // 1 where an edge is a constraint, and else 0.
 fn mark_of<M: ConstraintMarker<UE>, V, DE, UE, F>(edge: DirectedEdgeHandle<'_, V, DE, UE, F>) -> u32
@@ -111,6 +109,30 @@ pub fn write_faces<T: Triangulation>(points: &T, faces: &mut [RawFace], length: 
     WELL
 }
 
+/// Each face.
+pub struct ListFaces;
+
+impl Query for ListFaces {
+    ghost use Rattle.c_calls.specs.Queries.{ListsRawFaces};
+
+    type Item = RawFace;
+
+    type Told = usize;
+
+    ghost tells = { λ _ v status _ told old new. ListsRawFaces v.drawing v.constraints status told
+        old new };
+
+    fn ask<T: Triangulation<Vertex = NumberedPoint>>(
+        &self,
+        points: &T,
+        _alloc: Global,
+        faces: &mut [RawFace],
+        length: &mut usize,
+    ) -> u32 {
+        write_faces(points, faces, length)
+    }
+}
+
 /// An edge, for C.
 pub fn raw_edge<M: ConstraintMarker<UE>, V, DE, UE, F>(
     edge: DirectedEdgeHandle<'_, V, DE, UE, F>,
@@ -136,21 +158,36 @@ fn edge_at<T: Triangulation>(points: &T, index: u32) -> RawEdge
     raw_edge::<T::Constraints, _, _, _, _>(edge.as_directed())
 }
 
-// Writes the edges, if there is room.
-fn write_edges<T: Triangulation>(points: &T, edges: &mut [RawEdge], length: &mut usize) -> u32
-    ensures { ListsRawEdges (triangulation_of T.Vertex.place (T.state points.now))
-        (constraints_by T.Constraints.constraints (T.state points.now)) result length.new edges.old
-        edges.new }
-{
-    let count = points.num_undirected_edges();
-    *length = count;
-    if edges.len() < count {
-        return TOO_SHORT;
+/// Each edge.
+pub struct ListEdges;
+
+impl Query for ListEdges {
+    ghost use Rattle.c_calls.specs.Queries.{ListsRawEdges};
+
+    type Item = RawEdge;
+
+    type Told = usize;
+
+    ghost tells = { λ _ v status _ told old new. ListsRawEdges v.drawing v.constraints status told
+        old new };
+
+    fn ask<T: Triangulation<Vertex = NumberedPoint>>(
+        &self,
+        points: &T,
+        _alloc: Global,
+        edges: &mut [RawEdge],
+        length: &mut usize,
+    ) -> u32 {
+        let count = points.num_undirected_edges();
+        *length = count;
+        if edges.len() < count {
+            return TOO_SHORT;
+        }
+        for index in 0..count {
+            edges[index] = edge_at(points, index as u32);
+        }
+        WELL
     }
-    for index in 0..count {
-        edges[index] = edge_at(points, index as u32);
-    }
-    WELL
 }
 
 // The position of a vertex, for C.
@@ -168,24 +205,35 @@ fn position_at<T: Triangulation<Vertex = NumberedPoint>>(points: &T, vertex: u32
     }
 }
 
-// Writes the positions, if there is room.
-fn write_positions<T: Triangulation<Vertex = NumberedPoint>>(
-    points: &T,
-    positions: &mut [RawPoint],
-    length: &mut usize,
-) -> u32
-    ensures { ListsPositions (T.state points.now).vertices result length.new positions.old
-        positions.new }
-{
-    let count = points.num_vertices();
-    *length = count;
-    if positions.len() < count {
-        return TOO_SHORT;
+/// The position of each vertex.
+pub struct ListPositions;
+
+impl Query for ListPositions {
+    ghost use Rattle.c_calls.specs.Queries.{ListsPositions};
+
+    type Item = RawPoint;
+
+    type Told = usize;
+
+    ghost tells = { λ _ v status _ told old new. ListsPositions v.vertices status told old new };
+
+    fn ask<T: Triangulation<Vertex = NumberedPoint>>(
+        &self,
+        points: &T,
+        _alloc: Global,
+        positions: &mut [RawPoint],
+        length: &mut usize,
+    ) -> u32 {
+        let count = points.num_vertices();
+        *length = count;
+        if positions.len() < count {
+            return TOO_SHORT;
+        }
+        for index in 0..count {
+            positions[index] = position_at(points, index as u32);
+        }
+        WELL
     }
-    for index in 0..count {
-        positions[index] = position_at(points, index as u32);
-    }
-    WELL
 }
 
 // The number of a vertex.
@@ -199,68 +247,34 @@ fn number_at<T: Triangulation<Vertex = NumberedPoint>>(points: &T, vertex: u32) 
         .number
 }
 
-// Writes the numbers, if there is room.
-fn write_numbers<T: Triangulation<Vertex = NumberedPoint>>(
-    points: &T,
-    numbers: &mut [u64],
-    length: &mut usize,
-) -> u32
-    ensures { ListsNumbers (T.state points.now).vertices result length.new numbers.old
-        numbers.new }
-{
-    let count = points.num_vertices();
-    *length = count;
-    if numbers.len() < count {
-        return TOO_SHORT;
-    }
-    for index in 0..count {
-        numbers[index] = number_at(points, index as u32);
-    }
-    WELL
-}
+/// The number of each vertex.
+pub struct ListNumbers;
 
-impl KeptPoints {
-    /// Writes the positions, if there is room.
-    pub fn write_positions(&self, positions: &mut [RawPoint], length: &mut usize) -> u32
-        ensures { ListsPositions (kept_vertices self.now) result length.new positions.old
-            positions.new }
-    {
-        match self {
-            KeptPoints::Plain(points) => write_positions(points, positions, length),
-            KeptPoints::Constrained(points) => write_positions(points, positions, length),
-        }
-    }
+impl Query for ListNumbers {
+    ghost use Rattle.c_calls.specs.Queries.{ListsNumbers};
 
-    /// Writes the edges, if there is room.
-    pub fn write_edges(&self, edges: &mut [RawEdge], length: &mut usize) -> u32
-        ensures { ListsRawEdges (kept_drawing self.now) (kept_state self.now).constraints result
-            length.new edges.old edges.new }
-    {
-        match self {
-            KeptPoints::Plain(points) => write_edges(points, edges, length),
-            KeptPoints::Constrained(points) => write_edges(points, edges, length),
-        }
-    }
+    type Item = u64;
 
-    /// Writes the faces, if there is room.
-    pub fn write_faces(&self, faces: &mut [RawFace], length: &mut usize) -> u32
-        ensures { ListsRawFaces (kept_drawing self.now) (kept_state self.now).constraints result
-            length.new faces.old faces.new }
-    {
-        match self {
-            KeptPoints::Plain(points) => write_faces(points, faces, length),
-            KeptPoints::Constrained(points) => write_faces(points, faces, length),
-        }
-    }
+    type Told = usize;
 
-    /// Writes the numbers, if there is room.
-    pub fn write_numbers(&self, numbers: &mut [u64], length: &mut usize) -> u32
-        ensures { ListsNumbers (kept_vertices self.now) result length.new numbers.old numbers.new }
-    {
-        match self {
-            KeptPoints::Plain(points) => write_numbers(points, numbers, length),
-            KeptPoints::Constrained(points) => write_numbers(points, numbers, length),
+    ghost tells = { λ _ v status _ told old new. ListsNumbers v.vertices status told old new };
+
+    fn ask<T: Triangulation<Vertex = NumberedPoint>>(
+        &self,
+        points: &T,
+        _alloc: Global,
+        numbers: &mut [u64],
+        length: &mut usize,
+    ) -> u32 {
+        let count = points.num_vertices();
+        *length = count;
+        if numbers.len() < count {
+            return TOO_SHORT;
         }
+        for index in 0..count {
+            numbers[index] = number_at(points, index as u32);
+        }
+        WELL
     }
 }
 

@@ -1,18 +1,20 @@
 //! Queries of many points in one call.
 ghost use Rattle.std.specs.Prelude.{◌≡◌, ◌↔◌, All, IsTrue};
 ghost use Rattle.c_calls.specs.Kept.{kept_place};
-ghost use Rattle.c_calls.specs.Queries.{FindsKeptNearest, IsKeptPlace, IsNearestAnswer, IsPlaceIn};
+ghost use Rattle.c_calls.specs.Queries.{FindsKeptNearest, IsNearestAnswer, IsPlaceIn};
 ghost use Rattle.c_calls.specs.Queries.{raw_place};
 ghost use Rattle.c_calls.specs.Written.{Answering, IsRawInRange};
 
 use crate::kept::{KeptPoints, PlainPoints};
 use crate::lists::face_index;
+use crate::query::Query;
 use crate::raw::{NumberedPoint, RawPlace, RawPoint};
 use crate::statuses::{IS_CONSTRAINED, NONE, TOO_LARGE, TOO_SHORT, WELL};
 use delaunay_interface::delaunay_core::math::validate_vertex;
 use delaunay_interface::delaunay_core::point::Point2;
 use delaunay_interface::{PositionInTriangulation, Triangulation};
 use exact_predicates::ExactTests;
+use std::alloc::Global;
 
 pub const ON_VERTEX: u32 = 0;
 
@@ -89,25 +91,40 @@ fn place_at<T: Triangulation<Vertex = NumberedPoint>>(points: &T, query: &RawPoi
     raw_place(points.locate(point_of(query), &ExactTests))
 }
 
-// Writes where each point is.
-fn locate_all<T: Triangulation<Vertex = NumberedPoint>>(
-    points: &T,
-    queries: &[RawPoint],
-    places: &mut [RawPlace],
-) -> u32
-    ensures { Answering queries.now (IsPlaceIn kept_place (T.state points.now)) result places.old
-        places.new }
-{
-    if places.len() < queries.len() {
-        return TOO_SHORT;
+/// Where each point of a list is.
+#[derive(Drop)]
+pub struct Locate<'a> {
+    pub queries: &'a [RawPoint],
+}
+
+impl<'a> Query for Locate<'a> {
+    ghost use Rattle.c_calls.specs.Written.{Answering};
+
+    type Item = RawPlace;
+
+    type Told = ();
+
+    ghost tells = { λ q v status _ _ old new. Answering q.queries.now v.IsPlace status old new };
+
+    fn ask<T: Triangulation<Vertex = NumberedPoint>>(
+        &self,
+        points: &T,
+        _alloc: Global,
+        places: &mut [RawPlace],
+        _told: &mut (),
+    ) -> u32 {
+        let queries = self.queries;
+        if places.len() < queries.len() {
+            return TOO_SHORT;
+        }
+        if !are_in_range(queries) {
+            return TOO_LARGE;
+        }
+        for index in 0..queries.len() {
+            places[index] = place_at(points, &queries[index]);
+        }
+        WELL
     }
-    if !are_in_range(queries) {
-        return TOO_LARGE;
-    }
-    for index in 0..queries.len() {
-        places[index] = place_at(points, &queries[index]);
-    }
-    WELL
 }
 
 // A vertex nearest to a point in range, for C.
@@ -139,16 +156,6 @@ fn find_nearest(points: &PlainPoints, queries: &[RawPoint], vertices: &mut [u32]
 }
 
 impl KeptPoints {
-    /// Writes where each point is.
-    pub fn locate_all(&self, queries: &[RawPoint], places: &mut [RawPlace]) -> u32
-        ensures { Answering queries.now (IsKeptPlace self.now) result places.old places.new }
-    {
-        match self {
-            KeptPoints::Plain(points) => locate_all(points, queries, places),
-            KeptPoints::Constrained(points) => locate_all(points, queries, places),
-        }
-    }
-
     /// Writes a vertex nearest to each point.
     pub fn find_nearest(&self, queries: &[RawPoint], vertices: &mut [u32]) -> u32
         ensures { FindsKeptNearest self.now queries.now result vertices.old vertices.new }

@@ -2,21 +2,21 @@
 ghost use Rattle.std.specs.Prelude.{◌≡◌, MatchOption};
 ghost use Rattle.delaunay_edit.specs.delaunay_legalization.State.{triangulation_of};
 ghost use Rattle.delaunay_queries.specs.Found.{edges_left, vertices_left};
-ghost use Rattle.c_calls.specs.Kept.{kept_drawing, kept_links, kept_place};
+ghost use Rattle.c_calls.specs.Kept.{kept_place};
 ghost use Rattle.c_calls.specs.Links.{AreFew, indexes_in};
 ghost use Rattle.c_calls.specs.Queries.{FindsEdgesInCircle, FindsEdgesInRectangle};
 ghost use Rattle.c_calls.specs.Queries.{FindsVerticesInCircle, FindsVerticesInRectangle};
 ghost use Rattle.c_calls.specs.Queries.{MayAskCircle, MayAskRectangle, RefusesCircle};
 ghost use Rattle.c_calls.specs.Queries.{RefusesRectangle};
-ghost use Rattle.c_calls.specs.Shapes.{FindsEdgesIn, FindsVerticesIn, shape_circle};
-ghost use Rattle.c_calls.specs.Shapes.{shape_rectangle};
+ghost use Rattle.c_calls.specs.Shapes.{shape_circle, shape_rectangle};
 ghost use Rattle.c_calls.specs.Written.{Tells};
 
-use crate::kept::KeptPoints;
 use crate::queries::{is_in_range, point_of};
+use crate::query::Query;
 use crate::raw::{NumberedPoint, RawPoint, RawShape};
 use crate::statuses::{NEGATIVE, NO_SUCH_KIND, OUT_OF_MEMORY, TOO_LARGE};
 use crate::told::{put, status_by_room};
+use delaunay_interface::Triangulation;
 use delaunay_queries::{EdgesInShapeIterator, FloatTriangulation, VerticesInShapeIterator};
 use exact_predicates::ExactTests;
 use std::alloc::Global;
@@ -131,7 +131,7 @@ fn rectangle_refusal(rectangle: &RawRectangle) -> Option<u32>
 }
 
 // Writes the vertices in a circle.
-fn vertices_in_circle<T: FloatTriangulation<Vertex = NumberedPoint>>(
+fn vertices_in_circle<T: Triangulation<Vertex = NumberedPoint>>(
     points: &T,
     alloc: Global,
     circle: RawCircle,
@@ -153,7 +153,7 @@ fn vertices_in_circle<T: FloatTriangulation<Vertex = NumberedPoint>>(
 }
 
 // Writes the edges in a circle.
-fn edges_in_circle<T: FloatTriangulation<Vertex = NumberedPoint>>(
+fn edges_in_circle<T: Triangulation<Vertex = NumberedPoint>>(
     points: &T,
     alloc: Global,
     circle: RawCircle,
@@ -176,7 +176,7 @@ fn edges_in_circle<T: FloatTriangulation<Vertex = NumberedPoint>>(
 
 // Writes the vertices in a rectangle.
 #[tactic(auto, using(crate::proofs::Corners::corners_in_range))]
-fn vertices_in_rectangle<T: FloatTriangulation<Vertex = NumberedPoint>>(
+fn vertices_in_rectangle<T: Triangulation<Vertex = NumberedPoint>>(
     points: &T,
     alloc: Global,
     rectangle: RawRectangle,
@@ -199,7 +199,7 @@ fn vertices_in_rectangle<T: FloatTriangulation<Vertex = NumberedPoint>>(
 
 // Writes the edges in a rectangle.
 #[tactic(auto, using(crate::proofs::Corners::corners_in_range))]
-fn edges_in_rectangle<T: FloatTriangulation<Vertex = NumberedPoint>>(
+fn edges_in_rectangle<T: Triangulation<Vertex = NumberedPoint>>(
     points: &T,
     alloc: Global,
     rectangle: RawRectangle,
@@ -220,74 +220,68 @@ fn edges_in_rectangle<T: FloatTriangulation<Vertex = NumberedPoint>>(
     }
 }
 
-// Writes the vertices in a shape.
-fn vertices_in<T: FloatTriangulation<Vertex = NumberedPoint>>(
-    points: &T,
-    alloc: Global,
-    shape: &RawShape,
-    vertices: &mut [u32],
-    length: &mut usize,
-) -> u32
-    ensures { FindsVerticesIn (triangulation_of kept_place (T.state points.now)) shape.now result
-        length.old length.new vertices.old vertices.new }
-{
-    match shape.kind {
-        CIRCLE => vertices_in_circle(points, alloc, circle_of(shape), vertices, length),
-        RECTANGLE => vertices_in_rectangle(points, alloc, rectangle_of(shape), vertices, length),
-        _ => NO_SUCH_KIND,
-    }
+/// The vertices in a shape.
+#[derive(Drop)]
+pub struct FindVertices {
+    pub shape: RawShape,
 }
 
-// Writes the edges in a shape.
-fn edges_in<T: FloatTriangulation<Vertex = NumberedPoint>>(
-    points: &T,
-    alloc: Global,
-    shape: &RawShape,
-    edges: &mut [u32],
-    length: &mut usize,
-) -> u32
-    ensures { FindsEdgesIn (triangulation_of kept_place (T.state points.now))
-        (T.state points.now).mesh shape.now result length.old length.new edges.old edges.new }
-{
-    match shape.kind {
-        CIRCLE => edges_in_circle(points, alloc, circle_of(shape), edges, length),
-        RECTANGLE => edges_in_rectangle(points, alloc, rectangle_of(shape), edges, length),
-        _ => NO_SUCH_KIND,
-    }
-}
+impl Query for FindVertices {
+    ghost use Rattle.c_calls.specs.Shapes.{FindsVerticesIn};
 
-impl KeptPoints {
-    /// Writes the vertices in a shape, as far as there is room, and how many there are.
-    pub fn vertices_in(
+    type Item = u32;
+
+    type Told = usize;
+
+    ghost tells = { λ q v status was told old new. FindsVerticesIn v.drawing q.shape status was told
+        old new };
+
+    fn ask<T: Triangulation<Vertex = NumberedPoint>>(
         &self,
+        points: &T,
         alloc: Global,
-        shape: &RawShape,
         vertices: &mut [u32],
         length: &mut usize,
-    ) -> u32
-        ensures { FindsVerticesIn (kept_drawing self.now) shape.now result length.old length.new
-            vertices.old vertices.new }
-    {
-        match self {
-            KeptPoints::Plain(points) => vertices_in(points, alloc, shape, vertices, length),
-            KeptPoints::Constrained(points) => vertices_in(points, alloc, shape, vertices, length),
+    ) -> u32 {
+        let shape = &self.shape;
+        match shape.kind {
+            CIRCLE => vertices_in_circle(points, alloc, circle_of(shape), vertices, length),
+            RECTANGLE => {
+                vertices_in_rectangle(points, alloc, rectangle_of(shape), vertices, length)
+            }
+            _ => NO_SUCH_KIND,
         }
     }
+}
 
-    /// Writes the edges with a point in a shape, as far as there is room, and how many there are.
-    pub fn edges_in(
+/// The edges with a point in a shape.
+#[derive(Drop)]
+pub struct FindEdges {
+    pub shape: RawShape,
+}
+
+impl Query for FindEdges {
+    ghost use Rattle.c_calls.specs.Shapes.{FindsEdgesIn};
+
+    type Item = u32;
+
+    type Told = usize;
+
+    ghost tells = { λ q v status was told old new. FindsEdgesIn v.drawing v.links q.shape status was
+        told old new };
+
+    fn ask<T: Triangulation<Vertex = NumberedPoint>>(
         &self,
+        points: &T,
         alloc: Global,
-        shape: &RawShape,
         edges: &mut [u32],
         length: &mut usize,
-    ) -> u32
-        ensures { FindsEdgesIn (kept_drawing self.now) (kept_links self.now) shape.now result
-            length.old length.new edges.old edges.new }
-    {
-        match self {
-            KeptPoints::Plain(points) => edges_in(points, alloc, shape, edges, length),
-            KeptPoints::Constrained(points) => edges_in(points, alloc, shape, edges, length),
+    ) -> u32 {
+        let shape = &self.shape;
+        match shape.kind {
+            CIRCLE => edges_in_circle(points, alloc, circle_of(shape), edges, length),
+            RECTANGLE => edges_in_rectangle(points, alloc, rectangle_of(shape), edges, length),
+            _ => NO_SUCH_KIND,
         }
     }
 }

@@ -8,7 +8,9 @@ ghost use Rattle.c_calls.specs.Words.{TellsWords};
 ghost use Rattle.c_triangulate.specs.Whole.{Triangulates};
 
 use c_calls::{
-    Handle, RawCounts, RawEdge, RawFace, RawMeeting, RawPlace, RawPoint, RawSegment, RawShape,
+    FindEdges, FindVertices, Handle, ListConflicts, ListEdges, ListFaces, ListLayers, ListNumbers,
+    ListPositions, Locate, LookAlong, RawCounts, RawEdge, RawFace, RawMeeting, RawPlace, RawPoint,
+    RawSegment, RawShape, WalkLine,
 };
 use std::alloc::Global;
 
@@ -69,7 +71,7 @@ pub extern "C" fn tevasulim_positions(
     ensures positions { TellsPositions handle.old.kept result length.old length.new positions.old
         positions.new }
 {
-    handle.positions(alloc, positions, length)
+    handle.ask(alloc, &ListPositions, positions, length)
 }
 
 #[unsafe(no_mangle)]
@@ -83,7 +85,7 @@ pub extern "C" fn tevasulim_numbers(
     ensures numbers { TellsNumbers handle.old.kept result length.old length.new numbers.old
         numbers.new }
 {
-    handle.numbers(alloc, numbers, length)
+    handle.ask(alloc, &ListNumbers, numbers, length)
 }
 
 #[unsafe(no_mangle)]
@@ -96,7 +98,7 @@ pub extern "C" fn tevasulim_edges(
     ensures kept { handle.new.kept ≡ handle.old.kept }
     ensures edges { TellsEdges handle.old.kept result length.old length.new edges.old edges.new }
 {
-    handle.edges(alloc, edges, length)
+    handle.ask(alloc, &ListEdges, edges, length)
 }
 
 #[unsafe(no_mangle)]
@@ -109,7 +111,7 @@ pub extern "C" fn tevasulim_faces(
     ensures kept { handle.new.kept ≡ handle.old.kept }
     ensures faces { TellsFaces handle.old.kept result length.old length.new faces.old faces.new }
 {
-    handle.faces(alloc, faces, length)
+    handle.ask(alloc, &ListFaces, faces, length)
 }
 
 #[unsafe(no_mangle)]
@@ -122,7 +124,7 @@ pub extern "C" fn tevasulim_face_layers(
     ensures kept { handle.new.kept ≡ handle.old.kept }
     ensures layers { TellsLayers handle.old.kept result length.old length.new layers.old layers.new }
 {
-    handle.face_layers(alloc, layers, length)
+    handle.ask(alloc, &ListLayers, layers, length)
 }
 
 #[unsafe(no_mangle)]
@@ -135,7 +137,7 @@ pub extern "C" fn tevasulim_locate(
     ensures kept { handle.new.kept ≡ handle.old.kept }
     ensures places { TellsPlaces handle.old.kept queries.now result places.old places.new }
 {
-    handle.locate(alloc, queries, places)
+    handle.ask(alloc, &Locate { queries }, places, &mut ())
 }
 
 #[unsafe(no_mangle)]
@@ -164,7 +166,11 @@ pub extern "C" fn tevasulim_line(
     ensures meetings { TellsLine handle.old.kept from.now to.now result length.old length.new
         meetings.old meetings.new }
 {
-    handle.line(alloc, from, to, meetings, length)
+    let line = WalkLine {
+        from: *from,
+        to: *to,
+    };
+    handle.ask(alloc, &line, meetings, length)
 }
 
 #[unsafe(no_mangle)]
@@ -180,7 +186,11 @@ pub extern "C" fn tevasulim_conflicts(
     ensures conflicts { TellsCrossed handle.old.kept from.now to.now result length.old length.new
         conflicts.old conflicts.new }
 {
-    handle.conflicts(alloc, from, to, conflicts, length)
+    let line = ListConflicts {
+        from: *from,
+        to: *to,
+    };
+    handle.ask(alloc, &line, conflicts, length)
 }
 
 #[unsafe(no_mangle)]
@@ -195,7 +205,12 @@ pub extern "C" fn tevasulim_in_sight(
     ensures kept { handle.new.kept ≡ handle.old.kept }
     ensures seen { TellsInSight handle.old.kept from.now to.now bytes.now result seen.new }
 {
-    handle.in_sight(alloc, from, to, bytes, seen)
+    let line = LookAlong {
+        from: *from,
+        to: *to,
+        bytes,
+    };
+    handle.ask(alloc, &line, &mut [], seen)
 }
 
 #[unsafe(no_mangle)]
@@ -210,7 +225,7 @@ pub extern "C" fn tevasulim_vertices_in(
     ensures vertices { TellsVerticesIn handle.old.kept shape.now result length.old length.new
         vertices.old vertices.new }
 {
-    handle.vertices_in(alloc, shape, vertices, length)
+    handle.ask(alloc, &FindVertices { shape: *shape }, vertices, length)
 }
 
 #[unsafe(no_mangle)]
@@ -225,7 +240,7 @@ pub extern "C" fn tevasulim_edges_in(
     ensures edges { TellsEdgesIn handle.old.kept shape.now result length.old length.new edges.old
         edges.new }
 {
-    handle.edges_in(alloc, shape, edges, length)
+    handle.ask(alloc, &FindEdges { shape: *shape }, edges, length)
 }
 
 #[unsafe(no_mangle)]

@@ -1,9 +1,0 @@
-use Rattle.std.proofs.Common.{map}
-use Rattle.c_calls.specs.Queries.{IsElementAt, number_of}
-use Rattle.c_calls.specs.Written.{Answered}
-use Rattle.c_calls.proofs.lists.write_numbers.Given as goal
-
-abbrev pub invariant-loop-index : goal.invariant-loop-index
-invariant-loop-index g l =
-    let vertices = (g.T.Triangulation.state l.points).vertices in
-    Answered (IsElementAt (map number_of vertices)) l.index l.fn.numbers l.numbers

@@ -1,0 +1,9 @@
+use Rattle.c_calls.specs.Kept.{kept_place}
+use Rattle.c_calls.specs.Queries.{IsPlaceIn}
+use Rattle.c_calls.specs.Written.{Answered, IsAnswerAt}
+use Rattle.c_calls.proofs.queries.LocateQuery.ask.Given as goal
+
+abbrev pub invariant-loop-index : goal.invariant-loop-index
+invariant-loop-index g l = Answered
+    (IsAnswerAt l.queries (IsPlaceIn kept_place (g.T.Triangulation.state l.points))) l.index
+    l.fn.places l.places
