@@ -12,3 +12,4 @@ pub mod Sight
 pub mod Conflicts
 pub mod Shapes
 pub mod Calls
+pub mod Beyond

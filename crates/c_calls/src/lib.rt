@@ -2,6 +2,7 @@
 //! `c_triangulate` makes, has its contract here, and `tevasulim_c` hands them to C.
 #![tactic(auto)]
 
+mod beyond;
 mod calls;
 mod conflicts;
 mod copies;
@@ -25,5 +26,7 @@ mod words;
 pub use handle::Handle;
 pub use lists::write_faces;
 pub use queries::is_in_range;
-pub use raw::{RawCounts, RawEdge, RawFace, RawMeeting, RawPlace, RawPoint, RawSegment, RawShape};
+pub use raw::{
+    RawBox, RawCounts, RawEdge, RawFace, RawMeeting, RawPlace, RawPoint, RawSegment, RawShape,
+};
 pub use words::{ended_words_of, write_words};
