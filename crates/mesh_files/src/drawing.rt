@@ -1,9 +1,10 @@
 //! What a file says.
 ghost use Rattle.std.specs.Prelude.{◌≡◌, ◌<◌, ◌++◌, ◌∷◌, [], length, All, IfOk, OnOk};
+ghost use Rattle.decimal_numbers.specs.Value.{SpellsTooLong};
 ghost use Rattle.mesh_files.specs.Written.{HasEnds, IsAsWritten};
 
 use crate::fault::{FileFault, FilePlace, Reason};
-use decimal_numbers::{Decimal, DecimalError};
+use decimal_numbers::{Decimal, DecimalError, LongDecimal};
 use std::alloc::{AllocError, Global};
 
 /// A number, and where it stands, as it came, in the text of its drawing.
@@ -85,10 +86,15 @@ pub struct Ring {
     pub is_hole: bool,
 }
 
-/// The texts of numbers, one behind the other.
+/// The texts of numbers, one behind the other, and how exact those are that have more digits than
+/// fit.
 #[derive(Drop)]
 pub(crate) struct NumberTexts {
     bytes: Vec<u8>,
+    /// To how many digits behind the point each coordinate can be rounded.
+    pub(crate) finest: u32,
+    /// How many heights have more digits than fit.
+    pub(crate) cut_heights: u64,
 }
 
 impl NumberTexts {
@@ -108,6 +114,15 @@ impl NumberTexts {
             start: start as u32,
             end: end as u32,
         })
+    }
+
+    /// Notes a number with more digits than fit, of which these are kept; `name` is what it is.
+    fn note_cut(&mut self, decimal: Decimal, name: &'static str) {
+        if name == "x" || name == "y" {
+            self.finest = self.finest.min(decimal.digits.saturating_sub(1));
+        } else {
+            self.cut_heights = self.cut_heights.saturating_add(1);
+        }
     }
 
     /// The number rounded to so many digits behind the point, and whether that changed it.
@@ -158,9 +173,37 @@ impl Drawing {
             rings: Vec::new(alloc),
             texts: NumberTexts {
                 bytes: Vec::new(alloc),
+                finest: u32::MAX,
+                cut_heights: 0,
             },
             left_out: String::new(alloc),
         }
+    }
+
+    /// Takes a number in that does not fit with all its digits; `name` is what it is.
+    fn long_number(
+        &mut self,
+        word: &[u8],
+        name: &'static str,
+        at: FilePlace,
+    ) -> Result<Number, FileFault>
+        requires { SpellsTooLong word.now }
+        ensures written { IfOk result (λ n. IsAsWritten word.now n.decimal) }
+        ensures same { OnOk result (SameNumbers self.old self.new) }
+    {
+        let Ok(long) = Decimal::parse_long(word) else {
+            return Err(FileFault::in_place(at, Reason::TooLong(name)));
+        };
+        let LongDecimal { decimal, is_exact } = long;
+        if is_exact {
+            return self.texts.keep(decimal.shortened(), word, at);
+        }
+        if decimal.digits == 0 {
+            return Err(FileFault::in_place(at, Reason::TooLong(name)));
+        }
+        let number = self.texts.keep(decimal, word, at)?;
+        self.texts.note_cut(decimal, name);
+        Ok(number)
     }
 
     /// Takes a number in; `name` is what it is.
@@ -176,7 +219,7 @@ impl Drawing {
         let reason = match Decimal::parse(word) {
             Ok(decimal) => return self.texts.keep(decimal.shortened(), word, at),
             Err(DecimalError::Malformed) => Reason::NotNumber(name),
-            Err(DecimalError::TooLong) => Reason::TooLong(name),
+            Err(DecimalError::TooLong) => return self.long_number(word, name, at),
         };
         Err(FileFault::in_place(at, reason))
     }
