@@ -125,20 +125,45 @@ impl NumberTexts {
         }
     }
 
-    /// The number rounded to so many digits behind the point, and whether that changed it.
+    /// The number rounded to so many digits behind the point.
     pub(crate) fn rounded(
         &mut self,
         number: Number,
         digits: u32,
         at: FilePlace,
-    ) -> Result<(Number, bool), FileFault> {
+    ) -> Result<Number, FileFault> {
         if number.decimal.digits <= digits {
-            return Ok((number, false));
+            return Ok(number);
         }
         let decimal = number.decimal.rounded_to(digits).shortened();
         let mut word = String::new(*self.bytes.allocator());
         write!(word, "{decimal}")?;
-        Ok((self.keep(decimal, word.as_bytes(), at)?, true))
+        self.put_over(number, decimal, word.as_bytes(), at)
+    }
+
+    /// Puts the text of a number into the place of another, or behind all where it is longer.
+    fn put_over(
+        &mut self,
+        old: Number,
+        decimal: Decimal,
+        word: &[u8],
+        at: FilePlace,
+    ) -> Result<Number, FileFault> {
+        let start = old.start as usize;
+        let end = start.saturating_add(word.len());
+        if end > old.end as usize {
+            return self.keep(decimal, word, at);
+        }
+        for (i, byte) in (start..end).zip(word) {
+            if let Some(place) = self.bytes.get_mut(i) {
+                *place = *byte;
+            }
+        }
+        Ok(Number {
+            decimal,
+            start: old.start,
+            end: end as u32,
+        })
     }
 }
 
@@ -153,6 +178,8 @@ pub struct Drawing {
     pub(crate) rings: Vec<Ring>,
     pub(crate) texts: NumberTexts,
     left_out: String,
+    open_rings: u32,
+    first_open: FilePlace,
     pub ghost ends_are_points: { All (HasEnds (length spots.items)) segments.items },
     pub ghost heights_are_of_points: { 0 < length heights.items
         → length heights.items ≡ length spots.items },
@@ -177,6 +204,8 @@ impl Drawing {
                 cut_heights: 0,
             },
             left_out: String::new(alloc),
+            open_rings: 0,
+            first_open: FilePlace::of_line(0),
         }
     }
 
@@ -284,6 +313,26 @@ impl Drawing {
         self.left_out.push_str(name)
     }
 
+    /// Notes a ring that does not end where it began, and is closed.
+    pub(crate) fn note_open_ring(&mut self, at: FilePlace)
+        ensures { SameNumbers self.old self.new }
+    {
+        if self.open_rings == 0 {
+            self.first_open = at;
+        }
+        self.open_rings = self.open_rings.saturating_add(1);
+    }
+
+    /// How many rings were closed that do not end where they began, and the fault that the first of
+    /// them is, if there are any.
+    pub fn open_rings(&self) -> Option<(u32, FileFault)> {
+        if self.open_rings == 0 {
+            return None;
+        }
+        let fault = FileFault::in_place(self.first_open, Reason::OpenRing);
+        Some((self.open_rings, fault))
+    }
+
     /// What of the file is left out, by names with commas between them, if anything is.
     pub fn left_out(&self) -> Option<&str> {
         if self.left_out.is_empty() {
@@ -291,6 +340,11 @@ impl Drawing {
         } else {
             Some(self.left_out.as_str())
         }
+    }
+
+    /// How many heights have more digits than fit.
+    pub fn cut_heights(&self) -> u64 {
+        self.texts.cut_heights
     }
 
     /// A number as it came, or as it was rounded.
