@@ -1,4 +1,6 @@
+pub mod Numbers
 pub mod PointRows
+pub mod Numbers
 pub mod PositionRuns
 pub mod Skips
 pub mod TableRows
