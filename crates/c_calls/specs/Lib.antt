@@ -13,3 +13,4 @@ pub mod Conflicts
 pub mod Shapes
 pub mod Calls
 pub mod View
+pub mod Metrics

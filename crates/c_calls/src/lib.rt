@@ -31,6 +31,6 @@ pub use lists::{ListEdges, ListFaces, ListNumbers, ListPositions, write_faces};
 pub use queries::{Locate, is_in_range};
 pub use query::Query;
 pub use raw::{RawCounts, RawEdge, RawFace, RawMeeting, RawPlace, RawPoint, RawSegment, RawShape};
-pub use shapes::{FindEdges, FindVertices};
+pub use shapes::{Edges, InShape, Part, Vertices};
 pub use sight::LookAlong;
 pub use words::{ended_words_of, write_words};
