@@ -1,0 +1,17 @@
+pub mod Keeps
+pub mod Kept
+pub mod Answers
+pub mod Edits
+pub mod Written
+pub mod Queries
+pub mod Links
+pub mod Lists
+pub mod Words
+pub mod Layers
+pub mod Sight
+pub mod Conflicts
+pub mod Shapes
+pub mod Calls
+pub mod View
+pub mod Metrics
+pub mod Beyond

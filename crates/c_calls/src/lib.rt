@@ -35,6 +35,6 @@ pub use query::Query;
 pub use raw::{
     RawBox, RawCounts, RawEdge, RawFace, RawMeeting, RawPlace, RawPoint, RawSegment, RawShape,
 };
-pub use shapes::{FindEdges, FindVertices};
+pub use shapes::{Edges, InShape, Part, Vertices};
 pub use sight::LookAlong;
 pub use words::{ended_words_of, write_words};

@@ -8,9 +8,9 @@ ghost use Rattle.c_calls.specs.Words.{TellsWords};
 ghost use Rattle.c_triangulate.specs.Whole.{Triangulates};
 
 use c_calls::{
-    FindEdges, FindVertices, Handle, ListBeyond, ListConflicts, ListEdges, ListFaces, ListLayers,
+    Edges, Handle, InShape, ListBeyond, ListConflicts, ListEdges, ListFaces, ListLayers,
     ListNumbers, ListPositions, Locate, LookAlong, RawBox, RawCounts, RawEdge, RawFace, RawMeeting,
-    RawPlace, RawPoint, RawSegment, RawShape, WalkLine,
+    RawPlace, RawPoint, RawSegment, RawShape, Vertices, WalkLine,
 };
 use std::alloc::Global;
 
@@ -240,7 +240,11 @@ pub extern "C" fn tevasulim_vertices_in(
     ensures vertices { TellsVerticesIn handle.old.kept shape.now result length.old length.new
         vertices.old vertices.new }
 {
-    handle.ask(alloc, &FindVertices { shape: *shape }, vertices, length)
+    let query = InShape {
+        part: Vertices,
+        shape: *shape,
+    };
+    handle.ask(alloc, &query, vertices, length)
 }
 
 #[unsafe(no_mangle)]
@@ -255,7 +259,11 @@ pub extern "C" fn tevasulim_edges_in(
     ensures edges { TellsEdgesIn handle.old.kept shape.now result length.old length.new edges.old
         edges.new }
 {
-    handle.ask(alloc, &FindEdges { shape: *shape }, edges, length)
+    let query = InShape {
+        part: Edges,
+        shape: *shape,
+    };
+    handle.ask(alloc, &query, edges, length)
 }
 
 #[unsafe(no_mangle)]
