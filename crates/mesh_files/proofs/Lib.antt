@@ -1,6 +1,5 @@
 pub mod Numbers
 pub mod PointRows
-pub mod Numbers
 pub mod PositionRuns
 pub mod Skips
 pub mod TableRows
