@@ -1,12 +1,12 @@
 """A triangulation behind a handle beside lists of points and constraints: each edit is made of
 both, and what the call gives is compared."""
 from copy import deepcopy
-from ctypes import c_int32, c_uint32, c_uint64
+from ctypes import c_int32, c_uint8, c_uint32, c_uint64
 
-from c_calls import NONE, Kept, expect, words_of
+from c_calls import NONE, Kept, expect, points_of, words_of
 from c_queries import Queries, pair
 from floor import layers_of
-from geometry import are_on_line
+from geometry import NOWHERE, are_on_line, passes
 from plain_state import MANY, pairs_of, tiling_fault
 from session import Tagged, in_range
 
@@ -152,7 +152,25 @@ class Beside:
         expect(self.kept.counts(), ("OK", counts), "count")
         layers = [layer for (layer,) in self.rows("face_layers", 1)]
         expect(layers, layers_of(faces, NONE), "the layers of faces")
+        self.look_at_disks([it[:3] for it in faces])
         return Queries(self.kept, self.state, self.is_constrained, edges, faces)
+
+    def look_at_disks(self, corners):
+        """Which disks of faces pass the sides of some boxes: round a third of the vertices, with
+        one side alone, turned over, and with no side."""
+        points = self.state.points
+        some = points[::3] or [(0, 0)]
+        (left, right), (bottom, top) = ((min(it), max(it)) for it in zip(*some))
+        boxes = [(left, bottom, right, top), (-NOWHERE, -NOWHERE, right, NOWHERE - 1)]
+        boxes += [(right, bottom, left - 1, top), (left - 1, bottom - 9, right + 9, top + 1)]
+        boxes += [(-NOWHERE, -NOWHERE, NOWHERE - 1, NOWHERE - 1)]
+        for box in boxes:
+            words = (points_of([box[:2], box[2:]])[0],)
+            room = 6 * len(points) + 9
+            status, rows, count = self.kept.all("faces_beyond", 1, *words, room=room, kind=c_uint8)
+            expect((status, count), ("OK", len(rows)), "faces_beyond")
+            wanted = [int(passes(*(points[i] for i in it), box)) for it in corners]
+            expect([flag for (flag,) in rows], wanted, f"the disks of {points} beyond {box}")
 
     def look_at_edges(self, listed, corners):
         """Of many points, faces are compared with their neighbours alone."""

@@ -60,6 +60,7 @@ CALLS = {
     "edges": (KEPT, *WORDS, SIZE),
     "faces": (KEPT, *WORDS, SIZE),
     "face_layers": (KEPT, *WORDS, SIZE),
+    "faces_beyond": (KEPT, POINTER(c_int32), *BYTES, SIZE),
     "locate": (KEPT, *POINTS, *WORDS),
     "nearest": (KEPT, *POINTS, *WORDS),
     "line": (KEPT, *SEGMENT, *WORDS, SIZE),

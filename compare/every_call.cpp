@@ -62,6 +62,11 @@ static void list_with_statuses(const Handle &site, const std::vector<std::uint32
     EXPECT(site.faces(faces) == TEVASULIM_OK && faces.size() == 10);
     EXPECT(site.face_layers(layers) == TEVASULIM_OK && layers.size() == 10);
     EXPECT(std::count(layers.begin(), layers.end(), 1u) == 2);
+    std::vector<std::uint8_t> flags;
+    EXPECT(site.faces_beyond({-99, -99, 99, 99}, flags) == TEVASULIM_OK && flags.size() == 10);
+    EXPECT(std::count(flags.begin(), flags.end(), 0) == 10);
+    EXPECT(site.faces_beyond({9, INT32_MIN, 8, INT32_MAX}, flags) == TEVASULIM_OK);
+    EXPECT(std::count(flags.begin(), flags.end(), 1) == 10);
 }
 
 static void ask_with_statuses(Handle &site) {
@@ -138,6 +143,8 @@ static void call_with_exceptions() {
     EXPECT(site.edges().size() == 17 && site.faces().size() == 10);
     const auto layers = site.face_layers();
     EXPECT(std::count(layers.begin(), layers.end(), 1u) == 2);
+    const auto flags = site.faces_beyond({INT32_MIN, INT32_MIN, INT32_MAX, INT32_MAX});
+    EXPECT(flags == std::vector<std::uint8_t>(10, 0));
     EXPECT(site.locate({{1, 5}})[0].kind == TEVASULIM_IN_FACE);
     EXPECT(site.line({0, 5}, {9, 5}).size() >= 4);
     EXPECT(site.conflicts({0, 5}, {9, 5}).size() == 2);

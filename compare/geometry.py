@@ -104,6 +104,28 @@ def faces_of(points, edges):
                 yield face
 
 
+# A left or bottom side of a box below 0 by so much is nowhere, and so is a right or top one of one
+# less.
+NOWHERE = 2**31
+
+
+def passes(a, b, c, box):
+    """Whether the closed disk of three points' circle has a point beyond a side of a box: its left,
+    bottom, right and top."""
+    (ux, uy), (vx, vy) = ((p[0] - a[0], p[1] - a[1]) for p in (b, c))
+    twice = 2 * (ux * vy - uy * vx)
+    u, v = ux * ux + uy * uy, vx * vx + vy * vy
+    way = (Fraction(vy * u - uy * v, twice), Fraction(ux * v - vx * u, twice))
+    radius_2 = way[0] ** 2 + way[1] ** 2
+    for k, side_at in enumerate(box):
+        if side_at == (-NOWHERE if k < 2 else NOWHERE - 1):
+            continue
+        inwards = (a[k % 2] + way[k % 2] - side_at) * (1 if k < 2 else -1)
+        if inwards < 0 or inwards**2 < radius_2:
+            return True
+    return False
+
+
 def meets_circle(a, b, center, radius_2):
     """Whether a segment has a point in a circle or on it."""
     way = (b[0] - a[0], b[1] - a[1])

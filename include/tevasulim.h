@@ -142,6 +142,12 @@ typedef struct {
     int64_t radius_2;
 } tevasulim_shape;
 
+/* The sides of a box: the x of two and the y of two. INT32_MIN as the left or the bottom one, and
+ * INT32_MAX as the right or the top one, says that there is no such side. */
+typedef struct {
+    int32_t left, bottom, right, top;
+} tevasulim_box;
+
 /* How many elements a triangulation has. */
 typedef struct {
     uint64_t vertices, edges, faces, constraints;
@@ -293,6 +299,13 @@ tevasulim_status tevasulim_faces(tevasulim_triangulation *self, tevasulim_face *
  * 1, and so on. TEVASULIM_TOO_SHORT. TEVASULIM_OUT_OF_MEMORY. */
 tevasulim_status tevasulim_face_layers(tevasulim_triangulation *self, uint32_t *layers, size_t room,
                                        size_t *length);
+
+/* Writes a flag for each face, by index: 0 where the closed disk of its circle stays within the
+ * sides of a box, points of the sides among them, and 1 where it passes one. This is found exactly,
+ * in whole numbers. Where left > right or bottom > top, no disk stays within.
+ * TEVASULIM_TOO_SHORT. */
+tevasulim_status tevasulim_faces_beyond(tevasulim_triangulation *self, const tevasulim_box *within,
+                                        uint8_t *flags, size_t room, size_t *length);
 
 /* ---- Queries ---- */
 

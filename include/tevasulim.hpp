@@ -39,6 +39,7 @@ using Face = tevasulim_face;
 using Edge = tevasulim_edge;
 using Place = tevasulim_place;
 using Meeting = tevasulim_meeting;
+using Box = tevasulim_box;
 using Counts = tevasulim_counts;
 using Shape = tevasulim_shape;
 using Status = tevasulim_status;
@@ -225,6 +226,12 @@ public:
         });
     }
 
+    Status faces_beyond(Box within, std::vector<std::uint8_t> &flags) const {
+        return detail::fill(flags, counted().faces, [&](auto... room) {
+            return tevasulim_faces_beyond(&handle_, &within, room...);
+        });
+    }
+
     // Queries.
 
     Status locate(Span<Point> points, std::vector<Place> &places) const {
@@ -394,6 +401,11 @@ public:
 
     std::vector<std::uint32_t> face_layers() const {
         return found<std::uint32_t>([this](auto &layers) { return handle_.face_layers(layers); });
+    }
+
+    std::vector<std::uint8_t> faces_beyond(Box within) const {
+        return found<std::uint8_t>(
+            [&](auto &flags) { return handle_.faces_beyond(within, flags); });
     }
 
     // Queries.

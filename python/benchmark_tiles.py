@@ -58,6 +58,11 @@ def parts_in(folder, kind, count):
     return names
 
 
+def is_ready():
+    """Whether this process has imported what tiles need, as `one_process` has before its clock."""
+    return bool(TileReport)
+
+
 def one_process(names, folder):
     """The clock and processor seconds of one triangulation, from the files to a file of faces."""
     clock, processor = time.monotonic(), time.process_time()
@@ -73,6 +78,7 @@ def with_workers(names, size, workers, folder):
     local = {"host": "127.0.0.1", "dashboard_address": "127.0.0.1:0", "local_directory": folder}
     local.update({"n_workers": workers, "threads_per_worker": 1, "silence_logs": 50})
     with LocalCluster(**local) as cluster, Client(cluster) as client:
+        assert all(client.run(is_ready).values())
         before = sum(client.run(time.process_time).values()) + time.process_time()
         begin = time.monotonic()
         tiles = triangulate_tiles(names, size, client, folder)

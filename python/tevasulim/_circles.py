@@ -173,7 +173,7 @@ def joined(faces_of: Faces) -> Joined:
     """The faces whose circle is that of the face beyond a side that is no constraint, by the corner
     opposite that side."""
     x, y = np.ascontiguousarray(faces_of.points.T)
-    centers = centers_of(x, y, faces_of.corners)
+    centers, sums = centers_of(x, y, faces_of.corners), faces_of.corners.sum(0, dtype=np.intp)
     found: List[List[Any]] = [[np.empty(0, np.intp)] for _ in range(3)]
     for begin in range(0, faces_of.corners.shape[1], TOGETHER):
         for k in range(3):
@@ -182,7 +182,7 @@ def joined(faces_of: Faces) -> Joined:
                 continue
             own = [faces_of.corners[it].take(faces).astype(np.intp) for it in turned(k)]
             # The corner of the other face that is none of this one.
-            far = sum(it.take(others).astype(np.intp) for it in faces_of.corners) - own[1] - own[2]
+            far = sums.take(others) - own[1] - own[2]
             far_x, far_y = x.take(far), y.take(far)
             ways = [way for it in own for way in (x.take(it) - far_x, y.take(it) - far_y)]
             is_on = are_on_circle(ways)
@@ -220,9 +220,10 @@ def spread_over(
     join: Callable[[Any, Any], Any],
     neighbors: NDArray[Any],
     joins: Joined,
+    are_pairs: bool = False,
 ) -> NDArray[Any]:
     """For each face what a function, as the least of two, makes of its value and those of all faces
-    that it is joined with, over others too."""
+    that it is joined with, over others too. It is told where no face is joined with two."""
     found = values.copy()
     others = [across.take(it).astype(np.intp) for across, it in zip(neighbors, joins)]
     while any(map(len, joins)):
@@ -231,7 +232,7 @@ def spread_over(
         for faces, beyond in zip(joins, others):
             found[faces] = join(found.take(faces), found.take(beyond))
         # A face with this value knows one that has it.
-        if np.array_equal(found, before):
+        if are_pairs or np.array_equal(found, before):
             break
     return found
 
@@ -268,6 +269,15 @@ def from_least(corners: NDArray[Any], keys: NDArray[Any]) -> List[NDArray[Any]]:
     return [flat.take(way.take(turns) + columns).astype(np.intp) for way in ways]
 
 
+def least_of(corners: NDArray[Any], keys: NDArray[Any]) -> NDArray[Any]:
+    """The corner of each face that has the least key."""
+    a, b, c = corners.astype(np.intp)
+    of_a, of_b, of_c = keys.take(a), keys.take(b), keys.take(c)
+    first = np.where(of_b < of_a, b, a)
+    given: NDArray[Any] = np.where(of_c < np.minimum(of_a, of_b), c, first)
+    return given
+
+
 def polygons(
     faces_of: Faces, keys: NDArray[Any], joins: Joined, is_joined: NDArray[Any], wanted: Wanted
 ) -> NDArray[Any]:
@@ -275,9 +285,10 @@ def polygons(
     _, corners, neighbors, _ = faces_of
     some = np.flatnonzero(is_joined[0] | is_joined[1] | is_joined[2])
     first = np.zeros(corners.shape[1], np.intp)
-    first[some] = from_least(corners.take(some, axis=1), keys)[0]
+    first[some] = least_of(corners.take(some, axis=1), keys)
     lesser = lambda a, b: a + (b - a) * (keys.take(b) < keys.take(a))  # noqa: E731
-    first = spread_over(first, lesser, neighbors, joins)
+    are_pairs = bool(is_joined.sum(0, dtype=np.int8).max() < 2)
+    first = spread_over(first, lesser, neighbors, joins, are_pairs)
     some = some.compress(wanted.is_least.take(first.take(some)))
     apex, rows = first.take(some), []
     of_all = [it.take(some).astype(np.intp) for it in corners]

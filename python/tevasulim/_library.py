@@ -41,6 +41,12 @@ class Counts(ctypes.Structure):
     _fields_ = [(name, c_uint64) for name in ("vertices", "edges", "faces", "constraints")]
 
 
+class Box(ctypes.Structure):
+    """The sides of a box. One at an end of these numbers is nowhere."""
+
+    _fields_ = [(name, c_int32) for name in ("left", "bottom", "right", "top")]
+
+
 POINT = c_int32 * 2
 NUMBER = c_uint64
 
@@ -78,6 +84,7 @@ CALLS = {
     "edges": (MESH, *FOUND),
     "faces": (MESH, *FOUND),
     "face_layers": (MESH, *FOUND),
+    "faces_beyond": (MESH, POINTER(Box), *FOUND),
     "locate": (MESH, *LIST, *LIST),
     "nearest": (MESH, *LIST, *LIST),
     "line": (MESH, POINTER(POINT), POINTER(POINT), *FOUND),

@@ -7,7 +7,6 @@ from typing import Any, Tuple
 import numpy as np
 
 from . import _library as library
-from ._order import near_rounds
 from ._types import NDArray
 from .errors import CrossingError
 
@@ -33,13 +32,11 @@ class Mesh:
         """Inserts further points, an array of shape (n, 2), none of which is there, soonest where
         near ones stand beside each other. Gives their rows in the order of their vertices, which
         come after all that were there."""
-        rows = np.empty(len(points), np.int32)
-        for part in near_rounds(len(points)):
-            some = points[part].astype(np.int32)
-            vertices = np.empty(len(some), np.uint32)
-            words = *library.rows(some), vertices.ctypes.data, len(vertices)
-            library.call("insert_all", byref(self._handle), *words)
-            rows[vertices - np.uint32(self._count)] = part
+        some, vertices = points.astype(np.int32, order="C"), np.empty(len(points), np.uint32)
+        words = *library.rows(some), vertices.ctypes.data, len(vertices)
+        library.call("insert_all", byref(self._handle), *words)
+        rows = np.empty(len(points), np.intp)
+        rows[vertices - np.uint32(self._count)] = np.arange(len(points))
         self._count += len(points)
         return rows
 
@@ -75,3 +72,12 @@ class Mesh:
         if not self._is_plain:
             np.not_equal(found[:, 6:].T, 0, out=is_constraint)
         return columns[:3], columns[3:], is_constraint
+
+    def faces_beyond(self, count: int, sides: NDArray[Any]) -> NDArray[Any]:
+        """Which of so many faces have a closed disk that passes a side of a box, given as x and y
+        from, x and y to. A side at `FAR` is nowhere."""
+        flags, length = np.empty(count, np.uint8), c_size_t()
+        box = library.Box(*sides.tolist())
+        words = byref(box), flags.ctypes.data, len(flags), byref(length)
+        library.call("faces_beyond", byref(self._handle), *words)
+        return flags.view(bool)

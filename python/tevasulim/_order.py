@@ -22,11 +22,13 @@ MASKS = (
 )
 
 
-def spread(numbers: NDArray[Any]) -> NDArray[Any]:
-    """Numbers below 2**32 with a 0 between each two of their bits."""
-    bits = numbers.astype(np.uint64)
+def spread(numbers: NDArray[Any], of_type: Any = np.uint64, width: int = 32) -> NDArray[Any]:
+    """Numbers of so many bits with a 0 between each two of these."""
+    bits = numbers.astype(of_type)
     for shift, mask in MASKS:
-        bits = (bits | (bits << np.uint64(shift))) & np.uint64(mask)
+        if shift < width:
+            few = of_type(mask & (2 ** (2 * width) - 1))
+            bits = (bits | (bits << of_type(shift))) & few
     return bits
 
 
@@ -49,6 +51,29 @@ def near_order(points: NDArray[Any]) -> NDArray[Any]:
     return np.argsort(near_keys(points), kind="stable")
 
 
+def near_order_of_all(points: NDArray[Any]) -> NDArray[Any]:
+    """The same of points as `int32`, soonest where they are many. Equal points stand beside each
+    other, in the order of their rows."""
+    if not len(points):
+        return np.arange(0)
+    low = points.min(0).astype(np.int64)
+    wide = int((points.max(0) - low).max())
+    # A curve through cells of 16 bits each way: numbers of 16 bits are sorted soonest.
+    cells = spread((points - low) >> max(wide.bit_length() - 16, 0), np.uint32, 16)
+    keys = cells[:, 0] | cells[:, 1] << np.uint32(1)
+    order = np.argsort(keys.astype(np.uint16), kind="stable")
+    high = (keys >> np.uint32(16)).astype(np.uint16).take(order)
+    order = order.take(np.argsort(high, kind="stable"))
+    keys = keys.take(order)
+    is_same = keys[1:] == keys[:-1]
+    is_shared = np.append(is_same, False)
+    is_shared[1:] |= is_same
+    shared = np.flatnonzero(is_shared)
+    rows = order.take(shared)
+    order[shared] = rows.take(np.lexsort((near_keys(points.take(rows, axis=0)), keys.take(shared))))
+    return order
+
+
 def rounds(points: NDArray[Any]) -> List[NDArray[Any]]:
     """Rows of points of shape (n, 2) in rounds of more and more, each picked blindly, but always
     the same, from all over the plane. The library inserts each along a curve: so no order and no
@@ -60,16 +85,3 @@ def rounds(points: NDArray[Any]) -> List[NDArray[Any]]:
         return [np.arange(len(points))]
     return np.split(np.random.default_rng(0).permutation(len(points)), ends[:0:-1])
 
-
-def near_rounds(count: int) -> List[NDArray[Any]]:
-    """The same of so many rows in which near points mostly stand beside each other: of each few in a
-    row one is picked for an earlier round."""
-    draw, found, rows = np.random.default_rng(0), [], np.arange(count)
-    while len(rows) > FIRST:
-        begins = np.arange(0, len(rows) - TIMES + 1, TIMES)
-        picked = begins + draw.integers(0, TIMES, len(begins))
-        is_left = np.ones(len(rows), bool)
-        is_left[picked] = False
-        found.append(rows.compress(is_left))
-        rows = rows[picked]
-    return [rows, *found[::-1]]

@@ -2,28 +2,37 @@
 it, until each cell at a point of its own is sure."""
 from __future__ import annotations
 
+import pickle
 import time
-from typing import Any, Dict, Iterator, List, NamedTuple, Optional, Tuple
+from functools import lru_cache
+from typing import Any, Dict, List, NamedTuple, Optional, Tuple
 
 import numpy as np
 
-from ._circles import Faces, Wanted, cells, circle_test, disks
+from ._asks import Given, ask_tile
+from ._circles import Faces, Wanted, cells, disks
+from ._disks import Disks, are_in, are_listed, keys_of
+from ._library import MOST
 from ._memory import freed_is_kept
 from ._mesh import Mesh
-from ._segments import ENDS, NONE, NUMBERS, ROW, are_hidden, bounds_of, common_points, crossing
-from ._segments import hiders_of, may_enter, meet, side
+from ._segments import ENDS, NONE, NUMBERS, ROW, bounds_of, common_points, crossing, may_enter
+from ._segments import meet
 from ._tile_files import BLOCK, Neighbour, TileFiles, save
 from ._types import NDArray
 from .errors import CrossingError
 
 # How wide a halo is at first, in mean distances of the tile's points.
 HALO = 6.0
+# Where more faces than this part of a tile's points reach past the halo it is made wider: at least
+# and at most so many times as wide, so often, and with points for so many times those of the tile.
+MANY, LEAST, MOST_WIDER, WIDENED, MOST_KNOWN = 0.05, 1.5, 8.0, 6, 8
 # How many points are taken at first for one circle, those deepest inside. Each time that something
 # was given twice as many are taken: many points may be inside and hidden.
 DEEPEST, MOST_AT_ONCE = 8, 4096
-# How many circles are looked at together, and with how many blocks of points in all; and how many
-# pairs of a face and a segment.
-AT_ONCE, BLOCKS_AT_ONCE, PAIRS = 1024, 4096, 1 << 18
+# The sides of a box that are nowhere.
+FAR = np.array([-(2**31), -(2**31), 2**31 - 1, 2**31 - 1])
+# How many circles are looked at together, and how many pairs of a face and a segment.
+AT_ONCE, PAIRS = 1024, 1 << 18
 
 
 class TileReport(NamedTuple):
@@ -57,100 +66,16 @@ class Plan(NamedTuple):
     has_others: NDArray[Any]
 
 
-def keys_of(points: NDArray[Any]) -> NDArray[Any]:
-    """A number for each position."""
-    given: NDArray[Any] = (points[:, 0].astype(np.int64) << 32) + points[:, 1]
+# The sides of a region that has no point at all.
+NOWHERE = np.array([0, 0, -1, -1])
+
+
+def region_round(box: NDArray[Any], width: float) -> NDArray[Any]:
+    """A box and so much round it, in whole numbers. A side beyond which no point can be is far."""
+    sides = np.rint(np.clip(box + np.array([-width, -width, width, width]), -MOST, MOST))
+    is_far = np.concatenate([sides[:2] <= -MOST, sides[2:] >= MOST])
+    given: NDArray[Any] = np.where(is_far, FAR, sides.astype(np.int64))
     return given
-
-
-def are_listed(keys: NDArray[Any], points: NDArray[Any]) -> NDArray[Any]:
-    """Which points are those of sorted keys."""
-    if not len(keys):
-        return np.zeros(len(points), bool)
-    wanted = keys_of(points)
-    given: NDArray[Any] = keys[np.minimum(np.searchsorted(keys, wanted), len(keys) - 1)] == wanted
-    return given
-
-
-def are_within(found: NDArray[Any], region: NDArray[Any]) -> NDArray[Any]:
-    """Which disks, as `disks` gives them, are surely in a region."""
-    x, y, _, wide = found.T
-    is_in = (x - wide >= region[0]) & (x + wide <= region[2])
-    given: NDArray[Any] = is_in & (y - wide >= region[1]) & (y + wide <= region[3])
-    return given
-
-
-class Disks:
-    """The closed disks of some faces, corners of shape (3, f), and what constraints hide of
-    them."""
-
-    def __init__(
-        self,
-        points: NDArray[Any],
-        corners: NDArray[Any],
-        is_constraint: NDArray[Any],
-        segments: NDArray[Any],
-    ):
-        self.corners, found = points[corners], disks(points, corners)
-        self.is_constraint = is_constraint
-        self.centers, self.radii = found[:, :2], found[:, 3]
-        # So that no box which a disk reaches is passed over.
-        self.reaches_2 = self.radii * self.radii * (1 + 1e-12)
-        self.hiders = np.zeros((0, len(found), 4), np.int64)
-        if len(segments):
-            wide = self.radii[:, None]
-            boxes = np.hstack([self.centers - wide, self.centers + wide])
-            self.hiders = hiders_of(segments, self.corners, boxes)
-
-    def __len__(self) -> int:
-        return len(self.radii)
-
-    def ranks(self, rows: NDArray[Any], bounds: NDArray[Any]) -> NDArray[Any]:
-        """For some of them and each box: below 0 where something of the box may be in the disk and
-        not be hidden, and lower the nearer it is to the centre."""
-        x, y = self.centers[rows].T[:, :, None]
-        dx = np.maximum(np.maximum(bounds[:, 0] - x, x - bounds[:, 2]), 0)
-        dy = np.maximum(np.maximum(bounds[:, 1] - y, y - bounds[:, 3]), 0)
-        ranks: NDArray[Any] = dx * dx + dy * dy - self.reaches_2[rows, None]
-        if len(self.hiders):
-            # What hides the four corners of a box hides all of it.
-            row, box = np.nonzero(ranks < 0)
-            is_hidden = np.ones((3 + len(self.hiders), len(row)), bool)
-            for k, m in (0, 1), (2, 1), (2, 3), (0, 3):
-                corners = bounds[box, k], bounds[box, m]
-                is_hidden &= np.stack(list(self.hidden(rows[row], *corners)))
-            all_hidden = is_hidden.any(0)
-            ranks[row[all_hidden], box[all_hidden]] = np.inf
-        return ranks
-
-    def hidden(
-        self, rows: NDArray[Any], x: NDArray[Any], y: NDArray[Any]
-    ) -> Iterator[NDArray[Any]]:
-        """For points of their disks, each of the disk of a row, which of them each side that is a
-        constraint, and each segment that may hide some, hides."""
-        corners = self.corners[:, rows]
-        for k in range(3):
-            # All of a disk that is beyond a side is seen from the face through that side.
-            start, end = corners[(k + 1) % 3], corners[(k + 2) % 3]
-            (ax, ay), (bx, by) = start.T, end.T
-            yield self.is_constraint[k, rows] & (side(ax, ay, bx, by, x, y) < 0)
-        for ends_of_hider in self.hiders[:, rows]:
-            yield are_hidden(ends_of_hider, corners, x, y)
-
-    def depths(self, rows: NDArray[Any], points: NDArray[Any]) -> Tuple[NDArray[Any], NDArray[Any]]:
-        """For some of them and some points each: 1 for points inside, 0 for those on the circle, -1
-        for others and those that are hidden; and how deep."""
-        x, y = (points[..., k] - self.centers[rows, k, None] for k in (0, 1))
-        near = np.nonzero(x * x + y * y <= self.reaches_2[rows, None])
-        a, b, c = self.corners[:, rows[near[0]]]
-        signs, depths = np.full(points.shape[:2], -1, np.int8), np.zeros(points.shape[:2])
-        signs[near], depths[near] = circle_test(a, b, c, points[near].astype(np.int64))
-        if len(self.hiders):
-            row, place = np.nonzero(signs >= 0)
-            x, y = points[row, place].astype(np.int64).T
-            is_hidden = np.logical_or.reduce(list(self.hidden(rows[row], x, y)))
-            signs[row[is_hidden], place[is_hidden]] = -1
-        return signs, depths
 
 
 class Crossing(Exception):
@@ -160,12 +85,17 @@ class Crossing(Exception):
 class Part:
     """Some of all points, rows of int64 with their numbers and whether they are a tile's own, and
     their triangulation, with the segments between them that are known. A point's row is that of its
-    vertex."""
+    vertex. It has all points of a region."""
 
     def __init__(
-        self, tile: Tile, points: NDArray[Any], numbers: NDArray[Any], segments: NDArray[Any]
+        self,
+        tile: Tile,
+        points: NDArray[Any],
+        numbers: NDArray[Any],
+        segments: NDArray[Any],
+        region: NDArray[Any] = NOWHERE,
     ):
-        self.tile = tile
+        self.tile, self.region = tile, region
         self.points, self.numbers = np.empty((0, 2), np.int64), np.empty(0, np.int64)
         self.segments = NONE
         self._keys: Optional[NDArray[Any]] = None
@@ -191,24 +121,18 @@ class Part:
         a, b, c = self.corners
         return np.flatnonzero(is_asked[a] | is_asked[b] | is_asked[c])
 
-    def faces_past(self, region: NDArray[Any]) -> NDArray[Any]:
-        """All faces of which something that may be seen from them in their closed disks is beyond a
-        region that has all its points here, and others: a way from a face to what is seen in its
-        disk leads through faces whose disks have it too, to one that is not within the region."""
-        a, b, c = self.corners
-        is_past = ~meet(np.hstack([self.points, self.points]), region)
-        front = np.flatnonzero(is_past[a] | is_past[b] | is_past[c])
-        is_found = np.zeros(len(a), bool)
-        is_found[front] = True
-        found = [front]
-        while len(front):
-            others = self.neighbors[:, front]
-            others = np.unique(others[(others >= 0) & ~self.is_constraint[:, front]])
-            others = others[~is_found[others]]
-            is_found[others] = True
-            front = others[~are_within(disks(self.points, self.corners[:, others]), region)]
-            found.append(front)
-        return np.concatenate(found)
+    def own_faces_past(self) -> NDArray[Any]:
+        """The faces at own points whose closed disks have something beyond the region."""
+        past = np.flatnonzero(self.mesh.faces_beyond(self.corners.shape[1], self.region))
+        given: NDArray[Any] = past[self.is_own[self.corners[:, past]].any(0)]
+        return given
+
+    def overhang(self, faces: NDArray[Any]) -> float:
+        """About how far half of some faces' disks reach past the region at most."""
+        x, y, wide, _ = disks(self.points, self.corners[:, faces]).T
+        x0, y0, x1, y1 = self.region.astype(np.float64)
+        past = np.maximum(np.maximum(x0 - x, x - x1), np.maximum(y0 - y, y - y1)) + wide
+        return float(np.median(past))
 
     def disks_of(self, faces: NDArray[Any]) -> Disks:
         words = self.corners[:, faces], self.is_constraint[:, faces]
@@ -220,8 +144,10 @@ class Part:
         if not len(points):
             return np.empty(0, bool)
         if self._keys is None:
-            self._keys = np.sort(keys_of(self.points))
-        return are_listed(self._keys, points)
+            others = self.points[~are_in(self.points, self.region)]
+            self._keys = np.sort(keys_of(others))
+        given: NDArray[Any] = are_in(points, self.region) | are_listed(self._keys, points)
+        return given
 
     def rows_of(self, numbers: NDArray[Any]) -> NDArray[Any]:
         """The rows of points that are known, by their numbers."""
@@ -263,7 +189,7 @@ class Part:
     def add(
         self, points: NDArray[Any], numbers: NDArray[Any], segments: NDArray[Any]
     ) -> None:
-        """Takes further points, none of which is known, and segments with their ends."""
+        """Takes further points, and segments with their ends."""
         ends, of_them = ends_of(segments)
         numbers, first = np.unique(np.concatenate([numbers, of_them]), return_index=True)
         points = np.concatenate([points, ends])[first]
@@ -285,26 +211,6 @@ def ends_of(segments: NDArray[Any]) -> Tuple[NDArray[Any], NDArray[Any]]:
     return segments[:, ENDS].reshape(-1, 2), segments[:, NUMBERS].ravel()
 
 
-class Given:
-    """Points that tiles gave, with their numbers, and which of the disks that were asked about got
-    any."""
-
-    def __init__(self, count: int):
-        self.is_given = np.zeros(count, bool)
-        # Nothing more is asked about a disk with a point inside.
-        self.is_done = np.zeros(count, bool)
-        self._points, self._numbers = [np.empty((0, 2), np.int64)], [np.empty(0, np.int64)]
-
-    def take(self, points: NDArray[Any], numbers: NDArray[Any]) -> None:
-        self._points.append(points)
-        self._numbers.append(numbers)
-
-    def points(self) -> Tuple[NDArray[Any], NDArray[Any]]:
-        """The points, each once, and their numbers."""
-        numbers, first = np.unique(np.concatenate(self._numbers), return_index=True)
-        return np.concatenate(self._points)[first], numbers
-
-
 class Tile:
     """A tile's own points and what it may ask: all tiles, of which it has the bounds."""
 
@@ -315,21 +221,20 @@ class Tile:
         self.tiles = [Neighbour(files, it) for it in range(len(plan.bounds))]
         self.bounds = plan.bounds.astype(np.int64)
         self.is_there = plan.has_others
-        self.region = self.widened(plan.boxes[tile])
+        self.width = self.first_width()
+        self.region = region_round(plan.boxes[tile], self.width)
         self.asked, self.deepest = 0, DEEPEST
         self._segments: Dict[int, Any] = {}
 
-    def widened(self, box: NDArray[Any]) -> NDArray[Any]:
-        """The tile's part of the plane and a halo, as x and y from, x and y to."""
-        spread = np.maximum(np.ptp(self.points, axis=0), 1).astype(np.float64)
-        width = HALO * np.sqrt(spread[0] * spread[1] / len(self.points))
-        given: NDArray[Any] = box + np.array([-width, -width, width, width])
-        return given
+    def first_width(self) -> float:
+        """How wide a halo is at first."""
+        x0, y0, x1, y1 = self.bounds[self.tile].tolist()
+        return HALO * float(np.sqrt(max(x1 - x0, 1) * max(y1 - y0, 1) / len(self.points)))
 
     def are_own(self, points: NDArray[Any]) -> NDArray[Any]:
         """Which points lie in the tile's part of the plane; lower sides belong to it."""
-        x0, y0, x1, y1 = self.plan.boxes[self.tile]
-        x, y = points.T
+        x0, y0, x1, y1 = self.plan.boxes[self.tile].tolist()
+        x, y = points[:, 0], points[:, 1]
         given: NDArray[Any] = (x >= x0) & (x < x1) & (y >= y0) & (y < y1)
         return given
 
@@ -359,16 +264,14 @@ class Tile:
 
     def halo(self) -> Tuple[NDArray[Any], NDArray[Any]]:
         """The points of other tiles in the region."""
-        x0, y0, x1, y1 = self.region
         points, numbers = [np.empty((0, 2), np.int64)], [np.empty(0, np.int64)]
         is_asked = meet(self.bounds, self.region) & (self.bounds[:, 0] <= self.bounds[:, 2])
         is_asked[self.tile] = False
         for i in np.flatnonzero(is_asked):
             boxes = self.tiles[i].boxes()
             some, of_them = self.tiles[i].rows(np.flatnonzero(meet(boxes, self.region)))
-            x, y = some.T
-            is_in = (x >= x0) & (x <= x1) & (y >= y0) & (y <= y1)
-            points.append(some[is_in])
+            is_in = are_in(some, self.region)
+            points.append(some[is_in].astype(np.int64))
             numbers.append(of_them[is_in])
         return np.concatenate(points), np.concatenate(numbers)
 
@@ -383,10 +286,31 @@ class Tile:
         more = np.concatenate([self.plan.corners, more])
         of_them, first = np.unique(np.append(self.plan.numbers, of_them), return_index=True)
         more = more[first]
-        is_new = ~meet(np.hstack([more, more]), self.region)
+        is_new = ~are_in(more, self.region)
         points = np.concatenate([points, more[is_new]])
         numbers = np.append(numbers, of_them[is_new])
-        return Part(self, points, numbers, segments)
+        return Part(self, points, numbers, segments, self.region)
+
+    def widen(self, more: float) -> bool:
+        """Makes the region wider, by so much or what is allowed at once. Where that would have too
+        many points, or nothing more is there, it does not."""
+        least, most = LEAST * self.width, MOST_KNOWN * len(self.points)
+        width = min(max(self.width + more, least), MOST_WIDER * self.width)
+        while self.size_of(width) > most and width > least:
+            width = max(width / 2, least)
+        if not 0 < self.size_of(width) <= most:
+            return False
+        before, self.region = self.region, region_round(self.plan.boxes[self.tile], width)
+        self.width = width
+        return not np.array_equal(self.region, before)
+
+    def size_of(self, width: float) -> int:
+        """About how many points of other tiles are in a region that is so wide."""
+        region = region_round(self.plan.boxes[self.tile], width)
+        is_met = meet(self.bounds, region) & self.is_there
+        is_met[self.tile] = False
+        blocks = (meet(self.tiles[i].boxes(), region) for i in np.flatnonzero(is_met))
+        return BLOCK * sum(int(it.sum()) for it in blocks)
 
     def part_at(self, part: Part, is_open: NDArray[Any], given: Given, more: NDArray[Any]) -> Part:
         """A smaller part: some points of a part, their neighbours in it, what was given, the
@@ -446,70 +370,6 @@ class Tile:
         return given
 
 
-def ask_tile(
-    tile: Neighbour,
-    part: Part,
-    asked: Disks,
-    rows: NDArray[Any],
-    given: Given,
-    deepest: int,
-) -> None:
-    """The same of one tile, the nearest block first, and then ever more of them."""
-    ranks = asked.ranks(rows, tile.boxes())
-    order, reached = np.argsort(ranks, axis=1, kind="stable"), (ranks < 0).sum(1)
-    first, width = 0, 1
-    while True:
-        asking = np.flatnonzero((reached > first) & ~given.is_done[rows])
-        if not len(asking):
-            return
-        turns = np.arange(first, min(first + width, order.shape[1]))
-        points, numbers = (
-            it.reshape(len(asking), -1, *it.shape[3:])
-            for it in tile.blocks(order[asking][:, turns])
-        )
-        signs, depths = asked.depths(rows[asking], points)
-        signs[np.repeat(turns >= reached[asking, None], BLOCK, axis=1)] = -1
-        # Without constraints a known point is never inside.
-        maybe = np.nonzero(signs >= 0 if len(part.segments) else signs == 0)
-        is_known = part.is_known(points[maybe])
-        signs[maybe[0][is_known], maybe[1][is_known]] = -1
-        take_inside(points, numbers, signs, depths, rows[asking], given, deepest)
-        take_border(points, numbers, signs, rows[asking], given)
-        first, width = first + width, min(2 * width, max(BLOCKS_AT_ONCE // len(asking), 1))
-
-
-def take_inside(
-    points: NDArray[Any],
-    numbers: NDArray[Any],
-    signs: NDArray[Any],
-    depths: NDArray[Any],
-    rows: NDArray[Any],
-    given: Given,
-    most: int,
-) -> None:
-    """Takes the deepest points of each row that are inside of its disk."""
-    count = min(most, points.shape[1])
-    ranks = np.where(signs > 0, -depths, np.inf)
-    deepest = np.argpartition(ranks, count - 1, axis=1)[:, :count]
-    row, column = np.nonzero(np.take_along_axis(signs, deepest, 1) > 0)
-    place = deepest[row, column]
-    given.take(points[row, place], numbers[row, place])
-    given.is_given[rows[row]] = given.is_done[rows[row]] = True
-
-
-def take_border(
-    points: NDArray[Any],
-    numbers: NDArray[Any],
-    signs: NDArray[Any],
-    rows: NDArray[Any],
-    given: Given,
-) -> None:
-    """Takes the points of each row that are on its circle."""
-    row, place = np.nonzero(signs == 0)
-    given.take(points[row, place], numbers[row, place])
-    given.is_given[rows[row]] = True
-
-
 class Work:
     """What a tile does, step by step."""
 
@@ -522,11 +382,9 @@ class Work:
         has each point of all that may be seen in its closed disk, and each segment that may enter
         it. Where a face at an own point is not, the cells at that point come of a smaller part, in
         which all faces at it are made sure."""
-        part, self.rounds = self.tile.part(), 1
+        part, past = self.wide_part()
         try:
             self.known = len(part.points)
-            past = part.faces_past(self.tile.region)
-            past = past[part.is_own[part.corners[:, past]].any(0)]
             others = self.tile.is_there.copy()
             others[self.tile.tile] = False
             given = self.tile.ask(part, past, np.flatnonzero(others))
@@ -546,6 +404,22 @@ class Work:
             return np.concatenate([rows, self.sure_cells(smaller, asked)])
         finally:
             smaller.close()
+
+    def wide_part(self) -> Tuple[Part, NDArray[Any]]:
+        """The tile's part, and the faces at own points that reach past its region, which is wider
+        where they were many."""
+        most = MANY * len(self.tile.points)
+        while True:
+            part = self.tile.part()
+            self.rounds += 1
+            try:
+                past, is_last = part.own_faces_past(), self.rounds > WIDENED
+                if is_last or len(past) <= most or not self.tile.widen(part.overhang(past)):
+                    return part, past
+            except BaseException:
+                part.close()
+                raise
+            part.close()
 
     def sure_cells(self, smaller: Part, asked: NDArray[Any]) -> NDArray[Any]:
         """The cells at some own points, after each face there is made sure."""
@@ -577,10 +451,18 @@ def are_same(corners: NDArray[Any], before: NDArray[Any]) -> NDArray[Any]:
     return is_same
 
 
+@lru_cache(maxsize=1)
+def plan_in(name: str) -> Plan:
+    """The plan of a run, which a process reads once."""
+    with open(name, "rb") as file:
+        given: Plan = pickle.load(file)
+    return given
+
+
 @freed_is_kept()
-def cells_of_tile(files: TileFiles, tile: int, plan: Plan) -> TileReport:
-    """Writes the cells of a tile."""
-    begin = time.process_time()
+def cells_of_tile(files: TileFiles, tile: int) -> TileReport:
+    """Writes the cells of a tile, by the plan that was left in the folder."""
+    begin, plan = time.process_time(), plan_in(files.name("plan", 0))
     # Where all points are on one line there is no cell at all.
     if len(plan.corners) < 3 or plan.bounds[tile, 0] > plan.bounds[tile, 2]:
         save(files.name("cells", tile), np.empty((0, 3), np.int64))

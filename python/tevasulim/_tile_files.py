@@ -4,7 +4,7 @@ and a task that runs again writes the same."""
 from __future__ import annotations
 
 import os
-from typing import Any, Dict, List, NamedTuple, Tuple
+from typing import Any, Dict, List, NamedTuple, Optional, Tuple
 
 import numpy as np
 
@@ -12,14 +12,15 @@ from ._hull import are_inside, hull_rows
 from ._library import MOST
 from ._memory import freed_is_kept
 from ._numbers import point_list
-from ._order import near_keys
+from ._order import near_keys, near_order_of_all
 from ._segments import bounds_of, longest_of, split
 from ._tile_parts import Reading, points_in
 from ._types import NDArray
 from .errors import NoSuchPointError, TevasulimError
 
-# How many points a block has.
-BLOCK = 128
+# How many points a block has, how many a task surveys and cuts, and how many are looked at
+# together.
+BLOCK, PIECE, TOGETHER = 128, 250_000, 1 << 15
 Box = Tuple[Tuple[float, float], Tuple[float, float]]
 PLANE: Box = ((-np.inf, np.inf), (-np.inf, np.inf))
 
@@ -77,28 +78,86 @@ def boxes_in(plan: Any, box: Box = PLANE) -> List[Box]:
     return boxes_in(low, parts[0]) + boxes_in(high, parts[1])
 
 
-def assign(
-    plan: Any, points: NDArray[Any], rows: NDArray[Any], tile: NDArray[Any], first: int = 0
-) -> int:
-    """Writes the tile of each of some rows of points, where the first tile of the plan has a
-    number, and gives the number after its last."""
-    if plan is None:
-        tile[rows] = first
-        return first + 1
-    axis, at, low, high = plan
-    is_low = points[rows, axis] < at
-    middle = assign(low, points, rows[is_low], tile, first)
-    return assign(high, points, rows[~is_low], tile, middle)
+def tiles_of(plan: Any, points: NDArray[Any]) -> NDArray[Any]:
+    """The tile of each point, in numbers of 16 bits where there are few, which are sorted
+    soonest."""
+    axes, values, children, deep = flat(plan)
+    found = np.empty(len(points), np.uint16 if len(axes) < 2**16 else np.int32)
+    for begin in range(0, len(points), TOGETHER):
+        x, y = points[begin : begin + TOGETHER].T
+        node = np.zeros(len(x), np.intp)
+        for _ in range(deep):
+            is_high = np.where(axes.take(node), y, x) >= values.take(node)
+            node = children.take(2 * node + is_high)
+        # What a tile has for a coordinate is its number.
+        found[begin : begin + TOGETHER] = values.take(node)
+    return found
 
 
-def survey(part: str, count: int) -> Tuple[int, NDArray[Any]]:
-    """How many points a file has, and so many of them, picked blindly but always the same. A file
-    with anything but points in range is refused."""
+def flat(plan: Any) -> Tuple[NDArray[Any], NDArray[Any], NDArray[Any], int]:
+    """A plan as lists by nodes: their axes, coordinates and parts, and how deep it is. A tile's
+    coordinate is its number, and it is both of its parts."""
+    axes: List[int] = []
+    values: List[int] = []
+    children: List[int] = []
+    tiles = [0]
+
+    def put(part: Any) -> int:
+        node = len(axes)
+        axes.append(0)
+        values.append(tiles[0])
+        children.extend([node, node])
+        if part is None:
+            tiles[0] += 1
+            return 0
+        axes[node], values[node] = part[:2]
+        deep = []
+        for way, below in enumerate(part[2:]):
+            children[2 * node + way] = len(axes)
+            deep.append(put(below))
+        return 1 + max(deep)
+
+    deep = put(plan)
+    return np.array(axes, bool), np.array(values), np.array(children), deep
+
+
+class Piece(NamedTuple):
+    """Some rows of a .npy of points, up to one that is no more among them; or all of them."""
+
+    part: str
+    begin: int = 0
+    end: Optional[int] = None
+
+    def points(self) -> NDArray[Any]:
+        """Its rows, of which only what is looked at is read."""
+        return load(self.part)[self.begin : self.end]
+
+
+def pieces_of(part: str) -> List[Piece]:
+    """A part in pieces, so that several tasks share a large one. One that only the workers reach is
+    not parted."""
     try:
-        points = point_list(load(part), None)
+        count = len(load(part))
+    except (OSError, TypeError, ValueError):
+        return [Piece(part)]
+    begins = range(0, max(count, 1), PIECE)
+    return [Piece(part, begin, min(begin + PIECE, count)) for begin in begins]
+
+
+def survey(piece: Piece, count: int) -> Tuple[int, NDArray[Any]]:
+    """How many points a piece has, and at most so many of them, picked blindly but always the same.
+    A part with anything but points in range is refused."""
+    try:
+        try:
+            points = point_list(piece.points(), None)
+        except (TevasulimError, TypeError, ValueError, IndexError):
+            # It is told of the whole part what is wrong with it.
+            point_list(load(piece.part), None)
+            raise
     except (TevasulimError, TypeError, ValueError) as error:
-        error.args = (f"{part}: {error.args[0]}", *error.args[1:])
+        error.args = (f"{piece.part}: {error.args[0]}", *error.args[1:])
         raise
+    count = min(count, max(len(points) // 16, 20_000))
     if len(points) <= count:
         return len(points), points
     picked = np.random.default_rng(0).choice(len(points), count, replace=False)
@@ -155,7 +214,7 @@ class TileFiles:
         self.folder = folder
 
     def name(self, kind: str, number: int) -> str:
-        ending = "rows" if kind in ROWS else "npy"
+        ending = "rows" if kind in ROWS else "pickle" if kind == "plan" else "npy"
         return os.path.join(self.folder, f"{kind}-{number}.{ending}")
 
     def write(self, kind: str, number: int, rows: NDArray[Any]) -> None:
@@ -185,26 +244,24 @@ class TileFiles:
         return name
 
     @freed_is_kept()
-    def cut(self, part: str, number: int, first: int, plan: Any, tiles: int) -> List[int]:
-        """Cuts what was handed in by tile: the points in the order of their tiles, and their
-        numbers, from `first` on. Gives where each tile begins."""
-        points = point_list(load(part), None)
-        # Numbers of 16 bits are sorted soonest.
-        tile = np.empty(len(points), np.uint16 if tiles <= 2**16 else np.int32)
-        assign(plan, points, np.arange(len(points)), tile)
+    def cut(self, piece: Piece, number: int, first: int, plan: Any, tiles: int) -> List[int]:
+        """Cuts a piece of what was handed in by tile: the points in the order of their tiles, and
+        their numbers, from `first` on. Gives where each tile begins."""
+        points = np.ascontiguousarray(piece.points(), np.int32).reshape(-1, 2)
+        tile = tiles_of(plan, points)
         order = np.argsort(tile, kind="stable")
-        self.write("cut-points", number, points[order])
+        self.write("cut-points", number, points.take(order, axis=0))
         self.write("cut-numbers", number, first + order.astype(np.int64))
-        given: List[int] = np.searchsorted(tile[order], np.arange(tiles + 1)).tolist()
+        given: List[int] = np.cumsum([0, *np.bincount(tile, minlength=tiles)]).tolist()
         return given
 
     @freed_is_kept()
     def gather(
-        self, tile: int, parts: List[Tuple[int, int, int]], polygon: NDArray[Any]
+        self, tile: int, parts: List[Tuple[int, int, int]], polygon: NDArray[Any], has_keys: bool
     ) -> Gathered:
         """Gathers the points of a tile, each once with its least number, from parts with a begin
-        and an end. Corners of a polygon are given, so that what lies inside is no corner of the
-        hull of all."""
+        and an end, and their keys where points are looked up by them. Corners of a polygon are
+        given, so that what lies inside is no corner of the hull of all."""
         points, numbers = (
             np.concatenate([self.rows(kind, part)[begin:end] for part, begin, end in parts])
             if parts
@@ -215,15 +272,17 @@ class TileFiles:
             )
         )
         # Parts come in the order of their numbers, so of equal points the least number is first.
-        keys = near_keys(points)
-        order = np.argsort(keys, kind="stable")
-        keys = keys[order]
-        is_first = np.ones(len(keys), bool)
-        np.not_equal(keys[1:], keys[:-1], out=is_first[1:])
-        order = order[is_first]
-        points, numbers = points[order], numbers[order]
+        keys = near_keys(points) if has_keys else np.empty(0, np.uint64)
+        order = np.argsort(keys, kind="stable") if has_keys else near_order_of_all(points)
+        points = points.take(order, axis=0)
+        places = points.view(np.int64).ravel()
+        is_first = np.ones(len(places), bool)
+        np.not_equal(places[1:], places[:-1], out=is_first[1:])
+        points, numbers = points[is_first], numbers[order[is_first]]
         boxes = boxes_of(points) if len(points) else np.empty((0, 4), np.int32)
-        files = ("points", points), ("numbers", numbers), ("boxes", boxes), ("keys", keys[is_first])
+        files = [("points", points), ("numbers", numbers), ("boxes", boxes)]
+        if has_keys:
+            files.append(("keys", keys[order[is_first]]))
         for kind, array in files:
             self.write(kind, tile, array)
         low, high = boxes[:, :2].min(0, initial=MOST), boxes[:, 2:].max(0, initial=-MOST)
@@ -249,8 +308,7 @@ class TileFiles:
         begins, and the longest segments."""
         numbers = segment_list(part, firsts[-1])
         ends = positions_of(numbers.ravel(), points, firsts)
-        tile = np.empty(len(ends), np.int32)
-        tiles = assign(plan, ends, np.arange(len(ends)), tile)
+        tile = tiles_of(plan, ends)
         known = np.empty(len(ends), np.int64)
         for it in np.unique(tile):
             rows = np.flatnonzero(tile == it)
@@ -261,7 +319,6 @@ class TileFiles:
         segments = segments[segments[:, 4] != segments[:, 5]]
         each = split(plan, bounds_of(segments), np.arange(len(segments)))
         self.write("segments", number, segments[np.concatenate(each)])
-        assert len(each) == tiles
         return np.cumsum([0, *map(len, each)]).tolist(), longest_of(segments)
 
     def segments(self, tile: int, begins: List[List[int]]) -> NDArray[Any]:
@@ -303,10 +360,10 @@ class Neighbour:
         return given
 
     def blocks(self, numbers: NDArray[Any]) -> Tuple[NDArray[Any], NDArray[Any]]:
-        """The points of some blocks, and their numbers, with one axis more than the blocks'
-        numbers: the last point of a block that is shorter stands there often."""
+        """The points of some blocks, and their numbers, block by block: the last point of a block
+        that is shorter stands there often."""
         self._is_read[numbers] = True
-        places = numbers[..., None] * BLOCK + np.arange(BLOCK)
+        places = numbers[:, None] * BLOCK + np.arange(BLOCK)
         np.minimum(places, len(self._points) - 1, out=places)
         return self._points[places], self._numbers[places]
 

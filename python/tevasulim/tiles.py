@@ -23,6 +23,7 @@ from __future__ import annotations
 import json
 import operator
 import os
+import pickle
 import shutil
 import tempfile
 from typing import Any, Dict, List, NamedTuple, Optional, Sequence, Tuple
@@ -33,7 +34,7 @@ from ._hull import hull_rows
 from ._runner import Runner
 from ._segments import NONE, longest_of
 from ._tile import Plan, TileReport, cells_of_tile
-from ._tile_files import TileFiles, boxes_in, plan_of, survey
+from ._tile_files import TileFiles, boxes_in, pieces_of, plan_of, survey
 from ._tile_parts import TABLES, Reading, ending, parts_of, segments_in
 from ._types import NDArray
 from .errors import CrossingError, TevasulimError
@@ -104,14 +105,15 @@ def cut_plane(
 ) -> Plan:
     """Cuts the plane into tiles, and gathers the points of each and the segments that may meet it:
     what each tile knows of all."""
-    each = max(SAMPLE // max(len(names), 1), 1)
-    found = runner.run(survey, [(name, each) for name in names])
+    pieces = [piece for name in names for piece in pieces_of(name)]
+    each = max(SAMPLE // max(len(pieces), 1), 1)
+    found = runner.run(survey, [(piece, each) for piece in pieces])
     counts = [count for count, _ in found]
     sample = np.concatenate([np.empty((0, 2), np.int32), *(some for _, some in found)])
     cuts = plan_of(sample, max(-(-sum(counts) // tile_size), 1))
     boxes = boxes_in(cuts)
     firsts = np.cumsum([0, *counts]).tolist()
-    tasks = [(name, i, firsts[i], cuts, len(boxes)) for i, name in enumerate(names)]
+    tasks = [(piece, i, firsts[i], cuts, len(boxes)) for i, piece in enumerate(pieces)]
     begins = runner.run(files.cut, tasks)
     parts = [
         [
@@ -123,15 +125,19 @@ def cut_plane(
     ]
     some = sample[:: max(len(sample) // FOR_HULL, 1)].astype(np.int64)
     polygon = some[hull_rows(some)]
-    gathered = runner.run(files.gather, [(tile, part, polygon) for tile, part in enumerate(parts)])
-    for i in range(len(names)):
+    has_keys = bool(of_segments)
+    gathering = [(tile, part, polygon, has_keys) for tile, part in enumerate(parts)]
+    gathered = runner.run(files.gather, gathering)
+    for i in range(len(pieces)):
         os.remove(files.name("cut-points", i))
         os.remove(files.name("cut-numbers", i))
     corners = np.concatenate([it.corners for it in gathered]).astype(np.int64)
     numbers = np.concatenate([it.numbers for it in gathered])
     rows = hull_rows(corners)
     bounds = np.stack([it.bounds for it in gathered])
-    placed = place_segments(of_segments, names, firsts, cuts, runner, files)
+    of_names = [first for piece, first in zip(pieces, firsts) if piece.begin == 0]
+    of_names.append(firsts[-1])
+    placed = place_segments(of_segments, names, of_names, cuts, runner, files)
     longest = longest_of(np.concatenate([NONE, *(some for _, some in placed)]))
     of_boxes = np.array([[x[0], y[0], x[1], y[1]] for x, y in boxes])
     begins = [it for it, _ in placed]
@@ -253,8 +259,10 @@ def triangulate_tiles(
         reading = Reading(columns, header, layer, scale)
         given = names_of(points, files, runner, reading), segments_of(segments, files)
         plan = cut_plane(*given, tile_size, runner, files)
+        with open(files.name("plan", 0), "wb") as file:
+            pickle.dump(plan, file)
         tiles = range(len(plan.boxes))
-        reports = runner.run(cells_of_tile, [(files, tile, plan) for tile in tiles])
+        reports = runner.run(cells_of_tile, [(files, tile) for tile in tiles])
         stop_where_crossed(reports)
         names = [files.name("cells", tile) for tile in tiles]
         if folder is None:

@@ -1,10 +1,12 @@
 -- The vertices and edges in a shape, by the indexes that C is told.
--- Lemmas: circle_asked, rectangle_asked, vertices_are, few_vertices, edges_are, few_edges.
+-- Lemmas: by_circle_of, of_circle, by_rectangle_of, of_rectangle, circle_begun, rectangle_begun,
+-- corners_are_in, circle_found, rectangle_found, no_circle, no_rectangle, vertices_are,
+-- few_vertices, edges_are, few_edges.
 use Rattle.std.proofs.Common.{◌≡◌, ◌≢◌, ◌∙◌, ◌<◌, ◌≤◌, ℕ, List, [], ◌∷◌}
-use Rattle.std.proofs.Common.{length, map, eqb, refl, sym, ap, subst, arith}
+use Rattle.std.proofs.Common.{length, map, eqb, refl, sym, ap, subst, inl, inr, arith}
 use Rattle.std.proofs.lemmas.Bool.{eqb-true}
 use Rattle.std.proofs.lemmas.List.{length-map}
-use Rattle.std.specs.Prelude.{AllPairs, Contains, ℤ}
+use Rattle.std.specs.Prelude.{All, AllPairs, Contains, ℤ}
 use Rattle.std.specs.Borrow.{Bor}
 use Rattle.std.proofs.lemmas.Bool.Decides.{Decides-eqb}
 use Rattle.std.proofs.lemmas.List.Folds.{Any-from_list_any}
@@ -16,16 +18,24 @@ use Rattle.delaunay_edit.specs.half_edge_dcel.Left.{each_in}
 use Rattle.delaunay_edit.specs.plane.Fraction.{Point, Fraction}
 use Rattle.delaunay_edit.specs.plane.Shape.{InClosedCircle, InClosedRectangle}
 use Rattle.delaunay_edit.specs.delaunay_core.Place.{place_of}
-use Rattle.delaunay_edit.specs.delaunay_core.declared.point.Point2.{Point2}
 use Rattle.delaunay_edit.specs.delaunay_legalization.Shape.{IsTriangulated}
 use Rattle.delaunay_edit.specs.delaunay_legalization.State.{State}
+use Rattle.delaunay_edit.specs.plane.Tests.{InRange}
+use Rattle.delaunay_shapes.proofs.Shapes.{circle_begins, rectangle_begins}
+use Rattle.delaunay_shapes.specs.Start.{HasStartAt}
+use Rattle.delaunay_shapes.specs.Tests.{corners}
 use Rattle.delaunay_shapes.specs.InShape.{AreEdgesInShape, AreVerticesInShape}
 use Rattle.delaunay_queries.specs.Found.{FindsEdges, FindsVertices}
-use Rattle.c_calls.specs.declared.shapes.RawCircle.{RawCircle}
-use Rattle.c_calls.specs.declared.shapes.RawRectangle.{RawRectangle}
+use Rattle.delaunay_edit.specs.delaunay_core.declared.point.Point2.{Point2}
+use Rattle.c_calls.specs.declared.raw.RawShape.{RawShape}
+use Rattle.c_calls.specs.declared.shapes.TheConstants.{CIRCLE, RECTANGLE}
+use Rattle.c_calls.specs.declared.statuses.TheConstants.{OUT_OF_MEMORY}
 use Rattle.c_calls.specs.Links.{AreFew, indexes_in}
-use Rattle.c_calls.specs.Queries.{circle_of, rectangle_of}
-use Rattle.c_calls.specs.Written.{plain_point}
+use Rattle.c_calls.specs.Metrics.{IsCircleOf, IsRectangleOf}
+use Rattle.c_calls.specs.Shapes.{FindsIn, IsNoCircle, IsNoRectangle, by_circle, by_rectangle}
+use Rattle.c_calls.specs.Shapes.{shape_circle, shape_rectangle}
+use Rattle.c_calls.proofs.Corners.{corners_in_range}
+use Rattle.c_calls.specs.Written.{Finding, found, plain_point, refused}
 
 -- the indexes of parts of a mesh are those that they were made of
 indexes_each : {V D U F : Type 0} (mesh : Bor (Contents V D U F)) (indexes : List ℕ)
@@ -42,21 +52,103 @@ few_below xs n once below =
     subst (λ (k : ℕ). k < n) (sym (eqb-true q found.1 found.4))
     (below found.1 (found.0, found.2, found.3)))
 
--- ---- the shape that was asked about is the one that C hands in
-pub circle_asked : (Finds : (Fraction → Type 0) → Type 0) (c : RawCircle) (p : Point2 ℤ) (r : ℤ)
-    → p ≡ record { x = c.center.x; y = c.center.y } → r ≡ c.radius_2
-    → Finds (InClosedCircle (place_of (λ z. z) p) r) → Finds (circle_of c)
-circle_asked Finds c p r middle far found =
-    subst (λ q. Finds (InClosedCircle (place_of (λ z. z) q) c.radius_2)) middle
-    (subst (λ (n : ℤ). Finds (InClosedCircle (place_of (λ z. z) p) n)) far found)
+-- ---- the shape of a metric is the one that C hands in
+module _ (Of : (Fraction → Type 0) → Type 0) (s : RawShape) where
+  pub by_circle_of : (c : Point2 ℤ) (r : ℤ) → IsCircleOf s c r → Of (shape_circle s)
+      → Of (InClosedCircle (place_of (λ z. z) c) r)
+  by_circle_of c r is of =
+      subst (λ d. Of (InClosedCircle (place_of (λ z. z) d) r)) (sym is.same_center)
+      (subst (λ (n : ℤ). Of (InClosedCircle (plain_point s.first) n)) (sym is.same_radius) of)
 
-pub rectangle_asked : (Finds : (Fraction → Type 0) → Type 0) (r : RawRectangle) (p q : Point2 ℤ)
-    → p ≡ record { x = r.lower.x; y = r.lower.y } → q ≡ record { x = r.upper.x; y = r.upper.y }
-    → Finds (InClosedRectangle (place_of (λ z. z) p) (place_of (λ z. z) q))
-    → Finds (rectangle_of r)
-rectangle_asked Finds r p q low high found =
-    subst (λ l. Finds (InClosedRectangle (place_of (λ z. z) l) (plain_point r.upper))) low
-    (subst (λ u. Finds (InClosedRectangle (place_of (λ z. z) p) (place_of (λ z. z) u))) high found)
+  pub of_circle : (c : Point2 ℤ) (r : ℤ) → IsCircleOf s c r
+      → Of (InClosedCircle (place_of (λ z. z) c) r) → Of (shape_circle s)
+  of_circle c r is of =
+      subst (λ (n : ℤ). Of (InClosedCircle (plain_point s.first) n)) is.same_radius
+      (subst (λ d. Of (InClosedCircle (place_of (λ z. z) d) r)) is.same_center of)
+
+  pub by_rectangle_of : (l u : Point2 ℤ) → IsRectangleOf s l u → Of (shape_rectangle s)
+      → Of (InClosedRectangle (place_of (λ z. z) l) (place_of (λ z. z) u))
+  by_rectangle_of l u is of =
+      subst (λ d. Of (InClosedRectangle (place_of (λ z. z) d) (place_of (λ z. z) u)))
+      (sym is.same_lower)
+      (subst (λ d. Of (InClosedRectangle (plain_point s.first) (place_of (λ z. z) d)))
+      (sym is.same_upper) of)
+
+  pub of_rectangle : (l u : Point2 ℤ) → IsRectangleOf s l u
+      → Of (InClosedRectangle (place_of (λ z. z) l) (place_of (λ z. z) u))
+      → Of (shape_rectangle s)
+  of_rectangle l u is of =
+      subst (λ d. Of (InClosedRectangle (plain_point s.first) (place_of (λ z. z) d))) is.same_upper
+      (subst (λ d. Of (InClosedRectangle (place_of (λ z. z) d) (place_of (λ z. z) u)))
+      is.same_lower of)
+
+module _ (s : RawShape) where
+  -- a search for what is in a circle begins at the first point
+  pub circle_begun : (c : Point2 ℤ) (r : ℤ) → IsCircleOf s c r
+      → HasStartAt (InClosedCircle (place_of (λ z. z) c) r) (plain_point s.first)
+  circle_begun c r is = by_circle_of (λ Shape. HasStartAt Shape (plain_point s.first)) s c r is
+      (circle_begins (plain_point s.first) s.radius_2)
+
+  -- and so does one for what is in a rectangle
+  pub rectangle_begun : (l u : Point2 ℤ) → IsRectangleOf s l u
+      → HasStartAt (InClosedRectangle (place_of (λ z. z) l) (place_of (λ z. z) u))
+      (plain_point s.first)
+  rectangle_begun l u is = by_rectangle_of (λ Shape. HasStartAt Shape (plain_point s.first)) s l u
+      is (rectangle_begins (plain_point s.first) (plain_point s.second))
+
+  -- whose corners are in range
+  pub corners_are_in : (l u : Point2 ℤ) → IsRectangleOf s l u
+      → All InRange (corners (place_of (λ z. z) l) (place_of (λ z. z) u))
+  corners_are_in l u is =
+      subst (λ d. All InRange (corners (place_of (λ z. z) d) (place_of (λ z. z) u)))
+      (sym is.same_lower)
+      (subst (λ d. All InRange (corners (plain_point s.first) (place_of (λ z. z) d)))
+      (sym is.same_upper)
+      (corners_in_range (plain_point s.first) (plain_point s.second) is.may.0 is.may.1))
+
+  module _ (AreIn : (Fraction → Type 0) → List ℕ → Type 0) (status was told : ℕ)
+      (old new : List ℕ) where
+    -- what is in the circle was found, or memory was refused
+    pub circle_found : (c : Point2 ℤ) (r : ℤ) → s.kind ≡ CIRCLE → IsCircleOf s c r
+        → Finding (Unit {0}) (AreIn (InClosedCircle (place_of (λ z. z) c) r))
+        (λ reason. reason ≡ OUT_OF_MEMORY) status was told old new
+        → FindsIn AreIn s status was told old new
+    circle_found c r kind is (found _ answers are tells) =
+        by_circle kind (found is.may answers (of_circle (λ Shape. AreIn Shape answers) s c r is are)
+        tells)
+    circle_found c r kind is (refused reason same stays) =
+        by_circle kind (refused (inr reason) same stays)
+
+    -- what is in the rectangle was
+    pub rectangle_found : (l u : Point2 ℤ) → s.kind ≡ RECTANGLE → IsRectangleOf s l u
+        → Finding (Unit {0}) (AreIn (InClosedRectangle (place_of (λ z. z) l) (place_of (λ z. z) u)))
+        (λ reason. reason ≡ OUT_OF_MEMORY) status was told old new
+        → FindsIn AreIn s status was told old new
+    rectangle_found l u kind is (found _ answers are tells) =
+        by_rectangle kind (found is.may answers
+        (of_rectangle (λ Shape. AreIn Shape answers) s l u is are) tells)
+    rectangle_found l u kind is (refused reason same stays) =
+        by_rectangle kind (refused (inr reason) same stays)
+
+  module _ (AreIn : (Fraction → Type 0) → List ℕ → Type 0) (status was : ℕ) (old : List ℕ) where
+    -- it may not be asked about
+    pub no_circle : s.kind ≡ CIRCLE → IsNoCircle s status → FindsIn AreIn s status was was old old
+    no_circle kind none = by_circle kind (refused (inl none) refl refl)
+
+    pub no_rectangle : s.kind ≡ RECTANGLE → IsNoRectangle s status
+        → FindsIn AreIn s status was was old old
+    no_rectangle kind none = by_rectangle kind (refused (inl none) refl refl)
+
+-- for the query of what is in a shape
+pub ruleset shape_query = (
+  circle_begun,
+  rectangle_begun,
+  corners_are_in,
+  circle_found,
+  rectangle_found,
+  no_circle,
+  no_rectangle,
+)
 
 -- ---- what was found
 module _ {V D U F : Type 0} (place : V → Point) (s : State V D U F) (Shape : Fraction → Type 0)

@@ -14,6 +14,7 @@ pub mod Telling
 pub mod Marks
 pub mod Sides
 pub mod Corners
+pub mod Disks
 pub mod Found
 pub mod Walked
 pub mod Crossed

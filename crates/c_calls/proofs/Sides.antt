@@ -1,5 +1,5 @@
 -- The sides of the faces of a triangulation, and the faces by index.
--- Lemmas: face_at.
+-- Lemmas: face_read, face_at.
 use Rattle.std.proofs.Common.{◌≡◌, ◌∙◌, ◌<◌, ◌≤◌, ◌+◌, ◌-◌, ℕ, Bool, List, length, map}
 use Rattle.std.proofs.Common.{option_map, refl, sym, ap, subst, inl, inr, arith}
 use Rattle.std.specs.Prelude.{Option, Some, slice_get, IsSomeAnd}
@@ -33,7 +33,7 @@ inner_number f h = grind (arith, nat_tests)
 module _ {V D U F : Type 0} (place : V → Point) (s : State V D U F)
     (kept : IsTriangulated place s) where
   -- an inner face by its index
-  face_read : (f : ℕ) → 0 < f → f ≤ length s.faces
+  pub face_read : (f : ℕ) → 0 < f → f ≤ length s.faces
       → slice_get (faces_of s.mesh) (f - 1) ≡ Some (corners_of (triangle_at s.mesh
       (face_edge s.mesh f)))
   face_read f positive w =

@@ -1,6 +1,7 @@
 -- What each call says of the triangulation that a handle has, where it has one.
 use Rattle.std.specs.Prelude.{◌≡◌, ℕ, List, Option, None, Some, MatchOption}
 use Rattle.c_calls.specs.declared.kept.KeptPoints.{KeptPoints}
+use Rattle.c_calls.specs.declared.raw.RawBox.{RawBox}
 use Rattle.c_calls.specs.declared.raw.RawCounts.{RawCounts}
 use Rattle.c_calls.specs.declared.raw.RawEdge.{RawEdge}
 use Rattle.c_calls.specs.declared.raw.RawFace.{RawFace}
@@ -11,6 +12,7 @@ use Rattle.c_calls.specs.declared.raw.RawSegment.{RawSegment}
 use Rattle.c_calls.specs.declared.raw.RawShape.{RawShape}
 use Rattle.c_calls.specs.declared.statuses.TheConstants.{ALREADY_OPEN, CLOSED, WELL}
 use Rattle.c_calls.specs.Answers.{OpensAt, OpensCopy}
+use Rattle.c_calls.specs.Beyond.{ListsBeyond}
 use Rattle.c_calls.specs.Conflicts.{FindsConflicts}
 use Rattle.c_calls.specs.Kept.{CountsKept, kept_drawing, kept_links, kept_state, kept_vertices}
 use Rattle.c_calls.specs.Layers.{ListsLayers, kept_marked}
@@ -66,6 +68,10 @@ abbrev pub TellsLayers : Option KeptPoints → ℕ → ℕ → ℕ → List ℕ 
 TellsLayers kept status was told old new = AsksOpen ((new ≡ old) × (told ≡ was))
     (λ k. ListsLayers (kept_drawing k) (kept_links k) (kept_marked k) status told old new) status
     kept
+
+abbrev pub TellsBeyond : Option KeptPoints → RawBox → ℕ → ℕ → ℕ → List ℕ → List ℕ → Type 0
+TellsBeyond kept within status was told old new = AsksOpen ((new ≡ old) × (told ≡ was))
+    (λ k. ListsBeyond (kept_drawing k) within status told old new) status kept
 
 -- ---- answers to many queries
 abbrev pub TellsPlaces : Option KeptPoints → List RawPoint → ℕ → List RawPlace → List RawPlace

@@ -13,3 +13,5 @@ pub mod Conflicts
 pub mod Shapes
 pub mod Calls
 pub mod View
+pub mod Metrics
+pub mod Beyond

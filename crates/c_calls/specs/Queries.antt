@@ -1,15 +1,13 @@
 -- What queries of a triangulation that C keeps answer.
-use Rattle.std.specs.Prelude.{◌≡◌, ◌⊎◌, ◌-◌, ◌/◌, ◌<ℤ◌, ◌≤ℤ◌, ◌==◌, if◌then◌else◌}
-use Rattle.std.specs.Prelude.{ℕ, pos, List, length, map, Some, slice_get, IsSomeAnd}
+use Rattle.std.specs.Prelude.{◌≡◌, ◌⊎◌, ◌-◌, ◌/◌, ◌==◌, if◌then◌else◌, ℕ, List, length, map}
+use Rattle.std.specs.Prelude.{Some, slice_get, IsSomeAnd}
 use Rattle.std.specs.List.{AllZip}
-use Rattle.delaunay_edit.specs.half_edge_links.Mesh.{Mesh}
 use Rattle.delaunay_edit.specs.plane.Fraction.{Point, Fraction, whole}
 use Rattle.delaunay_edit.specs.plane.Line.{Item, at_vertex, across, along, IsLineList}
 use Rattle.delaunay_edit.specs.plane.Pairs.{Joins}
-use Rattle.delaunay_edit.specs.plane.Shape.{IsNearest, InClosedCircle, InClosedRectangle}
+use Rattle.delaunay_edit.specs.plane.Shape.{IsNearest}
 use Rattle.delaunay_edit.specs.plane.Tiling.{Face, Triangulation, HasFace, face}
 use Rattle.delaunay_edit.specs.delaunay_legalization.State.{State, triangulation_of}
-use Rattle.delaunay_shapes.specs.InShape.{AreEdgesInShape, AreVerticesInShape}
 use Rattle.delaunay_interface.specs.delaunay_edit.Elements.{FindsLocation}
 use Rattle.delaunay_edit.specs.delaunay_location.declared.position_in_triangulation.PositionInTriangulation.{PositionInTriangulation}
 use Rattle.delaunay_edit.specs.delaunay_location.declared.position_in_triangulation.PositionInTriangulation.TheVariants.{
@@ -30,10 +28,7 @@ use Rattle.c_calls.specs.declared.kept.KeptPoints.TheVariants.{Plain, Constraine
 use Rattle.c_calls.specs.declared.queries.TheConstants.{ON_VERTEX, ON_EDGE, IN_FACE, OUTSIDE}
 use Rattle.c_calls.specs.declared.queries.TheConstants.{NOWHERE}
 use Rattle.c_calls.specs.declared.lines.TheConstants.{AT_VERTEX, ACROSS_EDGE, ALONG_EDGE}
-use Rattle.c_calls.specs.declared.shapes.RawCircle.{RawCircle}
-use Rattle.c_calls.specs.declared.shapes.RawRectangle.{RawRectangle}
-use Rattle.c_calls.specs.declared.statuses.TheConstants.{IS_CONSTRAINED, NEGATIVE, NONE}
-use Rattle.c_calls.specs.declared.statuses.TheConstants.{OUT_OF_MEMORY, TOO_LARGE}
+use Rattle.c_calls.specs.declared.statuses.TheConstants.{IS_CONSTRAINED, NONE, TOO_LARGE}
 use Rattle.c_calls.specs.Kept.{kept_place}
 use Rattle.c_calls.specs.Written.{Answering, Finding, IsRawInRange, Listing, Tells}
 use Rattle.c_calls.specs.Written.{plain_point}
@@ -148,57 +143,6 @@ abbrev pub ListsRawFaces : Triangulation → List (ℕ × ℕ) → ℕ → ℕ �
     → Type 0
 ListsRawFaces t constraints status told old new =
     Listing (IsFaceEntry t constraints) (length t.faces) status told old new
-
--- ---- what is in a shape
--- a circle may be asked about
-abbrev pub MayAskCircle : RawCircle → Type 0
-MayAskCircle c = IsRawInRange c.center × (pos 0 ≤ℤ c.radius_2)
-
--- a status why it may not, or that memory was refused
-abbrev pub RefusesCircle : RawCircle → ℕ → Type 0
-RefusesCircle c status = ((status ≡ TOO_LARGE) × ¬ IsRawInRange c.center)
-    ⊎ (((status ≡ NEGATIVE) × (c.radius_2 <ℤ pos 0)) ⊎ (status ≡ OUT_OF_MEMORY))
-
--- the closed circle
-abbrev pub circle_of : RawCircle → Fraction → Type 0
-circle_of c = InClosedCircle (plain_point c.center) c.radius_2
-
--- a rectangle may be asked about
-abbrev pub MayAskRectangle : RawRectangle → Type 0
-MayAskRectangle r = IsRawInRange r.lower × IsRawInRange r.upper
-
--- a status why it may not, or that memory was refused
-abbrev pub RefusesRectangle : RawRectangle → ℕ → Type 0
-RefusesRectangle r status = ((status ≡ TOO_LARGE) × ¬ MayAskRectangle r)
-    ⊎ (status ≡ OUT_OF_MEMORY)
-
--- the closed rectangle
-abbrev pub rectangle_of : RawRectangle → Fraction → Type 0
-rectangle_of r = InClosedRectangle (plain_point r.lower) (plain_point r.upper)
-
--- queries for what is in one of them, of what a triangulation draws and its links
-abbrev pub FindsVerticesInCircle : Triangulation → RawCircle → ℕ → ℕ → ℕ → List ℕ → List ℕ → Type 0
-FindsVerticesInCircle t c status was told old new =
-    Finding (MayAskCircle c) (AreVerticesInShape (circle_of c) t.points) (RefusesCircle c)
-    status was told old new
-
-abbrev pub FindsVerticesInRectangle : Triangulation → RawRectangle → ℕ → ℕ → ℕ → List ℕ → List ℕ
-    → Type 0
-FindsVerticesInRectangle t r status was told old new =
-    Finding (MayAskRectangle r) (AreVerticesInShape (rectangle_of r) t.points)
-    (RefusesRectangle r) status was told old new
-
-abbrev pub FindsEdgesInCircle : Triangulation → Mesh → RawCircle → ℕ → ℕ → ℕ → List ℕ → List ℕ
-    → Type 0
-FindsEdgesInCircle t m c status was told old new =
-    Finding (MayAskCircle c) (AreEdgesInShape (circle_of c) t.points m) (RefusesCircle c)
-    status was told old new
-
-abbrev pub FindsEdgesInRectangle : Triangulation → Mesh → RawRectangle → ℕ → ℕ → ℕ → List ℕ
-    → List ℕ → Type 0
-FindsEdgesInRectangle t m r status was told old new =
-    Finding (MayAskRectangle r) (AreEdgesInShape (rectangle_of r) t.points m)
-    (RefusesRectangle r) status was told old new
 
 -- ---- what a line meets
 -- what C is told of an item, where these pairs are constraints

@@ -1,5 +1,5 @@
 -- What a query may ask of a triangulation of either type.
-use Rattle.std.specs.Prelude.{◌≡◌, ℕ, List, Option}
+use Rattle.std.specs.Prelude.{ℕ, List}
 use Rattle.delaunay_edit.specs.half_edge_links.Mesh.{Mesh}
 use Rattle.delaunay_edit.specs.plane.Tiling.{Triangulation}
 use Rattle.delaunay_edit.specs.delaunay_legalization.Constraints.{constraints_by}

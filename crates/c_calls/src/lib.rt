@@ -2,6 +2,7 @@
 //! `c_triangulate` makes, has its contract here, and `tevasulim_c` hands them to C.
 #![tactic(auto)]
 
+mod beyond;
 mod calls;
 mod conflicts;
 mod copies;
@@ -23,6 +24,7 @@ pub mod statuses;
 mod told;
 mod words;
 
+pub use beyond::ListBeyond;
 pub use conflicts::ListConflicts;
 pub use handle::Handle;
 pub use layers::ListLayers;
@@ -30,7 +32,9 @@ pub use lines::WalkLine;
 pub use lists::{ListEdges, ListFaces, ListNumbers, ListPositions, write_faces};
 pub use queries::{Locate, is_in_range};
 pub use query::Query;
-pub use raw::{RawCounts, RawEdge, RawFace, RawMeeting, RawPlace, RawPoint, RawSegment, RawShape};
-pub use shapes::{FindEdges, FindVertices};
+pub use raw::{
+    RawBox, RawCounts, RawEdge, RawFace, RawMeeting, RawPlace, RawPoint, RawSegment, RawShape,
+};
+pub use shapes::{Edges, InShape, Part, Vertices};
 pub use sight::LookAlong;
 pub use words::{ended_words_of, write_words};

@@ -70,6 +70,17 @@ pub struct RawShape {
     pub radius_2: i64,
 }
 
+/// The sides of a box. One that is `i32::MIN` at the left or bottom, or `i32::MAX` at the right or
+/// top, is nowhere.
+#[repr(C)]
+#[derive(Clone, Copy)]
+pub struct RawBox {
+    pub left: i32,
+    pub bottom: i32,
+    pub right: i32,
+    pub top: i32,
+}
+
 /// How many elements a triangulation has.
 #[repr(C)]
 #[derive(Clone, Copy)]

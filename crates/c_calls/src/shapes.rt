@@ -1,15 +1,14 @@
 //! Vertices and edges in circles and rectangles.
-ghost use Rattle.std.specs.Prelude.{◌≡◌, MatchOption};
-ghost use Rattle.delaunay_edit.specs.delaunay_legalization.State.{triangulation_of};
+ghost use Rattle.std.specs.Prelude.{ℕ, List, All, IfErr, IfOk};
+ghost use Rattle.delaunay_edit.specs.plane.Fraction.{Fraction};
+ghost use Rattle.delaunay_edit.specs.plane.Tests.{InRange};
 ghost use Rattle.delaunay_queries.specs.Found.{edges_left, vertices_left};
-ghost use Rattle.c_calls.specs.Kept.{kept_place};
+ghost use Rattle.delaunay_shapes.specs.Start.{HasStartAt};
 ghost use Rattle.c_calls.specs.Links.{AreFew, indexes_in};
-ghost use Rattle.c_calls.specs.Queries.{FindsEdgesInCircle, FindsEdgesInRectangle};
-ghost use Rattle.c_calls.specs.Queries.{FindsVerticesInCircle, FindsVerticesInRectangle};
-ghost use Rattle.c_calls.specs.Queries.{MayAskCircle, MayAskRectangle, RefusesCircle};
-ghost use Rattle.c_calls.specs.Queries.{RefusesRectangle};
-ghost use Rattle.c_calls.specs.Shapes.{shape_circle, shape_rectangle};
-ghost use Rattle.c_calls.specs.Written.{Tells};
+ghost use Rattle.c_calls.specs.Metrics.{FindsPart, IsCircleOf, IsRectangleOf};
+ghost use Rattle.c_calls.specs.Shapes.{IsNoCircle, IsNoRectangle};
+ghost use Rattle.c_calls.specs.View.{View, view_of};
+ghost use Rattle.c_calls.specs.Written.{IsRawInRange, Tells, plain_point};
 
 use crate::queries::{is_in_range, point_of};
 use crate::query::Query;
@@ -17,7 +16,10 @@ use crate::raw::{NumberedPoint, RawPoint, RawShape};
 use crate::statuses::{NEGATIVE, NO_SUCH_KIND, OUT_OF_MEMORY, TOO_LARGE};
 use crate::told::{put, status_by_room};
 use delaunay_interface::Triangulation;
-use delaunay_queries::{EdgesInShapeIterator, FloatTriangulation, VerticesInShapeIterator};
+use delaunay_queries::{
+    CircleMetric, DistanceMetric, EdgesInShapeIterator, FloatTriangulation, RectangleMetric,
+    VerticesInShapeIterator,
+};
 use exact_predicates::ExactTests;
 use std::alloc::Global;
 
@@ -62,225 +64,138 @@ fn write_found_edges<V, DE, UE, F>(
     status_by_room(edges.len(), count)
 }
 
-/// A closed circle.
-#[derive(Clone, Copy)]
-pub struct RawCircle {
-    pub center: RawPoint,
-    pub radius_2: i64,
-}
-
-impl RawCircle {
-    // Its squared radius.
-    fn squared_radius(&self) -> i64
-        ensures { result ≡ self.now.radius_2 }
-    {
-        self.radius_2
-    }
-}
-
-/// A closed rectangle.
-#[derive(Clone, Copy)]
-pub struct RawRectangle {
-    pub lower: RawPoint,
-    pub upper: RawPoint,
-}
-
-// The circle of a shape.
-fn circle_of(shape: &RawShape) -> RawCircle
-    ensures { result ≡ shape_circle shape.now }
+// The circle of a shape, or why it may not be asked about.
+fn circle_of(shape: &RawShape) -> Result<CircleMetric<i32>, u32>
+    ensures circle { IfOk result (λ m. IsCircleOf shape.now m.center m.radius_2) }
+    ensures refused { IfErr result (IsNoCircle shape.now) }
 {
-    RawCircle {
-        center: shape.first,
-        radius_2: shape.radius_2,
+    if !is_in_range(&shape.first) {
+        return Err(TOO_LARGE);
     }
+    if shape.radius_2 < 0 {
+        return Err(NEGATIVE);
+    }
+    Ok(CircleMetric::new(point_of(&shape.first), shape.radius_2))
 }
 
-// The rectangle of a shape.
-fn rectangle_of(shape: &RawShape) -> RawRectangle
-    ensures { result ≡ shape_rectangle shape.now }
+// The rectangle of a shape, or why it may not be asked about.
+fn rectangle_of(shape: &RawShape) -> Result<RectangleMetric<i32>, u32>
+    ensures rectangle { IfOk result (λ m. IsRectangleOf shape.now m.lower m.upper) }
+    ensures refused { IfErr result (IsNoRectangle shape.now) }
 {
-    RawRectangle {
-        lower: shape.first,
-        upper: shape.second,
+    if !is_in_range(&shape.first) || !is_in_range(&shape.second) {
+        return Err(TOO_LARGE);
     }
+    Ok(RectangleMetric::new(point_of(&shape.first), point_of(&shape.second)))
 }
 
-// Why a circle may not be asked about, if it may not.
-fn circle_refusal(circle: &RawCircle) -> Option<u32>
-    ensures { MatchOption result (MayAskCircle circle.now) (RefusesCircle circle.now) }
-{
-    if !is_in_range(&circle.center) {
-        Some(TOO_LARGE)
-    } else if circle.radius_2 < 0 {
-        Some(NEGATIVE)
-    } else {
-        None
-    }
-}
+/// What a query looks for in a shape.
+pub trait Part {
+    // Whether a list of indexes has exactly those in a shape.
+    ghost are_in: { View → (Fraction → Type 0) → List ℕ → Type 0 };
 
-// Why a rectangle may not be asked about, if it may not.
-fn rectangle_refusal(rectangle: &RawRectangle) -> Option<u32>
-    ensures { MatchOption result (MayAskRectangle rectangle.now)
-        (RefusesRectangle rectangle.now) }
-{
-    if is_in_range(&rectangle.lower) && is_in_range(&rectangle.upper) {
-        None
-    } else {
-        Some(TOO_LARGE)
-    }
-}
-
-// Writes the vertices in a circle.
-fn vertices_in_circle<T: Triangulation<Vertex = NumberedPoint>>(
-    points: &T,
-    alloc: Global,
-    circle: RawCircle,
-    vertices: &mut [u32],
-    length: &mut usize,
-) -> u32
-    ensures { FindsVerticesInCircle (triangulation_of kept_place (T.state points.now)) circle
-        result length.old length.new vertices.old vertices.new }
-{
-    if let Some(status) = circle_refusal(&circle) {
-        return status;
-    }
-    let (center, radius_2) = (point_of(&circle.center), circle.squared_radius());
-    points.recall_invariant();
-    match points.get_vertices_in_circle(center, radius_2, &ExactTests, alloc) {
-        Ok(found) => write_vertices(found, vertices, length),
-        Err(_) => OUT_OF_MEMORY,
-    }
-}
-
-// Writes the edges in a circle.
-fn edges_in_circle<T: Triangulation<Vertex = NumberedPoint>>(
-    points: &T,
-    alloc: Global,
-    circle: RawCircle,
-    edges: &mut [u32],
-    length: &mut usize,
-) -> u32
-    ensures { FindsEdgesInCircle (triangulation_of kept_place (T.state points.now))
-        (T.state points.now).mesh circle result length.old length.new edges.old edges.new }
-{
-    if let Some(status) = circle_refusal(&circle) {
-        return status;
-    }
-    let (center, radius_2) = (point_of(&circle.center), circle.squared_radius());
-    points.recall_invariant();
-    match points.get_edges_in_circle(center, radius_2, &ExactTests, alloc) {
-        Ok(found) => write_found_edges(found, edges, length),
-        Err(_) => OUT_OF_MEMORY,
-    }
-}
-
-// Writes the vertices in a rectangle.
-#[tactic(auto, using(crate::proofs::Corners::corners_in_range))]
-fn vertices_in_rectangle<T: Triangulation<Vertex = NumberedPoint>>(
-    points: &T,
-    alloc: Global,
-    rectangle: RawRectangle,
-    vertices: &mut [u32],
-    length: &mut usize,
-) -> u32
-    ensures { FindsVerticesInRectangle (triangulation_of kept_place (T.state points.now))
-        rectangle result length.old length.new vertices.old vertices.new }
-{
-    if let Some(status) = rectangle_refusal(&rectangle) {
-        return status;
-    }
-    let (lower, upper) = (point_of(&rectangle.lower), point_of(&rectangle.upper));
-    points.recall_invariant();
-    match points.get_vertices_in_rectangle(lower, upper, &ExactTests, alloc) {
-        Ok(found) => write_vertices(found, vertices, length),
-        Err(_) => OUT_OF_MEMORY,
-    }
-}
-
-// Writes the edges in a rectangle.
-#[tactic(auto, using(crate::proofs::Corners::corners_in_range))]
-fn edges_in_rectangle<T: Triangulation<Vertex = NumberedPoint>>(
-    points: &T,
-    alloc: Global,
-    rectangle: RawRectangle,
-    edges: &mut [u32],
-    length: &mut usize,
-) -> u32
-    ensures { FindsEdgesInRectangle (triangulation_of kept_place (T.state points.now))
-        (T.state points.now).mesh rectangle result length.old length.new edges.old edges.new }
-{
-    if let Some(status) = rectangle_refusal(&rectangle) {
-        return status;
-    }
-    let (lower, upper) = (point_of(&rectangle.lower), point_of(&rectangle.upper));
-    points.recall_invariant();
-    match points.get_edges_in_rectangle(lower, upper, &ExactTests, alloc) {
-        Ok(found) => write_found_edges(found, edges, length),
-        Err(_) => OUT_OF_MEMORY,
-    }
-}
-
-/// The vertices in a shape.
-#[derive(Drop)]
-pub struct FindVertices {
-    pub shape: RawShape,
-}
-
-impl Query for FindVertices {
-    ghost use Rattle.c_calls.specs.Shapes.{FindsVerticesIn};
-
-    type Item = u32;
-
-    type Told = usize;
-
-    ghost tells = { λ q v status was told old new. FindsVerticesIn v.drawing q.shape status was told
-        old new };
-
-    fn ask<T: Triangulation<Vertex = NumberedPoint>>(
-        &self,
+    /// Writes the indexes of those in a shape that may be asked about, as far as there is room, and
+    /// how many there are. The search begins at `start`.
+    fn find<T: Triangulation<Vertex = NumberedPoint>, M: DistanceMetric<i32>>(
         points: &T,
         alloc: Global,
+        metric: &M,
+        start: &RawPoint,
+        indexes: &mut [u32],
+        length: &mut usize,
+    ) -> u32
+        requires own_in_range { All InRange (M.own_points metric.now) }
+        requires start_in_range { IsRawInRange start.now }
+        requires begins { HasStartAt (M.shape metric.now) (plain_point start.now) }
+        ensures { FindsPart are_in (view_of T.Constraints.constraints (T.state points.now))
+            (M.shape metric.now) result length.old length.new indexes.old indexes.new };
+}
+
+/// Vertices.
+#[derive(Drop)]
+pub struct Vertices;
+
+impl Part for Vertices {
+    ghost use Rattle.delaunay_shapes.specs.InShape.{AreVerticesInShape};
+
+    ghost are_in = { λ v Shape. AreVerticesInShape Shape v.drawing.points };
+
+    fn find<T: Triangulation<Vertex = NumberedPoint>, M: DistanceMetric<i32>>(
+        points: &T,
+        alloc: Global,
+        metric: &M,
+        start: &RawPoint,
         vertices: &mut [u32],
         length: &mut usize,
     ) -> u32 {
-        let shape = &self.shape;
-        match shape.kind {
-            CIRCLE => vertices_in_circle(points, alloc, circle_of(shape), vertices, length),
-            RECTANGLE => {
-                vertices_in_rectangle(points, alloc, rectangle_of(shape), vertices, length)
-            }
-            _ => NO_SUCH_KIND,
+        points.recall_invariant();
+        match points.get_vertices_in_shape(metric, point_of(start), &ExactTests, alloc) {
+            Ok(found) => write_vertices(found, vertices, length),
+            Err(_) => OUT_OF_MEMORY,
         }
     }
 }
 
-/// The edges with a point in a shape.
+/// Edges, each if it has a point in the shape.
 #[derive(Drop)]
-pub struct FindEdges {
+pub struct Edges;
+
+impl Part for Edges {
+    ghost use Rattle.delaunay_shapes.specs.InShape.{AreEdgesInShape};
+
+    ghost are_in = { λ v Shape. AreEdgesInShape Shape v.drawing.points v.links };
+
+    fn find<T: Triangulation<Vertex = NumberedPoint>, M: DistanceMetric<i32>>(
+        points: &T,
+        alloc: Global,
+        metric: &M,
+        start: &RawPoint,
+        edges: &mut [u32],
+        length: &mut usize,
+    ) -> u32 {
+        points.recall_invariant();
+        match points.get_edges_in_shape(metric, point_of(start), &ExactTests, alloc) {
+            Ok(found) => write_found_edges(found, edges, length),
+            Err(_) => OUT_OF_MEMORY,
+        }
+    }
+}
+
+/// The vertices or the edges in a shape.
+#[derive(Drop)]
+pub struct InShape<K> {
+    pub part: K,
     pub shape: RawShape,
 }
 
-impl Query for FindEdges {
-    ghost use Rattle.c_calls.specs.Shapes.{FindsEdgesIn};
+impl<K: Part> Query for InShape<K> {
+    ghost use Rattle.c_calls.specs.Shapes.{FindsIn};
 
     type Item = u32;
 
     type Told = usize;
 
-    ghost tells = { λ q v status was told old new. FindsEdgesIn v.drawing v.links q.shape status was
-        told old new };
+    ghost tells = { λ q v status was told old new. FindsIn (K.are_in v) q.shape status was told old
+        new };
 
+    #[tactic(auto, using(crate::proofs::Found::shape_query))]
     fn ask<T: Triangulation<Vertex = NumberedPoint>>(
         &self,
         points: &T,
         alloc: Global,
-        edges: &mut [u32],
+        indexes: &mut [u32],
         length: &mut usize,
     ) -> u32 {
-        let shape = &self.shape;
-        match shape.kind {
-            CIRCLE => edges_in_circle(points, alloc, circle_of(shape), edges, length),
-            RECTANGLE => edges_in_rectangle(points, alloc, rectangle_of(shape), edges, length),
+        let start = &self.shape.first;
+        match self.shape.kind {
+            CIRCLE => match circle_of(&self.shape) {
+                Ok(circle) => K::find(points, alloc, &circle, start, indexes, length),
+                Err(status) => status,
+            },
+            RECTANGLE => match rectangle_of(&self.shape) {
+                Ok(rectangle) => K::find(points, alloc, &rectangle, start, indexes, length),
+                Err(status) => status,
+            },
             _ => NO_SUCH_KIND,
         }
     }

@@ -1,4 +1,6 @@
 pub mod Splits
+pub mod Cuts
+pub mod Longs
 pub mod Powers
 pub mod Spellings
 pub mod Reaches

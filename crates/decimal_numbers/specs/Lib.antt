@@ -1,3 +1,4 @@
 pub mod Grammar
+pub mod Long
 pub mod Reading
 pub mod Value

@@ -32,10 +32,10 @@ pub enum DecimalError {
 }
 
 /// The most digits behind the point, and the largest power of ten.
-const MAX_DIGITS: u64 = 400;
+pub(crate) const MAX_DIGITS: u64 = 400;
 
 /// The number that digits write behind those of another number, if it fits.
-fn append_digits(number: u64, digits: &[u8]) -> Option<u64>
+pub(crate) fn append_digits(number: u64, digits: &[u8]) -> Option<u64>
     requires { AllDigits 10 digits.now }
     ensures some { IfSome result (λ n. n ≡ digits_value_after 10 number digits.now) }
     ensures none { IfNone result (2 ^ 64 ≤ digits_value_after 10 number digits.now) }

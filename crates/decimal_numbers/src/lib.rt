@@ -2,8 +2,10 @@
 #![tactic(auto)]
 
 mod decimal;
+mod long;
 mod parts;
 mod scale;
 
 pub use decimal::{Decimal, DecimalError};
+pub use long::LongDecimal;
 pub use scale::{Scale, ScaleError};

@@ -12,6 +12,9 @@ use thiserror::Error;
 /// The largest coordinate, and how far the least is below 0.
 const REACH: i64 = 1 << 29;
 
+/// How far from 0 the numbers of a scale may be that has its origin there: half of the range.
+const ROOM: i64 = 1 << 28;
+
 /// The largest number in units of a scale.
 const MAX_UNITS: u64 = 1 << 62;
 
@@ -94,17 +97,29 @@ fn nearest_quotient(number: u64, unit: u64) -> u64
     }
 }
 
+/// What is in the middle between two numbers that are at most 2^30 apart.
+fn middle(least: i64, most: i64) -> i64
+    ensures { IsWithin (2 ^ 62) least → (most -ℤ least) ≤ℤ pos (2 ^ 30) → (z : ℤ)
+        → least ≤ℤ z → z ≤ℤ most → IsWithin (2 ^ 29) (z -ℤ result) }
+{
+    let half = (most.abs_diff(least) / 2).min(REACH as u64);
+    if least > MAX_UNITS as i64 {
+        return least;
+    }
+    least + half as i64
+}
+
 impl Scale {
-    /// The scale of numbers from `least` to `most`, in units of 10^-`digits`: at 0 where that will
-    /// do, else with `least` at the least coordinate.
+    /// The scale of numbers from `least` to `most`, in units of 10^-`digits`: at 0 where they take no
+    /// more than the middle half of the range then, else with them in the middle of it.
     pub fn between(digits: u32, least: i64, most: i64) -> Scale
         ensures digits { result.digits ≡ digits }
         ensures fits { IsWithin (2 ^ 62) least → (most -ℤ least) ≤ℤ pos (2 ^ 30) →
             (z : ℤ) → least ≤ℤ z → z ≤ℤ most → IsWithin (2 ^ 29) (z -ℤ result.origin) }
     {
-        let at_0 = -REACH <= least && most <= REACH;
+        let at_0 = -ROOM <= least && most <= ROOM;
         Scale {
-            origin: if at_0 { 0 } else { least.saturating_add(REACH) },
+            origin: if at_0 { 0 } else { middle(least, most) },
             digits,
         }
     }

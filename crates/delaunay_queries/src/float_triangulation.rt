@@ -3,6 +3,7 @@ ghost use Rattle.std.specs.Prelude.{◌≤ℤ◌, pos, All, IfOk};
 ghost use Rattle.delaunay_interface.specs.delaunay_core.Place.{place_of};
 ghost use Rattle.delaunay_interface.specs.delaunay_edit.Headline.{AreSites};
 ghost use Rattle.delaunay_shapes.specs.Left.{edges_left, vertices_left};
+ghost use Rattle.delaunay_shapes.specs.Start.{HasStartAt};
 ghost use Rattle.delaunay_shapes.specs.Tests.{corners};
 ghost use Rattle.delaunay_queries.specs.Found.{FindsEdges, FindsVertices};
 ghost use Rattle.delaunay_interface.specs.plane.Shape.{InClosedCircle, InClosedRectangle};
@@ -12,8 +13,8 @@ use delaunay_interface::delaunay_core::math::PlaneTests;
 use delaunay_interface::delaunay_core::point::{HasPosition, Point2};
 use delaunay_interface::{DirectedOf, FaceOf, Triangulation, UndirectedOf, VertexOf};
 use delaunay_shapes::{
-    CircleMetric, EdgesInShapeIterator, RectangleMetric, VerticesInShapeIterator, edges_in_shape,
-    vertices_in_shape,
+    CircleMetric, DistanceMetric, EdgesInShapeIterator, RectangleMetric, VerticesInShapeIterator,
+    edges_in_shape, vertices_in_shape,
 };
 use std::alloc::{AllocError, Global};
 
@@ -57,6 +58,55 @@ pub type VerticesIn<'a, T> = VerticesInShapeIterator<
 /// }
 /// ```
 pub trait FloatTriangulation: Triangulation {
+    /// The edges with a point in a closed shape, each once: the tests cover the shape's own points,
+    /// and `start`, which is a circle's centre or a rectangle's lower corner. It gives `AllocError`
+    /// where memory was refused.
+    final fn get_edges_in_shape<M: DistanceMetric<ScalarOf<Self>>, P: PlaneTests<ScalarOf<Self>>>(
+        &self,
+        metric: &M,
+        start: PointOf<Self>,
+        tests: &P,
+        alloc: Global,
+    ) -> Result<EdgesIn<'_, Self>, AllocError>
+        requires sites { AreSites Self.Vertex.place (P.sites tests.now)
+            (Self.state self.now).vertices }
+        requires own_covered { All (P.covered tests.now) (M.own_points metric.now) }
+        requires start_covered { P.covered tests.now (place_of Self.Vertex.Scalar.whole start) }
+        requires begins { HasStartAt (M.shape metric.now)
+            (place_of Self.Vertex.Scalar.whole start) }
+        ensures { IfOk result (λ it. FindsEdges Self.Vertex.place (Self.state self.now)
+            (M.shape metric.now) (edges_left it)) }
+    {
+        let hint = self.search_start(start, tests);
+        edges_in_shape(self.s(), metric, start, hint, tests, alloc)
+    }
+
+    /// The vertices in a closed shape, each once: the tests cover the shape's own points,
+    /// and `start`, which is a circle's centre or a rectangle's lower corner. It gives `AllocError`
+    /// where memory was refused.
+    final fn get_vertices_in_shape<
+        M: DistanceMetric<ScalarOf<Self>>,
+        P: PlaneTests<ScalarOf<Self>>,
+    >(
+        &self,
+        metric: &M,
+        start: PointOf<Self>,
+        tests: &P,
+        alloc: Global,
+    ) -> Result<VerticesIn<'_, Self>, AllocError>
+        requires sites { AreSites Self.Vertex.place (P.sites tests.now)
+            (Self.state self.now).vertices }
+        requires own_covered { All (P.covered tests.now) (M.own_points metric.now) }
+        requires start_covered { P.covered tests.now (place_of Self.Vertex.Scalar.whole start) }
+        requires begins { HasStartAt (M.shape metric.now)
+            (place_of Self.Vertex.Scalar.whole start) }
+        ensures { IfOk result (λ it. FindsVertices Self.Vertex.place (Self.state self.now)
+            (M.shape metric.now) (vertices_left it)) }
+    {
+        let hint = self.search_start(start, tests);
+        vertices_in_shape(self.s(), metric, start, hint, tests, alloc)
+    }
+
     /// The edges with a point in a closed rectangle, each once: none where `upper` is left of
     /// `lower` or below it. It gives `AllocError` where memory was refused.
     final fn get_edges_in_rectangle<P: PlaneTests<ScalarOf<Self>>>(
@@ -75,8 +125,7 @@ pub trait FloatTriangulation: Triangulation {
             (InClosedRectangle (place_of whole lower) (place_of whole upper)) (edges_left it)) }
     {
         let rectangle = RectangleMetric::new(lower, upper);
-        let hint = self.search_start(lower, tests);
-        edges_in_shape(self.s(), &rectangle, lower, hint, tests, alloc)
+        self.get_edges_in_shape(&rectangle, lower, tests, alloc)
     }
 
     /// The vertices in a closed rectangle, each once: none where `upper` is left of `lower` or
@@ -97,8 +146,7 @@ pub trait FloatTriangulation: Triangulation {
             (InClosedRectangle (place_of whole lower) (place_of whole upper)) (vertices_left it)) }
     {
         let rectangle = RectangleMetric::new(lower, upper);
-        let hint = self.search_start(lower, tests);
-        vertices_in_shape(self.s(), &rectangle, lower, hint, tests, alloc)
+        self.get_vertices_in_shape(&rectangle, lower, tests, alloc)
     }
 
     /// The edges with a point in a closed circle, each once. The squared radius is not negative.
@@ -118,8 +166,7 @@ pub trait FloatTriangulation: Triangulation {
             (InClosedCircle (place_of Self.Vertex.Scalar.whole center) radius_2) (edges_left it)) }
     {
         let circle = CircleMetric::new(center, radius_2);
-        let hint = self.search_start(center, tests);
-        edges_in_shape(self.s(), &circle, center, hint, tests, alloc)
+        self.get_edges_in_shape(&circle, center, tests, alloc)
     }
 
     /// The vertices in a closed circle, each once. The squared radius is not negative. It gives
@@ -140,8 +187,7 @@ pub trait FloatTriangulation: Triangulation {
             (vertices_left it)) }
     {
         let circle = CircleMetric::new(center, radius_2);
-        let hint = self.search_start(center, tests);
-        vertices_in_shape(self.s(), &circle, center, hint, tests, alloc)
+        self.get_vertices_in_shape(&circle, center, tests, alloc)
     }
 }
 

@@ -1,5 +1,5 @@
 //! Side and circle tests by determinants, true at every point in range: what most callers hand to a
-//! triangulation.
+//! triangulation. And whether a circle's disk stays within some sides.
 //!
 //! ```
 //! let mut t: DelaunayTriangulation<Point2<i64>> = DelaunayTriangulation::new(rt.alloc());
@@ -18,9 +18,12 @@ ghost use Rattle.plane.specs.Tests.{IsCoordinate, InRange};
 ghost use Rattle.delaunay_core.specs.Place.{place_of};
 ghost use Rattle.exact_predicates.specs.Angles.{dot_at};
 
+mod disks;
+
 use delaunay_core::line_side_info::LineSideInfo;
 use delaunay_core::math::PlaneTests;
 use delaunay_core::point::{Point2, SpadeNum};
+pub use disks::{Sides, is_disk_within};
 
 /// Tests for every scalar of the library: each point in range is covered, and is a site. A side is
 /// the sign of one determinant in 64 bits, a circle that of one in 128 bits.

@@ -19,8 +19,3 @@ pub fn scalar_product(a: Point2<i32>, b: Point2<i32>, c: Point2<i32>) -> i64 {
     let (cx, cy) = (way_to(a.x, c.x), way_to(a.y, c.y));
     bx.wrapping_mul(cx).wrapping_add(by.wrapping_mul(cy))
 }
-
-/// The square of the distance of two points. Coordinates are in range.
-pub fn squared_distance(a: Point2<i32>, b: Point2<i32>) -> u64 {
-    scalar_product(a, b, b).unsigned_abs()
-}

@@ -122,7 +122,7 @@ fn tell_crossing(rt: &impl Eprint, task: &Task<'_>, crossing: Crossing<'_>) -> a
     if !task.skips_crossing {
         bail!("{crossing}");
     }
-    eprintln!(rt; "mesh: {crossing}, and is left out")?;
+    let _ = eprintln!(rt; "mesh: {crossing}, and is left out");
     Ok(())
 }
 
@@ -196,15 +196,14 @@ fn drawing_fault(task: &Task<'_>, drawing: &Drawing, error: DrawingError) -> any
 }
 
 /// Tells how many there are of each.
-fn tell_counts(rt: &impl Eprint, points: usize, drawn: &DrawnLists<'_>) -> anyhow::Result<()> {
+fn tell_counts(rt: &impl Eprint, points: usize, drawn: &DrawnLists<'_>) {
     let vertices = drawn.places.len();
     if vertices < points {
         let repeated = points.saturating_sub(vertices);
-        eprintln!(rt; "mesh: {repeated} points repeat others, and are in no face")?;
+        let _ = eprintln!(rt; "mesh: {repeated} points repeat others, and are in no face");
     }
     let (faces, walls) = (drawn.faces.len(), drawn.constraints);
-    eprintln!(rt; "mesh: {vertices} vertices, {faces} faces, {walls} constraints")?;
-    Ok(())
+    let _ = eprintln!(rt; "mesh: {vertices} vertices, {faces} faces, {walls} constraints");
 }
 
 /// The triangulation of a drawing, with the faces that are kept.
@@ -242,10 +241,10 @@ pub fn tell_drawn<T: Triangulation<Vertex = Point2<i32>>>(
     drawn: &DrawnLists<'_>,
 ) -> anyhow::Result<()> {
     tell_crossings(rt, task, scene, site, drawn.taken)?;
-    if task.is_quiet {
-        return Ok(());
+    if !task.is_quiet {
+        tell_counts(rt, scene.scaled.points.len(), drawn);
     }
-    tell_counts(rt, scene.scaled.points.len(), drawn)
+    Ok(())
 }
 
 /// Writes a mesh to standard output, or to the file that is asked for.

@@ -9,11 +9,13 @@ mod heights;
 mod nearest;
 mod places;
 mod way;
+mod wide;
 
 use crate::building::{DrawnLists, tell_drawn, triangulate_scene, write_triangulated};
 use crate::nearest::tell_nearest;
 use crate::places::tell_places;
 use crate::way::tell_way;
+use anyhow::bail;
 use delaunay_interface::Triangulation;
 use delaunay_interface::delaunay_core::point::Point2;
 use mesh_io::{Question, Scene, Task, command, read_scene, task_of, tell_step};
@@ -50,13 +52,13 @@ fn tell_and_write<T: Triangulation<Vertex = Point2<i32>>>(
             return Ok(());
         }
     }
-    tell_step(rt, task, scene.scaled.points.len(), "writing")?;
+    tell_step(rt, task, scene.scaled.points.len(), "writing");
     write_triangulated(rt, task, scene, site, drawn)
 }
 
 /// Triangulates a drawing, and tells and writes what is asked for.
 fn build_and_write(rt: &HostRuntime, task: &Task<'_>, scene: &Scene) -> anyhow::Result<()> {
-    tell_step(rt, task, scene.scaled.points.len(), "triangulating")?;
+    tell_step(rt, task, scene.scaled.points.len(), "triangulating");
     let drawn = triangulate_scene(task, scene, rt.alloc())?;
     let lists = DrawnLists {
         places: drawn.vertices.as_slice(),
@@ -69,6 +71,10 @@ fn build_and_write(rt: &HostRuntime, task: &Task<'_>, scene: &Scene) -> anyhow::
 
 /// Does what a task asks for. Which point is nearest does not depend on the segments.
 fn carry_out(rt: &HostRuntime, task: &Task<'_>) -> anyhow::Result<()> {
+    if task.form.is_none() {
+        let name = task.output.unwrap_or("");
+        bail!("{name}: it ends in no form that is written; --to names one");
+    }
     let scene = read_scene(rt, task)?;
     if let Some(Question::Nearest(_)) = task.question {
         tell_nearest(rt, &scene)?;
@@ -90,7 +96,7 @@ fn tell_outcome(rt: &impl Eprint, outcome: &anyhow::Result<()>) -> anyhow::Resul
     match outcome {
         Ok(()) => Ok(ExitCode::SUCCESS),
         Err(error) => {
-            eprintln!(rt; "mesh: {error:#}")?;
+            let _ = eprintln!(rt; "mesh: {error:#}");
             Ok(ExitCode::from(1))
         }
     }

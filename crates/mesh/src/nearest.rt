@@ -1,15 +1,15 @@
 //! Which point of a drawing is nearest to each that is asked about.
-use crate::areas::squared_distance;
 use crate::building::point_place;
+use crate::wide::{push_wide, thousandths_of_root};
 use anyhow::Context;
-use decimal_numbers::Decimal;
 use delaunay_interface::delaunay_core::HintGenerator;
 use delaunay_interface::delaunay_core::math::validate_vertex;
 use delaunay_interface::delaunay_core::point::Point2;
+use delaunay_interface::half_edge_mesh::VertexHandle;
 use delaunay_interface::{DelaunayTriangulation, Triangulation};
 use drawing_faces::place_points;
 use exact_predicates::ExactTests;
-use mesh_files::Spot;
+use mesh_files::{Asked, Drawing, Number, Spot};
 use mesh_io::Scene;
 use std::alloc::{AllocError, Global};
 use std::io;
@@ -19,47 +19,84 @@ use std::io::{BufWriter, Write};
 #[derive(Clone, Copy)]
 struct NearestPoint {
     place: u32,
-    squared: u64,
+    squared: u128,
 }
 
-/// Puts a number behind a line, with a comma.
-fn push_number(line: &mut String, number: &Decimal) -> Result<(), AllocError> {
-    write!(line, "{number},")
+/// A point that is asked about, in range or outside it.
+#[derive(Clone, Copy)]
+struct WidePoint {
+    x: i64,
+    y: i64,
 }
 
-/// Puts the numbers of a point behind a line, each with a comma.
-pub fn push_spot(line: &mut String, spot: &Spot) -> Result<(), AllocError> {
-    push_number(line, &spot.x.decimal)?;
-    push_number(line, &spot.y.decimal)
+impl WidePoint {
+    /// The square of how far it is from a point.
+    fn squared_distance(self, point: Point2<i32>) -> u128 {
+        let dx = u128::from(self.x.abs_diff(i64::from(point.x)));
+        let dy = u128::from(self.y.abs_diff(i64::from(point.y)));
+        dx.wrapping_mul(dx).wrapping_add(dy.wrapping_mul(dy))
+    }
+
+    /// The point of the range that is nearest to it.
+    fn in_range(self) -> Point2<i32> {
+        let reach = 1i64 << 29;
+        let x = self.x.min(reach).max(-reach);
+        let y = self.y.min(reach).max(-reach);
+        Point2::new(i32::try_from(x).unwrap_or(0), i32::try_from(y).unwrap_or(0))
+    }
 }
 
-/// The distance of two points, rounded to three digits more than their numbers have.
-fn distance_of(squared: u64, digits: u32) -> Decimal {
-    let finer = u128::from(squared).wrapping_mul(1_000_000);
-    let root = finer.isqrt();
-    let rounds_up = root.wrapping_mul(root).wrapping_add(root) < finer;
-    let root = root.wrapping_add(u128::from(rounds_up));
-    let distance = Decimal {
-        negative: false,
-        magnitude: u64::try_from(root).unwrap_or(u64::MAX),
-        digits: digits.saturating_add(3),
-    };
-    distance.shortened()
+/// Puts a number behind a line, as it came, with a comma.
+fn push_number(line: &mut String, drawing: &Drawing, number: &Number) -> Result<(), AllocError> {
+    match str::from_utf8(drawing.text_of(number)) {
+        Ok(text) => line.push_str(text)?,
+        Err(_) => {}
+    }
+    line.push(',')
 }
 
-/// The point that is nearest to one in range, if there is a point.
+/// Puts the numbers of a point behind a line, as they came, each with a comma.
+pub fn push_spot(line: &mut String, drawing: &Drawing, spot: &Spot) -> Result<(), AllocError> {
+    push_number(line, drawing, &spot.x)?;
+    push_number(line, drawing, &spot.y)
+}
+
+/// A neighbour that is nearer to a point than a vertex, if there is one.
+fn nearer_neighbour<'a, DE, UE, F>(
+    vertex: VertexHandle<'a, Point2<i32>, DE, UE, F>,
+    asked: WidePoint,
+) -> Option<VertexHandle<'a, Point2<i32>, DE, UE, F>> {
+    let here = asked.squared_distance(*vertex.data());
+    for edge in vertex.out_edges() {
+        let [_, neighbour] = edge.vertices();
+        if asked.squared_distance(*neighbour.data()) < here {
+            return Some(neighbour);
+        }
+    }
+    None
+}
+
+/// The point that is nearest to one, if there is a point: a vertex with no neighbour that is
+/// nearer, from that on which is nearest to the range's nearest point.
 fn nearest_to<DE, UE, F, L: HintGenerator<i32>>(
     plain: &DelaunayTriangulation<Point2<i32>, DE, UE, F, L>,
     places: &[u32],
-    point: Point2<i32>,
+    asked: WidePoint,
 ) -> Option<NearestPoint> {
+    let point = asked.in_range();
     if validate_vertex(&point).is_err() {
         return None;
     }
-    let vertex = plain.nearest_neighbor(point, &ExactTests)?;
+    let mut vertex = plain.nearest_neighbor(point, &ExactTests)?;
+    for _ in 0..places.len() {
+        let Some(nearer) = nearer_neighbour(vertex, asked) else {
+            break;
+        };
+        vertex = nearer;
+    }
     Some(NearestPoint {
         place: point_place(places, vertex.fix().index()),
-        squared: squared_distance(point, *vertex.data()),
+        squared: asked.squared_distance(*vertex.data()),
     })
 }
 
@@ -73,14 +110,38 @@ fn push_nearest(
         return line.push_str(",,\n");
     };
     let number = u64::from(nearest.place) + 1;
-    let distance = distance_of(nearest.squared, digits);
-    let squared = Decimal {
-        negative: false,
-        magnitude: nearest.squared,
-        digits: digits.saturating_mul(2),
-    };
-    let squared = squared.shortened();
-    writeln!(line, "{number},{distance},{squared}")
+    write!(line, "{number},")?;
+    let distance = thousandths_of_root(nearest.squared);
+    push_wide(line, distance, digits.saturating_add(3))?;
+    line.push(',')?;
+    push_wide(line, nearest.squared, digits.saturating_mul(2))?;
+    line.push('\n')
+}
+
+/// Where a point is that is asked about, if it is not too far to be compared.
+fn wide_point(asked: Asked) -> Option<WidePoint> {
+    match asked {
+        Asked::Near(point) => Some(WidePoint {
+            x: i64::from(point.x),
+            y: i64::from(point.y),
+        }),
+        Asked::Far { x, y } => Some(WidePoint { x, y }),
+        Asked::Beyond => None,
+    }
+}
+
+/// Puts the nearest point to one behind a line, or that it is too far to be compared.
+fn push_answer<DE, UE, F, L: HintGenerator<i32>>(
+    line: &mut String,
+    digits: u32,
+    plain: &DelaunayTriangulation<Point2<i32>, DE, UE, F, L>,
+    places: &[u32],
+    asked: Asked,
+) -> Result<(), AllocError> {
+    match wide_point(asked) {
+        Some(point) => push_nearest(line, digits, nearest_to(plain, places, point)),
+        None => line.push_str("too far,,\n"),
+    }
 }
 
 fn write_nearest<W: Write, DE, UE, F, L: HintGenerator<i32>>(
@@ -93,10 +154,10 @@ fn write_nearest<W: Write, DE, UE, F, L: HintGenerator<i32>>(
     let digits = scene.scaled.x_scale.digits;
     writer.write_all(b"x,y,point,distance,distance_2\n")?;
     let mut line = String::new(alloc);
-    for (spot, point) in scene.asked.iter().zip(&scene.asked_points) {
+    for (spot, point) in scene.asked.spots.iter().zip(&scene.asked_points) {
         line.clear();
-        push_spot(&mut line, spot)?;
-        push_nearest(&mut line, digits, nearest_to(plain, places, *point))?;
+        push_spot(&mut line, &scene.asked, spot)?;
+        push_answer(&mut line, digits, plain, places, *point)?;
         writer.write_all(line.as_bytes())?;
     }
     writer.flush()

@@ -11,7 +11,7 @@ use delaunay_interface::delaunay_core::point::Point2;
 use delaunay_interface::half_edge_mesh::{DirectedEdgeHandle, FaceHandle};
 use delaunay_interface::{PositionInTriangulation, Triangulation};
 use exact_predicates::ExactTests;
-use mesh_files::Drawing;
+use mesh_files::{Asked, Drawing};
 use mesh_io::Scene;
 use std::alloc::{AllocError, Global};
 use std::io;
@@ -86,15 +86,23 @@ fn weighed_corners<DE, UE, F>(
     ]
 }
 
-/// Puts what a point in range is on behind a line.
+/// What a point outside the range is on: nothing, as all points are in range.
+fn place_outside(vertices: usize) -> &'static str {
+    if vertices < 2 { "nowhere" } else { "outside" }
+}
+
+/// Puts what a point is on behind a line.
 fn push_place<T: Triangulation<Vertex = Point2<i32>>>(
     line: &mut String,
     drawing: &Drawing,
     site: &T,
     places: &[u32],
-    point: Point2<i32>,
+    asked: Asked,
 ) -> Result<(), AllocError> {
     site.recall_invariant();
+    let Asked::Near(point) = asked else {
+        return push_parts(line, drawing, place_outside(site.num_vertices()), &[]);
+    };
     if validate_vertex(&point).is_err() {
         return line.push_str(",,,,\n");
     }
@@ -127,9 +135,9 @@ fn write_places<W: Write, T: Triangulation<Vertex = Point2<i32>>>(
 ) -> io::Result<()> {
     writer.write_all(b"x,y,on,a,b,c,z\n")?;
     let mut line = String::new(alloc);
-    for (spot, point) in scene.asked.iter().zip(&scene.asked_points) {
+    for (spot, point) in scene.asked.spots.iter().zip(&scene.asked_points) {
         line.clear();
-        push_spot(&mut line, spot)?;
+        push_spot(&mut line, &scene.asked, spot)?;
         push_place(&mut line, &scene.drawing, site, places, *point)?;
         writer.write_all(line.as_bytes())?;
     }

@@ -6,6 +6,7 @@ use delaunay_interface::delaunay_core::point::Point2;
 use delaunay_interface::half_edge_mesh::{DirectedEdgeHandle, FixedVertexHandle};
 use delaunay_interface::{Intersection, LineIntersectionIterator, Triangulation};
 use exact_predicates::ExactTests;
+use mesh_files::Asked;
 use mesh_io::Scene;
 use std::alloc::{AllocError, Global};
 use std::io;
@@ -81,8 +82,8 @@ pub fn tell_way<T: Triangulation<Vertex = Point2<i32>>>(
     site: &T,
     places: &[u32],
 ) -> anyhow::Result<()> {
-    let (Some(from), Some(to)) = (scene.asked_points.first(), scene.asked_points.get(1)) else {
-        bail!("--line has two points");
+    let [Asked::Near(from), Asked::Near(to)] = scene.asked_points.as_slice() else {
+        bail!("--line: an end is outside the range of coordinates, 2^29 units from the middle");
     };
     let mut writer = BufWriter::new(rt.alloc(), io::writer(rt))?;
     write_way(&mut writer, site, places, *from, *to, rt.alloc()).context("standard output")

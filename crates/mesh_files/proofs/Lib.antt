@@ -1,3 +1,4 @@
+pub mod Numbers
 pub mod PointRows
 pub mod PositionRuns
 pub mod Skips

@@ -15,6 +15,30 @@ pub(crate) fn word_of(record: &ByteRecord, column: usize) -> &[u8]
     record.get(column).unwrap_or(&[]).trim_ascii()
 }
 
+/// The names of the columns of coordinates, where they are given.
+#[derive(Clone, Copy)]
+pub struct ColumnNames<'a> {
+    pub x: Option<&'a str>,
+    pub y: Option<&'a str>,
+    pub z: Option<&'a str>,
+}
+
+impl ColumnNames<'_> {
+    /// No names: those are taken that are known.
+    pub fn new() -> Self {
+        ColumnNames {
+            x: None,
+            y: None,
+            z: None,
+        }
+    }
+}
+
+/// Names by which the columns of coordinates are known, after `x` and `y`.
+const X_NAMES: [&str; 4] = ["lon", "long", "longitude", "easting"];
+
+const Y_NAMES: [&str; 3] = ["lat", "latitude", "northing"];
+
 /// Where the columns of points are.
 #[derive(Drop)]
 pub(crate) struct Columns {
@@ -37,6 +61,38 @@ fn column(header: &ByteRecord, name: &str) -> Option<usize> {
     None
 }
 
+/// The first column of a name that is given, or else of one that is known.
+fn known_column(
+    header: &ByteRecord,
+    given: Option<&str>,
+    name: &'static str,
+    others: &[&str],
+) -> Result<usize, FileFault> {
+    if let Some(given) = given {
+        return match column(header, given) {
+            Some(column) => Ok(column),
+            None => Err(FileFault::at(1, Reason::NoGivenColumn(name))),
+        };
+    }
+    if let Some(column) = column(header, name) {
+        return Ok(column);
+    }
+    for other in others {
+        if let Some(column) = column(header, other) {
+            return Ok(column);
+        }
+    }
+    Err(FileFault::at(1, Reason::NoColumn(name)))
+}
+
+/// The column of heights: that of the name that is given, or else of `z`, if there is one.
+fn height_column(header: &ByteRecord, given: Option<&str>) -> Result<Option<usize>, FileFault> {
+    match given {
+        Some(_) => Ok(Some(known_column(header, given, "z", &[])?)),
+        None => Ok(column(header, "z")),
+    }
+}
+
 pub(crate) fn needed_column(header: &ByteRecord, name: &'static str) -> Result<usize, FileFault> {
     match column(header, name) {
         Some(column) => Ok(column),
@@ -46,11 +102,11 @@ pub(crate) fn needed_column(header: &ByteRecord, name: &'static str) -> Result<u
 
 impl Columns {
     /// The columns of a header, of which those of coordinates have to be there.
-    pub(crate) fn of(header: &ByteRecord) -> Result<Self, FileFault> {
+    pub(crate) fn of(header: &ByteRecord, names: ColumnNames<'_>) -> Result<Self, FileFault> {
         Ok(Columns {
-            x: needed_column(header, "x")?,
-            y: needed_column(header, "y")?,
-            z: column(header, "z"),
+            x: known_column(header, names.x, "x", X_NAMES.as_slice())?,
+            y: known_column(header, names.y, "y", Y_NAMES.as_slice())?,
+            z: height_column(header, names.z)?,
             ring: column(header, "ring"),
             path: column(header, "line"),
         })

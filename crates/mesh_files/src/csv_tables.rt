@@ -1,8 +1,8 @@
-//! Tables of comma-separated values with a header. Points have the columns `x` and `y`, and where
-//! there are such `z`, `ring` and `line`: rows next to one another with the same word for `ring`
-//! are the corners of a polygon, and with the same word for `line` the points of a path. Segments
-//! have the columns `from` and `to`: numbers of points, from 1, in the order of their rows. Further
-//! columns are left out, which the drawing notes.
+//! Tables of comma-separated values with a header. Points have the columns `x` and `y`, or others
+//! that are named for these, and where there are such `z`, `ring` and `line`: rows next to one
+//! another with the same word for `ring` are the corners of a polygon, and with the same word for
+//! `line` the points of a path. Segments have the columns `from` and `to`: numbers of points, from
+//! 1, in the order of their rows. Further columns are left out, which the drawing notes.
 ghost use Rattle.std.specs.Prelude.{◌≡◌, ◌++◌, ◌∷◌, [], ℕ, List, IfOk, OnOk, IfSome};
 ghost use Rattle.std.specs.Prelude.{MatchOption};
 ghost use Rattle.csv.specs.Records.{fields_of};
@@ -10,7 +10,7 @@ ghost use Rattle.mesh_files.specs.Drawn.{HasNoNumbers, IsNumberAt, SameNumbers};
 ghost use Rattle.mesh_files.specs.Tables.{AreAll, DrawsRow, DrawsTable, Fields};
 ghost use Rattle.mesh_files.specs.Tables.{HasRead, IsTable, height_column};
 
-use crate::columns::{Columns, leave_out, needed_column, word_of};
+use crate::columns::{ColumnNames, Columns, leave_out, needed_column, word_of};
 use crate::drawing::{Drawing, Number, Spot};
 use crate::fault::{FileFault, FilePlace, Reason};
 use crate::text::CheckedText;
@@ -265,10 +265,14 @@ fn leave_out_others(
 }
 
 /// The columns of points, of which all others are left out.
-fn point_columns(drawing: &mut Drawing, header: &ByteRecord) -> Result<Columns, FileFault>
+fn point_columns(
+    drawing: &mut Drawing,
+    header: &ByteRecord,
+    names: ColumnNames<'_>,
+) -> Result<Columns, FileFault>
     ensures { OnOk result (SameNumbers drawing.old drawing.new) }
 {
-    let columns = Columns::of(header)?;
+    let columns = Columns::of(header, names)?;
     leave_out_others(drawing, header, &columns)?;
     Ok(columns)
 }
@@ -276,6 +280,7 @@ fn point_columns(drawing: &mut Drawing, header: &ByteRecord) -> Result<Columns, 
 /// Reads the header and the rows of a table of points.
 fn read_table<R: Read>(
     reader: &mut Reader<R>,
+    names: ColumnNames<'_>,
     drawing: &mut Drawing,
     alloc: Global,
 ) -> Result<(), FileFault>
@@ -284,12 +289,13 @@ fn read_table<R: Read>(
         → IsTable text drawing.new) }
 {
     let header = header_of(reader, alloc)?;
-    let columns = point_columns(drawing, &header)?;
+    let columns = point_columns(drawing, &header, names)?;
     read_points(reader, &columns, drawing, alloc)
 }
 
 fn read_drawing<R: Read + Drop>(
     text: R,
+    names: ColumnNames<'_>,
     drawing: &mut Drawing,
     alloc: Global,
 ) -> Result<(), FileFault>
@@ -297,16 +303,20 @@ fn read_drawing<R: Read + Drop>(
     ensures { OnOk result (IfSome (R.remaining text) (λ bytes. IsTable bytes drawing.new)) }
 {
     let mut reader = open_table(text, alloc);
-    read_table(&mut reader, drawing, alloc)
+    read_table(&mut reader, names, drawing, alloc)
 }
 
-/// Reads points from a table.
-pub fn read_csv<R: Read + Drop>(reader: R, alloc: Global) -> Result<Drawing, FileFault>
+/// Reads points from a table, whose columns of coordinates may have other names.
+pub fn read_csv<R: Read + Drop>(
+    reader: R,
+    names: ColumnNames<'_>,
+    alloc: Global,
+) -> Result<Drawing, FileFault>
     ensures { IfOk result (λ d. IfSome (R.remaining reader) (λ text. IsTable text d)) }
 {
     let mut text = CheckedText::of_rows(reader);
     let mut drawing = Drawing::new(alloc);
-    let outcome = read_drawing(&mut text, &mut drawing, alloc);
+    let outcome = read_drawing(&mut text, names, &mut drawing, alloc);
     if let Some(fault) = text.fault() {
         return Err(fault);
     }

@@ -1,9 +1,10 @@
 //! What a file says.
 ghost use Rattle.std.specs.Prelude.{◌≡◌, ◌<◌, ◌++◌, ◌∷◌, [], length, All, IfOk, OnOk};
+ghost use Rattle.decimal_numbers.specs.Value.{SpellsTooLong};
 ghost use Rattle.mesh_files.specs.Written.{HasEnds, IsAsWritten};
 
 use crate::fault::{FileFault, FilePlace, Reason};
-use decimal_numbers::{Decimal, DecimalError};
+use decimal_numbers::{Decimal, DecimalError, LongDecimal};
 use std::alloc::{AllocError, Global};
 
 /// A number, and where it stands, as it came, in the text of its drawing.
@@ -85,10 +86,15 @@ pub struct Ring {
     pub is_hole: bool,
 }
 
-/// The texts of numbers, one behind the other.
+/// The texts of numbers, one behind the other, and how exact those are that have more digits than
+/// fit.
 #[derive(Drop)]
 pub(crate) struct NumberTexts {
     bytes: Vec<u8>,
+    /// To how many digits behind the point each coordinate can be rounded.
+    pub(crate) finest: u32,
+    /// How many heights have more digits than fit.
+    pub(crate) cut_heights: u64,
 }
 
 impl NumberTexts {
@@ -110,20 +116,54 @@ impl NumberTexts {
         })
     }
 
-    /// The number rounded to so many digits behind the point, and whether that changed it.
+    /// Notes a number with more digits than fit, of which these are kept; `name` is what it is.
+    fn note_cut(&mut self, decimal: Decimal, name: &'static str) {
+        if name == "x" || name == "y" {
+            self.finest = self.finest.min(decimal.digits.saturating_sub(1));
+        } else {
+            self.cut_heights = self.cut_heights.saturating_add(1);
+        }
+    }
+
+    /// The number rounded to so many digits behind the point.
     pub(crate) fn rounded(
         &mut self,
         number: Number,
         digits: u32,
         at: FilePlace,
-    ) -> Result<(Number, bool), FileFault> {
+    ) -> Result<Number, FileFault> {
         if number.decimal.digits <= digits {
-            return Ok((number, false));
+            return Ok(number);
         }
         let decimal = number.decimal.rounded_to(digits).shortened();
         let mut word = String::new(*self.bytes.allocator());
         write!(word, "{decimal}")?;
-        Ok((self.keep(decimal, word.as_bytes(), at)?, true))
+        self.put_over(number, decimal, word.as_bytes(), at)
+    }
+
+    /// Puts the text of a number into the place of another, or behind all where it is longer.
+    fn put_over(
+        &mut self,
+        old: Number,
+        decimal: Decimal,
+        word: &[u8],
+        at: FilePlace,
+    ) -> Result<Number, FileFault> {
+        let start = old.start as usize;
+        let end = start.saturating_add(word.len());
+        if end > old.end as usize {
+            return self.keep(decimal, word, at);
+        }
+        for (i, byte) in (start..end).zip(word) {
+            if let Some(place) = self.bytes.get_mut(i) {
+                *place = *byte;
+            }
+        }
+        Ok(Number {
+            decimal,
+            start: old.start,
+            end: end as u32,
+        })
     }
 }
 
@@ -138,6 +178,8 @@ pub struct Drawing {
     pub(crate) rings: Vec<Ring>,
     pub(crate) texts: NumberTexts,
     left_out: String,
+    open_rings: u32,
+    first_open: FilePlace,
     pub ghost ends_are_points: { All (HasEnds (length spots.items)) segments.items },
     pub ghost heights_are_of_points: { 0 < length heights.items
         → length heights.items ≡ length spots.items },
@@ -158,9 +200,39 @@ impl Drawing {
             rings: Vec::new(alloc),
             texts: NumberTexts {
                 bytes: Vec::new(alloc),
+                finest: u32::MAX,
+                cut_heights: 0,
             },
             left_out: String::new(alloc),
+            open_rings: 0,
+            first_open: FilePlace::of_line(0),
         }
+    }
+
+    /// Takes a number in that does not fit with all its digits; `name` is what it is.
+    fn long_number(
+        &mut self,
+        word: &[u8],
+        name: &'static str,
+        at: FilePlace,
+    ) -> Result<Number, FileFault>
+        requires { SpellsTooLong word.now }
+        ensures written { IfOk result (λ n. IsAsWritten word.now n.decimal) }
+        ensures same { OnOk result (SameNumbers self.old self.new) }
+    {
+        let Ok(long) = Decimal::parse_long(word) else {
+            return Err(FileFault::in_place(at, Reason::TooLong(name)));
+        };
+        let LongDecimal { decimal, is_exact } = long;
+        if is_exact {
+            return self.texts.keep(decimal.shortened(), word, at);
+        }
+        if decimal.digits == 0 {
+            return Err(FileFault::in_place(at, Reason::TooLong(name)));
+        }
+        let number = self.texts.keep(decimal, word, at)?;
+        self.texts.note_cut(decimal, name);
+        Ok(number)
     }
 
     /// Takes a number in; `name` is what it is.
@@ -176,7 +248,7 @@ impl Drawing {
         let reason = match Decimal::parse(word) {
             Ok(decimal) => return self.texts.keep(decimal.shortened(), word, at),
             Err(DecimalError::Malformed) => Reason::NotNumber(name),
-            Err(DecimalError::TooLong) => Reason::TooLong(name),
+            Err(DecimalError::TooLong) => return self.long_number(word, name, at),
         };
         Err(FileFault::in_place(at, reason))
     }
@@ -241,6 +313,26 @@ impl Drawing {
         self.left_out.push_str(name)
     }
 
+    /// Notes a ring that does not end where it began, and is closed.
+    pub(crate) fn note_open_ring(&mut self, at: FilePlace)
+        ensures { SameNumbers self.old self.new }
+    {
+        if self.open_rings == 0 {
+            self.first_open = at;
+        }
+        self.open_rings = self.open_rings.saturating_add(1);
+    }
+
+    /// How many rings were closed that do not end where they began, and the fault that the first of
+    /// them is, if there are any.
+    pub fn open_rings(&self) -> Option<(u32, FileFault)> {
+        if self.open_rings == 0 {
+            return None;
+        }
+        let fault = FileFault::in_place(self.first_open, Reason::OpenRing);
+        Some((self.open_rings, fault))
+    }
+
     /// What of the file is left out, by names with commas between them, if anything is.
     pub fn left_out(&self) -> Option<&str> {
         if self.left_out.is_empty() {
@@ -248,6 +340,11 @@ impl Drawing {
         } else {
             Some(self.left_out.as_str())
         }
+    }
+
+    /// How many heights have more digits than fit.
+    pub fn cut_heights(&self) -> u64 {
+        self.texts.cut_heights
     }
 
     /// A number as it came, or as it was rounded.

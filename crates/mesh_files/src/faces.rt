@@ -111,6 +111,7 @@ impl MeshText<'_> {
                 self.push_polygon(line, face)
             }
             Form::Svg => self.push_svg_face(line, face),
+            Form::Stl => self.push_facet(line, face),
             _ => self.push_corners(form, line, place, face),
         }
     }

@@ -7,11 +7,15 @@ use thiserror::Error;
 #[derive(Clone, Copy, Drop)]
 pub enum Reason {
     NoColumn(&'static str),
+    /// No column has the name that is given for this.
+    NoGivenColumn(&'static str),
     NotNumber(&'static str),
     TooLong(&'static str),
-    TooFine(&'static str),
-    /// What is too far from the others, which have so many digits behind the point.
-    TooFar(&'static str, u32),
+    /// What has more digits behind the point than these, which fit.
+    TooFine(&'static str, u32),
+    /// What is too far from the others, which have so many digits behind the point, and how many
+    /// would fit.
+    TooFar(&'static str, u32, Option<u32>),
     OtherFields,
     Ends(&'static str),
     Missing(&'static str),
@@ -33,13 +37,13 @@ pub enum Reason {
     Both(&'static str, &'static str),
     OtherNesting,
     OpenRing,
+    SmallRing,
     SomeHeights,
     Unreadable,
     NoMemory,
 }
 
-const TOO_FINE: &str =
-    " has more digits behind the point than fit the range: --round DIGITS keeps fewer";
+const TOO_LONG: &str = " has more than 17 digits before the point, or a power of ten past 400";
 
 /// What the text of a reason names.
 #[derive(Clone, Copy)]
@@ -80,7 +84,8 @@ impl Reason {
             Reason::NotUtf8 => "the file is no text in UTF-8",
             Reason::OpenQuote => "a quoted field does not end",
             Reason::OtherNesting => "coordinates are nested otherwise than the type has them",
-            Reason::OpenRing => "a ring has four positions or more, and ends where it began",
+            Reason::OpenRing => "a ring does not end where it began",
+            Reason::SmallRing => "a ring has three corners or more",
             Reason::SomeHeights => "some points have a height, and others have none",
             Reason::Unreadable => "reading failed",
             Reason::NoMemory => "memory was refused",
@@ -92,9 +97,13 @@ impl Reason {
     fn parts(self) -> (&'static str, Named, &'static str) {
         match self {
             Reason::NoColumn(name) => ("there is no column named ", Named::Word(name), ""),
+            Reason::NoGivenColumn(name) => (
+                "there is no column of the name that is given for ",
+                Named::Word(name),
+                "",
+            ),
             Reason::NotNumber(name) => ("", Named::Word(name), " is not a decimal number"),
-            Reason::TooLong(name) => ("", Named::Word(name), " has too many digits"),
-            Reason::TooFine(name) => ("", Named::Word(name), TOO_FINE),
+            Reason::TooLong(name) => ("", Named::Word(name), TOO_LONG),
             Reason::Ends(what) => ("the file ends where ", Named::Word(what), " should come"),
             Reason::Missing(what) => ("", Named::Word(what), " is missing"),
             Reason::NotCount(what) => ("", Named::Word(what), " is not a whole number from 0 on"),
@@ -122,16 +131,32 @@ impl Reason {
     }
 }
 
+/// Tells that a number is too far from the others, and how many digits behind the point would fit.
+fn write_far<W: fmt::Write>(
+    f: &mut fmt::Formatter<W>,
+    name: &str,
+    digits: u32,
+    fitting: Option<u32>,
+) -> fmt::Result {
+    write!(
+        f,
+        "{name} is too far from the others: all have to be within "
+    )?;
+    write!(f, "2^30 units of {digits} digits")?;
+    match fitting {
+        Some(fitting) if fitting < digits => write!(f, "; --round {fitting} would fit"),
+        _ => Ok(()),
+    }
+}
+
 impl fmt::Display for Reason {
     fn fmt<W: fmt::Write>(&self, f: &mut fmt::Formatter<W>) -> fmt::Result {
         match *self {
-            Reason::TooFar(name, digits) => {
-                write!(
-                    f,
-                    "{name} is too far from the others: all have to be within "
-                )?;
-                write!(f, "2^30 units of {digits} digits")
+            Reason::TooFine(name, fitting) => {
+                write!(f, "{name} has more digits behind the point than fit: ")?;
+                write!(f, "--round {fitting} keeps as many as do")
             }
+            Reason::TooFar(name, digits, fitting) => write_far(f, name, digits, fitting),
             Reason::Both(one, other) => {
                 write!(f, "it has {one} and {other}, of which an object has one")
             }

@@ -1,6 +1,7 @@
 //! Points and segments in text files, and faces between points as text of several forms.
 #![tactic(auto)]
 
+mod asked;
 mod columns;
 mod csv_tables;
 mod drawing;
@@ -9,6 +10,8 @@ mod fault;
 mod fields;
 mod geojson;
 mod json_text;
+mod moves;
+mod neighbours;
 mod picture;
 mod rings;
 mod scaled;
@@ -18,12 +21,15 @@ mod triangle_files;
 mod words;
 mod writing;
 
+pub use asked::{Asked, asked_points};
+pub use columns::ColumnNames;
 pub use csv_tables::{read_csv, read_segments};
 pub use drawing::{Drawing, Number, Segment, Spot};
 pub use fault::{FileFault, FilePlace, Reason};
 pub use geojson::read_geojson;
+pub use moves::Moves;
 pub use rings::hole_sides;
-pub use scaled::{Rounding, Scaled, scale};
+pub use scaled::{Rounding, Scaled, most_digits, scale};
 pub use text::CheckedText;
 pub use triangle_files::{read_node, read_poly};
 pub use writing::{Form, MeshText};

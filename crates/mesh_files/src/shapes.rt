@@ -82,8 +82,9 @@ struct WholeLine {
 }
 
 impl WholeLine {
-    /// Joins each point to the next, and the last to the first where the line ends there.
-    fn join(&self, drawing: &mut Drawing) -> Result<(), FileFault>
+    /// Joins each point to the next, and the last to the first where the line ends there or is to
+    /// be closed.
+    fn join(&self, closes: bool, drawing: &mut Drawing) -> Result<(), FileFault>
         ensures { OnOk result (SameNumbers drawing.old drawing.new) }
     {
         let mut last = self.start;
@@ -95,18 +96,24 @@ impl WholeLine {
             drawing.join(last, next, at)?;
             last = next;
         }
-        match &self.closing {
-            Some(position) if last != self.start => {
-                drawing.join(last, self.start, position.spot.file_place())
+        let at = match &self.closing {
+            Some(position) => position.spot.file_place(),
+            None if closes => {
+                drawing.note_open_ring(self.at);
+                self.at
             }
-            _ => Ok(()),
+            None => return Ok(()),
+        };
+        if last == self.start {
+            return Ok(());
         }
+        drawing.join(last, self.start, at)
     }
 
-    /// Asks for a ring's three corners, and its end at the first of them.
+    /// Asks for a ring's three corners.
     fn check_ring(&self) -> Result<(), FileFault> {
-        if self.closing.is_none() || self.end.saturating_sub(self.start) < 3 {
-            return Err(FileFault::in_place(self.at, Reason::OpenRing));
+        if self.end.saturating_sub(self.start) < 3 {
+            return Err(FileFault::in_place(self.at, Reason::SmallRing));
         }
         Ok(())
     }
@@ -120,7 +127,7 @@ impl WholeLine {
                 Some(position) => position.draw(drawing),
                 None => Ok(()),
             },
-            LineKind::Path => self.join(drawing),
+            LineKind::Path => self.join(false, drawing),
             LineKind::Ring => {
                 self.check_ring()?;
                 drawing.rings.push(Ring {
@@ -128,7 +135,7 @@ impl WholeLine {
                     end: self.end,
                     is_hole: self.is_inner,
                 })?;
-                self.join(drawing)
+                self.join(true, drawing)
             }
         }
     }

@@ -1,5 +1,6 @@
 //! A mesh that is to be written, and its forms.
 use crate::drawing::{Drawing, Number};
+use crate::neighbours::{NO_FACE, neighbours_of};
 use crate::scaled::Scaled;
 use std::alloc::{AllocError, Global};
 use std::io;
@@ -15,6 +16,9 @@ pub enum Form {
     Ele,
     Node,
     Csv,
+    Stl,
+    Poly,
+    Neigh,
 }
 
 impl Form {
@@ -28,6 +32,9 @@ impl Form {
             "ele" => Some(Form::Ele),
             "node" => Some(Form::Node),
             "csv" => Some(Form::Csv),
+            "stl" => Some(Form::Stl),
+            "poly" => Some(Form::Poly),
+            "neigh" => Some(Form::Neigh),
             _ => None,
         }
     }
@@ -65,6 +72,15 @@ pub struct MeshText<'a> {
     pub width: u32,
 }
 
+/// Puts the number of a face behind a line, or -1 where there is none.
+fn push_neighbour(line: &mut String, face: u32) -> Result<(), AllocError> {
+    if face == NO_FACE {
+        return line.push_str(" -1");
+    }
+    let number = u64::from(face).saturating_add(1);
+    write!(line, " {number}")
+}
+
 impl MeshText<'_> {
     /// Puts a number behind a line, as it came.
     fn push_number(&self, line: &mut String, number: Number) -> Result<(), AllocError> {
@@ -97,18 +113,63 @@ impl MeshText<'_> {
     ) -> Result<(), AllocError> {
         match form {
             Form::Obj => line.push_str("v ")?,
-            Form::Node => {
+            Form::Node | Form::Poly => {
                 let number = place.saturating_add(1);
                 write!(line, "{number} ")?;
             }
             _ => {}
         }
         self.push_point(line, place)?;
-        line.push_str(if self.drawing.heights.is_empty() && form != Form::Node {
+        let needs_height = !matches!(form, Form::Node | Form::Poly);
+        line.push_str(if self.drawing.heights.is_empty() && needs_height {
             " 0\n"
         } else {
             "\n"
         })
+    }
+
+    /// Puts a constraint behind a line, by the numbers of its ends.
+    fn push_segment(&self, form: Form, line: &mut String, place: usize) -> Result<(), AllocError> {
+        let Some([a, b]) = self.walls.get(place) else {
+            return Ok(());
+        };
+        let (a, b) = (
+            u64::from(*a).saturating_add(1),
+            u64::from(*b).saturating_add(1),
+        );
+        if form == Form::Obj {
+            return writeln!(line, "l {a} {b}");
+        }
+        let number = place.saturating_add(1);
+        writeln!(line, "{number} {a} {b}")
+    }
+
+    /// Puts the corners of a face behind a line, as a facet of a solid.
+    pub(crate) fn push_facet(&self, line: &mut String, face: &[u32; 3]) -> Result<(), AllocError> {
+        line.push_str("facet normal 0 0 0\nouter loop\n")?;
+        for corner in face {
+            line.push_str("vertex ")?;
+            self.push_point_line(Form::Stl, line, *corner as usize)?;
+        }
+        line.push_str("endloop\nendfacet\n")
+    }
+
+    /// Writes which faces are next to each.
+    fn write_neighbours<W: Write>(&self, writer: &mut W, alloc: Global) -> io::Result<()> {
+        let mut line = String::new(alloc);
+        self.push_ele_head(&mut line)?;
+        let neighbours = neighbours_of(self.faces, alloc)?;
+        for (place, row) in neighbours.iter().enumerate() {
+            let number = place.saturating_add(1);
+            write!(line, "{number}")?;
+            for face in row {
+                push_neighbour(&mut line, *face)?;
+            }
+            line.push('\n')?;
+            writer.write_all(line.as_bytes())?;
+            line.clear();
+        }
+        writer.write_all(line.as_bytes())
     }
 
     fn push_ply_head(&self, line: &mut String) -> Result<(), AllocError> {
@@ -136,8 +197,9 @@ impl MeshText<'_> {
             Form::Ply => self.push_ply_head(line),
             Form::GeoJson => line.push_str("{\"type\":\"FeatureCollection\",\"features\":["),
             Form::Svg => self.push_svg_head(line),
-            Form::Ele => self.push_ele_head(line),
-            Form::Node => self.push_node_head(line),
+            Form::Ele | Form::Neigh => self.push_ele_head(line),
+            Form::Node | Form::Poly => self.push_node_head(line),
+            Form::Stl => line.push_str("solid mesh\n"),
             Form::Csv => line.push_str("a,b,c,area\n"),
         }
     }
@@ -146,12 +208,14 @@ impl MeshText<'_> {
     fn count(&self, form: Form, part: Part) -> usize {
         match (part, form) {
             (Part::Head, _) => 1,
-            (Part::Points, Form::Obj | Form::Ply | Form::Node) => self.drawing.spots.len(),
-            (Part::Faces, Form::Node) => 0,
+            (Part::Points, Form::Obj | Form::Ply | Form::Node | Form::Poly) => {
+                self.drawing.spots.len()
+            }
+            (Part::Faces, Form::Node | Form::Poly) => 0,
             (Part::Faces, _) => self.faces.len(),
-            (Part::Walls, Form::Svg) => self.walls.len(),
-            (Part::WallHead, Form::Svg) => 1,
-            (Part::Tail, Form::GeoJson | Form::Svg) => 1,
+            (Part::Walls, Form::Svg | Form::Poly | Form::Obj) => self.walls.len(),
+            (Part::WallHead, Form::Svg | Form::Poly) => 1,
+            (Part::Tail, Form::GeoJson | Form::Svg | Form::Stl | Form::Poly) => 1,
             _ => 0,
         }
     }
@@ -168,10 +232,17 @@ impl MeshText<'_> {
             Part::Head => self.push_head(form, line),
             Part::Points => self.push_point_line(form, line, place),
             Part::Faces => self.push_face_line(form, line, place),
+            Part::WallHead if form == Form::Poly => {
+                let count = self.walls.len();
+                writeln!(line, "{count} 0")
+            }
             Part::WallHead => self.push_wall_head(line),
-            Part::Walls => self.push_wall(line, place),
+            Part::Walls if form == Form::Svg => self.push_wall(line, place),
+            Part::Walls => self.push_segment(form, line, place),
             Part::Tail => line.push_str(match form {
                 Form::Svg => "</g>\n</svg>\n",
+                Form::Stl => "endsolid mesh\n",
+                Form::Poly => "0\n",
                 _ => "\n]}\n",
             }),
         }
@@ -179,6 +250,9 @@ impl MeshText<'_> {
 
     /// Writes the mesh in this form.
     pub fn write<W: Write>(&self, form: Form, writer: &mut W, alloc: Global) -> io::Result<()> {
+        if form == Form::Neigh {
+            return self.write_neighbours(writer, alloc);
+        }
         let mut line = String::new(alloc);
         for part in PARTS {
             for place in 0..self.count(form, part) {

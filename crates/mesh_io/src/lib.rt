@@ -4,6 +4,8 @@
 mod output;
 mod progress;
 mod reading;
+mod separating;
+mod sniffing;
 mod tasks;
 
 pub use output::write_mesh;

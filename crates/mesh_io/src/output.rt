@@ -1,7 +1,7 @@
 //! Where a mesh is written to.
 use crate::tasks::Task;
 use anyhow::Context;
-use mesh_files::MeshText;
+use mesh_files::{Form, MeshText};
 use std::alloc::Global;
 use std::fs::File;
 use std::io::{BufWriter, Write};
@@ -14,7 +14,7 @@ fn write_to<W: Write>(
     writer: &mut W,
     alloc: Global,
 ) -> io::Result<()> {
-    text.write(task.form, writer, alloc)?;
+    text.write(task.form.unwrap_or(Form::Obj), writer, alloc)?;
     writer.flush()
 }
 
@@ -39,6 +39,9 @@ fn write_and_rename(
     beside: &str,
     path: &str,
 ) -> anyhow::Result<()> {
+    if let Ok(metadata) = fs::metadata(rt, path) {
+        let _ = fs::set_permissions(rt, beside, metadata.permissions());
+    }
     write_whole(task, text, file, beside, rt.alloc())?;
     fs::rename(rt, beside, path).context(format_args!("{path}"))
 }
@@ -73,7 +76,18 @@ fn is_stream(rt: &HostRuntime, path: &str) -> bool {
     }
 }
 
-/// Writes a mesh to the file of this name.
+/// Writes a mesh to the file of this name, which is no link.
+fn write_at(
+    rt: &HostRuntime,
+    task: &Task<'_>,
+    text: &MeshText<'_>,
+    path: &str,
+) -> anyhow::Result<()> {
+    let beside = format!(in rt.alloc(); "{path}.part")?;
+    write_beside(rt, task, text, beside.as_str(), path)
+}
+
+/// Writes a mesh to the file of this name, or to the one that a link of this name leads to.
 fn write_file(
     rt: &HostRuntime,
     task: &Task<'_>,
@@ -83,8 +97,10 @@ fn write_file(
     if is_stream(rt, path) {
         return write_whole(task, text, create(rt, path)?, path, rt.alloc());
     }
-    let beside = format!(in rt.alloc(); "{path}.part")?;
-    write_beside(rt, task, text, beside.as_str(), path)
+    if let Ok(real) = fs::canonicalize(rt, path) {
+        return write_at(rt, task, text, real.as_path().to_str().unwrap_or(path));
+    }
+    write_at(rt, task, text, path)
 }
 
 /// Writes a mesh to standard output, or to the file that is asked for.

@@ -15,16 +15,10 @@ pub fn tells_progress(rt: &HostRuntime, task: &Task<'_>) -> bool {
 }
 
 /// Tells what comes next, if there are many points.
-pub fn tell_step(
-    rt: &HostRuntime,
-    task: &Task<'_>,
-    points: usize,
-    step: &str,
-) -> anyhow::Result<()> {
+pub fn tell_step(rt: &HostRuntime, task: &Task<'_>, points: usize, step: &str) {
     if points >= MANY_POINTS && tells_progress(rt, task) {
-        eprintln!(rt; "mesh: {points} points: {step}")?;
+        let _ = eprintln!(rt; "mesh: {points} points: {step}");
     }
-    Ok(())
 }
 
 /// A reader that tells how much was read of a long text.

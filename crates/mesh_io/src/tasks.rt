@@ -1,7 +1,7 @@
 //! The words of the command line.
 use clap::builder::ValueParser;
 use clap::{Arg, ArgAction, ArgMatches, Command};
-use mesh_files::{Form, Rounding};
+use mesh_files::{ColumnNames, Form, Rounding};
 use std::alloc::{AllocError, Global};
 
 /// The form of a file that is read.
@@ -35,8 +35,11 @@ pub enum Question<'a> {
 #[derive(Drop)]
 pub struct Task<'a> {
     pub file: Option<&'a str>,
-    pub source: Source,
-    pub form: Form,
+    /// What is read, if it is given or what the file's name ends in.
+    pub source: Option<Source>,
+    pub names: ColumnNames<'a>,
+    /// What is written, if the output ends in a form.
+    pub form: Option<Form>,
     pub output: Option<&'a str>,
     pub lines: Option<&'a str>,
     pub question: Option<Question<'a>>,
@@ -63,7 +66,7 @@ struct Choice {
     help: &'static str,
 }
 
-static CHOICES: [Choice; 12] = [
+static CHOICES: [Choice; 16] = [
     Choice {
         name: "from",
         letter: None,
@@ -72,13 +75,15 @@ static CHOICES: [Choice; 12] = [
         values: &["FORM"],
         may_be_negative: false,
         rivals: &[],
-        help: "What is read; else what FILE ends in tells, or it is csv",
+        help: "What is read; else what FILE ends in or begins with tells",
     },
     Choice {
         name: "to",
         letter: None,
         action: ArgAction::Set,
-        operand: ValueParser::Names(&["obj", "ply", "geojson", "svg", "ele", "node", "csv"]),
+        operand: ValueParser::Names(&[
+            "obj", "ply", "stl", "geojson", "svg", "ele", "node", "neigh", "poly", "csv",
+        ]),
         values: &["FORM"],
         may_be_negative: false,
         rivals: &[],
@@ -103,6 +108,36 @@ static CHOICES: [Choice; 12] = [
         may_be_negative: false,
         rivals: &[],
         help: "A table of segments beside a table of points: columns from, to",
+    },
+    Choice {
+        name: "x",
+        letter: None,
+        action: ArgAction::Set,
+        operand: ValueParser::String,
+        values: &["NAME"],
+        may_be_negative: false,
+        rivals: &[],
+        help: "The column of x; else x, lon, long, longitude or easting",
+    },
+    Choice {
+        name: "y",
+        letter: None,
+        action: ArgAction::Set,
+        operand: ValueParser::String,
+        values: &["NAME"],
+        may_be_negative: false,
+        rivals: &[],
+        help: "The column of y; else y, lat, latitude or northing",
+    },
+    Choice {
+        name: "z",
+        letter: None,
+        action: ArgAction::Set,
+        operand: ValueParser::String,
+        values: &["NAME"],
+        may_be_negative: false,
+        rivals: &[],
+        help: "The column of heights; else z",
     },
     Choice {
         name: "nearest",
@@ -142,7 +177,17 @@ static CHOICES: [Choice; 12] = [
         values: &["DIGITS"],
         may_be_negative: false,
         rivals: &[],
-        help: "Rounds to so many digits behind the point; else numbers are taken exactly",
+        help: "Rounds to so many digits behind the point; else to as many as fit, if not all do",
+    },
+    Choice {
+        name: "exact",
+        letter: None,
+        action: ArgAction::SetTrue,
+        operand: ValueParser::Bool,
+        values: &[],
+        may_be_negative: false,
+        rivals: &["round"],
+        help: "Refuses what would be rounded",
     },
     Choice {
         name: "skip-crossing",
@@ -209,7 +254,7 @@ fn option_of<'a>(choice: &Choice, alloc: Global) -> Result<Arg<'a>, AllocError> 
 /// The words that there are.
 pub fn command<'a>(alloc: Global) -> Result<Command<'a>, AllocError> {
     let about = "Reads points and segments, and writes their constrained Delaunay triangulation.";
-    let file = Arg::new(alloc, "FILE").help("The file that is read; else standard input");
+    let file = Arg::new(alloc, "FILE").help("The file that is read; else, or as -, standard input");
     let mut command = Command::new(alloc, "mesh")
         .version("0.1.0")
         .about(about)
@@ -231,12 +276,26 @@ fn suffix(name: Option<&str>) -> &str {
     }
 }
 
-fn source_named(name: &str) -> Source {
+/// What a form of this name, or a file that ends in it, is.
+fn source_named(name: &str) -> Option<Source> {
     match name {
-        "node" => Source::Node,
-        "poly" => Source::Poly,
-        "geojson" | "json" => Source::GeoJson,
-        _ => Source::Csv,
+        "csv" => Some(Source::Csv),
+        "node" => Some(Source::Node),
+        "poly" => Some(Source::Poly),
+        "geojson" | "json" => Some(Source::GeoJson),
+        _ => None,
+    }
+}
+
+/// The form that an output has: of a file what it ends in, else `obj`. It gives none where a file
+/// ends in no form.
+fn form_of(matches: &ArgMatches<'_>, output: Option<&str>) -> Option<Form> {
+    match matches.get_str("to") {
+        Some(name) => Form::named(name),
+        None => match suffix(output) {
+            "" => Some(Form::Obj),
+            name => Form::named(name),
+        },
     }
 }
 
@@ -259,22 +318,32 @@ fn question_of<'a>(matches: &ArgMatches<'a>) -> Option<Question<'a>> {
     }
 }
 
+/// How numbers are rounded.
+fn rounding_of(matches: &ArgMatches<'_>) -> Rounding {
+    match matches.get_one::<u32>("round") {
+        Some(digits) => Rounding::To(digits),
+        None if matches.get_flag("exact") => Rounding::Exact,
+        None => Rounding::Fit,
+    }
+}
+
 /// What the words ask for.
 pub fn task_of<'a>(matches: &ArgMatches<'a>) -> Task<'a> {
-    let file = matches.get_str("FILE");
+    let file = matches.get_str("FILE").filter(|name| *name != "-");
     let output = matches.get_str("output");
-    let form = matches.get_str("to").unwrap_or(suffix(output));
     Task {
         file,
         source: source_named(matches.get_str("from").unwrap_or(suffix(file))),
-        form: Form::named(form).unwrap_or(Form::Obj),
+        names: ColumnNames {
+            x: matches.get_str("x"),
+            y: matches.get_str("y"),
+            z: matches.get_str("z"),
+        },
+        form: form_of(matches, output),
         output,
         lines: matches.get_str("lines"),
         question: question_of(matches),
-        rounding: match matches.get_one::<u32>("round") {
-            Some(digits) => Rounding::To(digits),
-            None => Rounding::Exact,
-        },
+        rounding: rounding_of(matches),
         skips_crossing: matches.get_flag("skip-crossing"),
         keeps_inside: matches.contains_id("keep"),
         is_quiet: matches.get_flag("quiet"),

@@ -1,16 +1,16 @@
 //! The calls that open, close and read a triangulation, and those without one that C keeps.
 ghost use Rattle.std.specs.Prelude.{◌≡◌, None};
-ghost use Rattle.c_calls.specs.Calls.{CopiesOpen, OpensClosed, TellsCounts, TellsCrossed};
-ghost use Rattle.c_calls.specs.Calls.{TellsEdges, TellsEdgesIn, TellsFaces, TellsInSight};
-ghost use Rattle.c_calls.specs.Calls.{TellsLayers, TellsLine, TellsNearest, TellsNumbers};
-ghost use Rattle.c_calls.specs.Calls.{TellsPlaces, TellsPositions, TellsVerticesIn};
+ghost use Rattle.c_calls.specs.Calls.{CopiesOpen, OpensClosed, TellsBeyond, TellsCounts};
+ghost use Rattle.c_calls.specs.Calls.{TellsCrossed, TellsEdges, TellsEdgesIn, TellsFaces};
+ghost use Rattle.c_calls.specs.Calls.{TellsInSight, TellsLayers, TellsLine, TellsNearest};
+ghost use Rattle.c_calls.specs.Calls.{TellsNumbers, TellsPlaces, TellsPositions, TellsVerticesIn};
 ghost use Rattle.c_calls.specs.Words.{TellsWords};
 ghost use Rattle.c_triangulate.specs.Whole.{Triangulates};
 
 use c_calls::{
-    FindEdges, FindVertices, Handle, ListConflicts, ListEdges, ListFaces, ListLayers, ListNumbers,
-    ListPositions, Locate, LookAlong, RawCounts, RawEdge, RawFace, RawMeeting, RawPlace, RawPoint,
-    RawSegment, RawShape, WalkLine,
+    Edges, Handle, InShape, ListBeyond, ListConflicts, ListEdges, ListFaces, ListLayers,
+    ListNumbers, ListPositions, Locate, LookAlong, RawBox, RawCounts, RawEdge, RawFace, RawMeeting,
+    RawPlace, RawPoint, RawSegment, RawShape, Vertices, WalkLine,
 };
 use std::alloc::Global;
 
@@ -128,6 +128,21 @@ pub extern "C" fn tevasulim_face_layers(
 }
 
 #[unsafe(no_mangle)]
+pub extern "C" fn tevasulim_faces_beyond(
+    alloc: Global,
+    handle: &mut Handle,
+    within: &RawBox,
+    flags: &mut [u8],
+    length: &mut usize,
+) -> u32
+    ensures kept { handle.new.kept ≡ handle.old.kept }
+    ensures flags { TellsBeyond handle.old.kept within.now result length.old length.new flags.old
+        flags.new }
+{
+    handle.ask(alloc, &ListBeyond { within: *within }, flags, length)
+}
+
+#[unsafe(no_mangle)]
 pub extern "C" fn tevasulim_locate(
     alloc: Global,
     handle: &mut Handle,
@@ -225,7 +240,11 @@ pub extern "C" fn tevasulim_vertices_in(
     ensures vertices { TellsVerticesIn handle.old.kept shape.now result length.old length.new
         vertices.old vertices.new }
 {
-    handle.ask(alloc, &FindVertices { shape: *shape }, vertices, length)
+    let query = InShape {
+        part: Vertices,
+        shape: *shape,
+    };
+    handle.ask(alloc, &query, vertices, length)
 }
 
 #[unsafe(no_mangle)]
@@ -240,7 +259,11 @@ pub extern "C" fn tevasulim_edges_in(
     ensures edges { TellsEdgesIn handle.old.kept shape.now result length.old length.new edges.old
         edges.new }
 {
-    handle.ask(alloc, &FindEdges { shape: *shape }, edges, length)
+    let query = InShape {
+        part: Edges,
+        shape: *shape,
+    };
+    handle.ask(alloc, &query, edges, length)
 }
 
 #[unsafe(no_mangle)]
