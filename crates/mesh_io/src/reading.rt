@@ -10,7 +10,7 @@ use mesh_files::{
 };
 use std::alloc::Global;
 use std::fs::File;
-use std::io::{BufReader, Read};
+use std::io::{BufReader, Cursor, Read};
 use std::{fs, io};
 
 /// A drawing with whole coordinates, and points that are asked about. Segments come from the file
@@ -47,7 +47,6 @@ fn read_table<R: Read + Drop>(
 struct Begun {
     source: Source,
     table: TableForm,
-    foreign: Option<&'static str>,
 }
 
 impl Begun {
@@ -55,7 +54,6 @@ impl Begun {
         Begun {
             source: given.unwrap_or(source_of(bytes)),
             table: table_form(bytes),
-            foreign: foreign_kind(bytes),
         }
     }
 }
@@ -96,20 +94,24 @@ fn read_head<R: Read>(reader: &mut R, alloc: Global) -> io::Result<Vec<u8>> {
 
 /// Reads a text; `name` is that of its file.
 fn read_text<R: Read + Drop>(
-    rt: &HostRuntime,
-    task: &Task<'_>,
+    names: ColumnNames<'_>,
     given: Option<Source>,
     name: &str,
-    reader: R,
+    mut reader: R,
+    alloc: Global,
 ) -> anyhow::Result<Drawing> {
-    let mut told = ToldReader::new(rt, task, reader);
-    let head = read_head(&mut told, rt.alloc()).context(format_args!("{name}"))?;
+    let head = read_head(&mut reader, alloc).context(format_args!("{name}"))?;
     let begun = Begun::of(given, head.as_slice());
-    if let Some(kind) = begun.foreign {
+    if let Some(kind) = foreign_kind(head.as_slice()) {
         bail!("{name}: this is {kind}; GDAL or the Python package makes GeoJSON of it");
     }
-    let reader = BufReader::new(rt.alloc(), without_mark(head.as_slice()).chain(told))?;
-    read_form(begun, task.names, reader, rt.alloc()).context(format_args!("{name}"))
+    let mark = head
+        .len()
+        .saturating_sub(without_mark(head.as_slice()).len());
+    let mut begin = Cursor::new(head);
+    begin.set_position(mark as u64);
+    let reader = BufReader::new(alloc, begin.chain(reader))?;
+    read_form(begun, names, reader, alloc).context(format_args!("{name}"))
 }
 
 /// Opens a file.
@@ -119,9 +121,16 @@ fn open(rt: &HostRuntime, file: &str) -> anyhow::Result<File> {
 
 /// Reads the file of a task, or standard input.
 fn read_input(rt: &HostRuntime, task: &Task<'_>) -> anyhow::Result<Drawing> {
+    let (names, source) = (task.names, task.source);
     match task.file {
-        Some(file) => read_text(rt, task, task.source, file, open(rt, file)?),
-        None => read_text(rt, task, task.source, "standard input", rt.reader()),
+        Some(file) => {
+            let told = ToldReader::new(rt, task, open(rt, file)?);
+            read_text(names, source, file, told, rt.alloc())
+        }
+        None => {
+            let told = ToldReader::new(rt, task, rt.reader());
+            read_text(names, source, "standard input", told, rt.alloc())
+        }
     }
 }
 
@@ -175,7 +184,12 @@ fn complete(rt: &HostRuntime, task: &Task<'_>, drawing: &mut Drawing) -> anyhow:
 
 /// Reads the points that a question is about from a table.
 fn read_asked(rt: &HostRuntime, task: &Task<'_>, file: &str) -> anyhow::Result<Drawing> {
-    read_text(rt, task, Some(Source::Csv), file, open(rt, file)?)
+    let told = ToldReader::new(rt, task, open(rt, file)?);
+    let names = ColumnNames {
+        z: None,
+        ..task.names
+    };
+    read_text(names, Some(Source::Csv), file, told, rt.alloc())
 }
 
 /// A fault of the ends of a way, which are words of the command line.

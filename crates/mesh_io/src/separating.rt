@@ -102,7 +102,7 @@ pub struct Separated<R> {
 impl<R: Read + Drop> Separated<R> {
     pub fn new(reader: R, form: TableForm, alloc: Global) -> Result<Self, AllocError> {
         let mut text = Vec::new(alloc);
-        text.extend_from_slice(form.header.as_bytes())?;
+        text.extend_from_slice(form.header())?;
         let mut chunk = Vec::new(alloc);
         chunk.resize(CHUNK, 0)?;
         Ok(Separated {
@@ -146,12 +146,8 @@ impl<R: Read + Drop> Read for Separated<R> {
         if buf.is_empty() || !self.fill()? {
             return Ok(0);
         }
-        let mut count = 0usize;
-        let rest = self.text.get(self.passed..).unwrap_or(&[]);
-        for (place, byte) in buf.iter_mut().zip(rest) {
-            *place = *byte;
-            count = count.saturating_add(1);
-        }
+        let mut rest = self.text.get(self.passed..).unwrap_or(&[]);
+        let count = rest.read(buf)?;
         self.passed = self.passed.saturating_add(count);
         Ok(count)
     }

@@ -6,8 +6,8 @@ use crate::tasks::Source;
 pub struct TableForm {
     /// What stands between fields: a comma, a semicolon, a tab, or blanks, by the space.
     pub separator: u8,
-    /// The header that it lacks, behind which its first row comes.
-    pub header: &'static str,
+    /// The columns of a table without a header, 2 or 3; 0 where it has one.
+    pub unnamed: u8,
     /// How many separators stand at the end of the header.
     pub trailing: usize,
 }
@@ -128,16 +128,16 @@ pub fn table_form(bytes: &[u8]) -> TableForm {
     let separator = separator_of(line.trim_ascii());
     let is_blank = separator == b' ' || separator == b'\t';
     let words = if is_blank { line.trim_ascii() } else { line };
-    let header = if !begins_number(words.trim_ascii_start()) {
-        ""
+    let unnamed = if !begins_number(words.trim_ascii_start()) {
+        0
     } else if fields_of(words, separator) > 2 {
-        "x,y,z\r"
+        3
     } else {
-        "x,y\r"
+        2
     };
     TableForm {
         separator,
-        header,
+        unnamed,
         trailing: if is_blank {
             0
         } else {
@@ -149,6 +149,15 @@ pub fn table_form(bytes: &[u8]) -> TableForm {
 impl TableForm {
     /// Whether the table is one of commas with a header, and none behind that.
     pub fn is_plain(&self) -> bool {
-        self.separator == b',' && self.header.is_empty() && self.trailing == 0
+        self.separator == b',' && self.unnamed == 0 && self.trailing == 0
+    }
+
+    /// The header that the table lacks, behind which its first row comes.
+    pub fn header(&self) -> &[u8] {
+        match self.unnamed {
+            0 => &[],
+            2 => b"x,y\r",
+            _ => b"x,y,z\r",
+        }
     }
 }

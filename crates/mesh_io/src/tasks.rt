@@ -265,13 +265,17 @@ pub fn command<'a>(alloc: Global) -> Result<Command<'a>, AllocError> {
     Ok(command)
 }
 
-/// What a file's name ends in, behind its last point.
-fn suffix(name: Option<&str>) -> &str {
-    match name {
-        Some(name) => match name.rsplit_once('.') {
-            Some((_, suffix)) => suffix,
-            None => "",
-        },
+/// What a file's name ends in, behind its last point. Its folders do not count.
+fn suffix(path: Option<&str>) -> &str {
+    let Some(path) = path else {
+        return "";
+    };
+    let name = match path.rsplit_once('/') {
+        Some((_, name)) => name,
+        None => path,
+    };
+    match name.rsplit_once('.') {
+        Some((_, suffix)) => suffix,
         None => "",
     }
 }
