@@ -1,4 +1,5 @@
 use Rattle.std.proofs.Common.{◌∙◌, arith, rules}
+use Rattle.std.proofs.lemmas.Grind.{common_steps}
 use Rattle.half_edge_dcel.proofs.Fits.{fits_grown, fits_vertex, fits_beside, one_longer}
 use Rattle.half_edge_dcel.proofs.EdgeLists.{adds_edges, length-ends}
 use Rattle.half_edge_dcel.proofs.Outlines.{outer_changes}
@@ -47,3 +48,6 @@ returns g c =
       };
       edges = adds_edges _ (length-ends fit) links.adds.ends undirected.grows;
     })
+
+pub add_face_beside-requires-clause-alone : goal.add_face_beside-requires-clause-alone
+add_face_beside-requires-clause-alone g c = grind (arith, common_steps)

@@ -1,4 +1,5 @@
-use Rattle.std.proofs.Common.{◌∙◌, rules}
+use Rattle.std.proofs.Common.{◌∙◌, rules, arith}
+use Rattle.std.proofs.lemmas.Grind.{common_steps}
 use Rattle.half_edge_dcel.proofs.Fits.{fits_grown, fits_vertex, fits_inserted, one_longer}
 use Rattle.half_edge_dcel.proofs.EdgeLists.{adds_edges, length-ends}
 use Rattle.half_edge_dcel.proofs.Outlines.{keeps_outer}
@@ -41,3 +42,9 @@ returns g c =
       edges = adds_edges _ (length-ends fit) links.inserts.ends undirected.grows;
       face = (edge.sound.faces c.args.triangle c.requires.inner within).1;
     })
+
+pub insert_beside-requires-clause-inner : goal.insert_beside-requires-clause-inner
+insert_beside-requires-clause-inner g c = grind arith
+
+pub insert_beside-requires-clause-alone : goal.insert_beside-requires-clause-alone
+insert_beside-requires-clause-alone g c = grind (arith, common_steps)

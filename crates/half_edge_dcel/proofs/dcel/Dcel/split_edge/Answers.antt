@@ -1,4 +1,5 @@
-use Rattle.std.proofs.Common.{refl, ◌∙◌, rules}
+use Rattle.std.proofs.Common.{refl, ◌∙◌, rules, arith}
+use Rattle.std.proofs.lemmas.Grind.{common_steps}
 use Rattle.half_edge_dcel.proofs.Fits.{fits_flipped, fits_inserted, fits_moved, fits_vertex}
 use Rattle.half_edge_dcel.proofs.Fits.{one_longer}
 use Rattle.half_edge_dcel.proofs.EdgeLists.{splits_edge, length-ends, move_edge_data}
@@ -48,3 +49,6 @@ returns g c =
       };
       edges = splits_edge _ (length-ends fit) links.splits.ends undirected;
     })
+
+pub split_edge-requires-clause-alone : goal.split_edge-requires-clause-alone
+split_edge-requires-clause-alone g c = grind (arith, common_steps)

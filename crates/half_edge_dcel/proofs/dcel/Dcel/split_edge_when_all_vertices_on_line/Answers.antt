@@ -1,4 +1,5 @@
-use Rattle.std.proofs.Common.{sym, rules, ◌∙◌}
+use Rattle.std.proofs.Common.{sym, rules, ◌∙◌, arith}
+use Rattle.std.proofs.lemmas.Grind.{common_steps}
 use Rattle.std.proofs.lemmas.List.{length-set}
 use Rattle.half_edge_dcel.proofs.Fits.{fits_grown_edge, fits_vertex, fits_hung, fits_slid}
 use Rattle.half_edge_dcel.proofs.Fits.{one_longer}
@@ -40,3 +41,9 @@ returns g c =
       edges = rw (← edges_of-set) (adds_edges _ (length-ends fit ∙ sym (length-set _ _ _))
           links.splits.ends undirected.grows);
     })
+
+pub split_line-requires-clause-line : goal.split_line-requires-clause-line
+split_line-requires-clause-line g c = grind (arith, common_steps)
+
+pub split_line-requires-clause-alone : goal.split_line-requires-clause-alone
+split_line-requires-clause-alone g c = grind (arith, common_steps)

@@ -1,4 +1,5 @@
-use Rattle.std.proofs.Common.{◌∙◌, rules}
+use Rattle.std.proofs.Common.{◌∙◌, rules, arith}
+use Rattle.std.proofs.lemmas.Grind.{common_steps}
 use Rattle.half_edge_dcel.proofs.Fits.{fits_beside, fits_flipped, fits_moved, fits_vertex}
 use Rattle.half_edge_dcel.proofs.Fits.{one_longer}
 use Rattle.half_edge_dcel.proofs.EdgeLists.{splits_edge, length-ends, move_edge_data}
@@ -43,3 +44,9 @@ returns g c =
       };
       edges = splits_edge _ (length-ends fit) links.splits.ends undirected;
     })
+
+pub split_half_edge-requires-clause-alone : goal.split_half_edge-requires-clause-alone
+split_half_edge-requires-clause-alone g c = grind (arith, common_steps)
+
+pub move_item-requires-clause-within : goal.move_item-requires-clause-within
+move_item-requires-clause-within g c = grind arith
