@@ -4,11 +4,12 @@
 #![tactic(auto)]
 
 use delaunay_interface::delaunay_core::point::Point2;
+use delaunay_interface::delaunay_legalization::ConstraintMarker;
 use delaunay_interface::{ConstrainedDelaunayTriangulation, Triangulation};
 use delaunay_journal::Replayable;
 use delaunay_snap::{SplitError, add_constraints_and_split};
 use exact_predicates::ExactTests;
-use std::alloc::{AllocError, Global};
+use std::alloc::Global;
 use test_reader::Call;
 
 // Inserts the ends of segments, and joins them.
@@ -18,53 +19,46 @@ fn join<T: Replayable<Vertex = Point2<i64>>>(
     steps: usize,
     alloc: Global,
 ) -> anyhow::Result<Result<(), SplitError>> {
-    let mut segments = Vec::with_capacity(alloc, ends.len())?;
+    let mut segments = Vec::new(alloc);
     let mut start = None;
     for end in ends {
         let end = site.insert(*end, &ExactTests)?;
         match start.take() {
-            Some(start) => segments.push_reserved((start, end)),
+            Some(start) => segments.push((start, end))?,
             None => start = Some(end),
         }
     }
-    Ok(add_constraints_and_split(
-        site,
-        &mut segments,
-        steps,
-        &ExactTests,
-        &|position| position,
-    ))
+    let make_vertex = |position| position;
+    Ok(add_constraints_and_split(site, &mut segments, steps, &ExactTests, &make_vertex))
 }
 
 // The constraints by the positions of their ends, in order, the lesser end first.
-fn constraints_of(
-    site: &ConstrainedDelaunayTriangulation<Point2<i64>>,
+fn constraints_of<T: Triangulation<Vertex = Point2<i64>>>(
+    site: &T,
     alloc: Global,
-) -> Result<Vec<(Point2<i64>, Point2<i64>)>, AllocError> {
+) -> anyhow::Result<Vec<(Point2<i64>, Point2<i64>)>> {
     let mut constraints = Vec::new(alloc);
-    for edge in site.fixed_undirected_edges() {
-        if site.is_constraint_edge(edge) {
-            let edge = site.undirected_edge(edge).as_directed();
-            let [from, to] = site.edge_positions(edge);
-            constraints.push((from.min(to), from.max(to)))?;
+    for edge in site.directed_edges() {
+        let ends = (*edge.from().data(), *edge.to().data());
+        if ends.0 < ends.1 && T::Constraints::is_constraint_edge(edge.as_undirected().data()) {
+            constraints.push(ends)?;
         }
     }
     constraints.sort()?;
     Ok(constraints)
 }
 
-fn answer(rt: &(impl Print + AllocGlobal), call: &Call<'_>) -> anyhow::Result<()> {
-    let mut site: ConstrainedDelaunayTriangulation<Point2<i64>> =
-        ConstrainedDelaunayTriangulation::new(rt.alloc());
+fn answer<T: Replayable<Vertex = Point2<i64>>>(
+    rt: &(impl Print + AllocGlobal),
+    site: &mut T,
+    call: &Call<'_>,
+) -> anyhow::Result<()> {
     let ends = call.positions(rt.alloc())?;
     let steps = call.name.parse().unwrap_or(0);
-    let joined = join(&mut site, ends.as_slice(), steps, rt.alloc())?;
-    println!(rt;
-        "{joined:?} {} {}",
-        site.num_vertices(),
-        site.num_constraints()
-    )?;
-    for (from, to) in constraints_of(&site, rt.alloc())? {
+    let joined = join(site, ends.as_slice(), steps, rt.alloc())?;
+    let constraints = constraints_of(site, rt.alloc())?;
+    println!(rt; "{joined:?} {} {}", site.num_vertices(), constraints.len())?;
+    for (from, to) in constraints {
         println!(rt; "{} {} {} {}", from.x, from.y, to.x, to.y)?;
     }
     Ok(())
@@ -74,7 +68,8 @@ fn main(rt: HostRuntime) -> anyhow::Result<()> {
     for line in rt.lines(rt.alloc()) {
         let line = line?;
         if let Some(call) = Call::parse(line.as_str()) {
-            answer(&rt, &call)?;
+            let mut site = ConstrainedDelaunayTriangulation::<Point2<i64>>::new(rt.alloc());
+            answer(&rt, &mut site, &call)?;
         }
     }
     Ok(())
