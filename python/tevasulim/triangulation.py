@@ -57,9 +57,9 @@ class Triangulation(Pictures, Regions, VoronoiCells):
     **The grid.** The library has whole numbers. Floats are mapped to a grid that the first points
     choose: `rint((p - origin) * scale)`. Where they are decimals and the range allows it, the scale
     is a power of ten, and no point moves (`is_exact`). Else it is the power of two that uses the
-    range: then a point moves by less than 2**-28 of the width of all (`rounding` says how much), and
-    points that become equal are repeated points. Whole numbers are never rounded. Points that are
-    asked about need not be on the grid, nor in its range.
+    range: then a point moves by less than 2**-28 of the width of all (`rounding` says how much),
+    and points that become equal are repeated points. Whole numbers are never rounded. Points that
+    are asked about need not be on the grid, nor in its range.
 
     **Numbers.** A point is named by its row in `points`, as in `scipy.spatial.Delaunay`. Points
     that are handed in later have the rows after these. A number stays what it is, whatever is
