@@ -1,31 +1,24 @@
 -- What edits of a triangulation make of constraints and of segments that are still to be joined.
--- Lemmas: every_site, rests, with_list, unchanged, then_unchanged, unchanged_then,
+-- Lemmas: rests, with_list, unchanged, then_unchanged, unchanged_then,
 -- inserted_splits, joined_splits, joined_last, led, last_of_list, without_last.
-use Rattle.std.proofs.Common.{◌≡◌, ◌<◌, [], ◌∷◌, ◌++◌, ◌∙◌, ℕ, suc, List, refl, sym, ap, subst, subst₂}
-use Rattle.std.proofs.Common.{length, map, take, get_or, ◌-◌, inl, inr, arith}
+use Rattle.std.proofs.Common.{◌≡◌, ◌<◌, [], ◌∷◌, ◌++◌, ◌∙◌, ℕ, suc, List, refl, sym, ap, subst}
+use Rattle.std.proofs.Common.{subst₂, length, map, take, ◌-◌, inl, inr, arith}
 use Rattle.std.specs.Prelude.{Ok, Option, MatchOption, pos, None, Some, slice_get}
 use Rattle.std.proofs.lemmas.List.{length-map, length_push, get_or-map}
 use Rattle.delaunay_interface.specs.plane.Fraction.{Point}
 use Rattle.delaunay_interface.specs.plane.Plain.{Plain, Inserts}
-use Rattle.delaunay_interface.specs.plane.Tests.{InRange}
 use Rattle.delaunay_interface.specs.delaunay_legalization.Constraints.{points_and_constraints_by}
 use Rattle.delaunay_interface.specs.delaunay_legalization.Drawn.{faces_of, outer_of}
 use Rattle.delaunay_interface.specs.delaunay_legalization.Known.{IsKnown}
 use Rattle.delaunay_interface.specs.delaunay_legalization.State.{State}
 use Rattle.delaunay_interface.specs.delaunay_edit.Edits.{InsertsVertex}
-use Rattle.delaunay_interface.specs.delaunay_edit.Headline.{AreSites, IsWellFormed}
+use Rattle.delaunay_interface.specs.delaunay_edit.Headline.{IsWellFormed}
 use Rattle.delaunay_interface.proofs.delaunay_edit_lemmas.Walking.{placed_apart}
 use Rattle.delaunay_journal.specs.Journal.{JoinsPair}
 use Rattle.delaunay_journal.specs.Marking.{Marking}
 use Rattle.delaunay_snap.specs.Splits.{Frees, LeadsBy, Splits, by_vertex}
 use Rattle.delaunay_snap.proofs.Steps.{splits_appended, splits_joined, splits_led}
 use Rattle.delaunay_snap.proofs.Steps.{splits_led_alone, splits_none, splits_then}
-
--- where each point in range is a site, so is each vertex
-pub every_site : {V : Type 0} (place : V → Point) (IsSite : Point → Type 0)
-    → ((p : Point) → InRange p → IsSite p) → (vs : List V) → AreSites place IsSite vs
-every_site place IsSite every vs all =
-    λ k d lt. every (get_or (map place vs) k d) (all k d lt)
 
 -- a plain state that stays, with the same segments
 pub rests : {V : Type 0} (place : V → Point) (IsMade : V → Type 0) (s : Plain V)
@@ -147,7 +140,8 @@ last_of_list xs r is = subst
 -- without its last entry
 pub without_last : (n : ℕ) (xs rest : List (ℕ × ℕ)) (s : ℕ × ℕ) → n ≡ length xs
     → xs ≡ rest ++ s ∷ [] → take (n - 1) xs ≡ rest
-without_last n xs rest s count is = ap (λ (k : ℕ). take (k - 1) xs) count ∙ subst (λ (ys : List (ℕ × ℕ)). take (length ys - 1) ys ≡ rest) (sym is)
+without_last n xs rest s count is = ap (λ (k : ℕ). take (k - 1) xs) count
+    ∙ subst (λ (ys : List (ℕ × ℕ)). take (length ys - 1) ys ≡ rest) (sym is)
     (ap (λ (n : ℕ). take n (rest ++ s ∷ [])) (length_push_less rest s) ∙ front rest)
   where
     length_push_less : (ys : List (ℕ × ℕ)) (x : ℕ × ℕ) → length (ys ++ x ∷ []) - 1 ≡ length ys

@@ -7,8 +7,8 @@ use thiserror::Error;
 #[derive(Clone, Copy, Debug, PartialEq, Eq, Drop, Error)]
 pub enum SplitError {
     /// An edit was refused: a vertex at a crossing, for want of memory or indexes; a segment, for
-    /// want of memory or since it ends at no vertex; or each segment, by a triangulation of the type
-    /// without constraints.
+    /// want of memory or since it ends at no vertex; or each segment, by a triangulation of the
+    /// type without constraints.
     #[error("an edit was refused")]
     Refused(Refusal),
     /// The steps that were allowed are made, and segments are left.

@@ -223,7 +223,8 @@ fn join_or_split<
 ///
 /// What a path of constraints and segments of the list connected is connected after it. So where
 /// the list is empty afterwards, a path of constraints joins the ends of each segment and of each
-/// constraint that was there before. All vertices keep their handles; the new ones come behind them.
+/// constraint that was there before. All vertices keep their handles; the new ones come behind
+/// them.
 ///
 /// It gives `TooManySteps` where segments are left in the list after so many steps. It gives
 /// `Refused` where a step was refused: `NoVertex` where a segment ends at no vertex,
