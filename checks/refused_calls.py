@@ -4,9 +4,9 @@ turn, and looks at all there is.
 
 PROGRAM is crates/test_calls as the gate has built it: it makes the call of each line that it
 reads, and prints vertices, edges and faces with their links, their data and the marks of
-constraints. A `malloc` (refusing.py) refuses growths of a call.
+constraints. A `malloc` (faults/refusing.py) refuses growths of a call.
 
-Each line of SCRIPT (refused_script.py) is run again and again, each time in a run of its own that
+Each line of SCRIPT (faults/script.py) is run again and again, each time in a run of its own that
 begins with the lines before it: with its first growth refused, with its second, up to its last; and
 so on a copy, whose lists are full. The reply has to be a refusal for memory, and the whole state
 that of before; of a call of several steps, that after the steps that were done. Made again, the
@@ -17,48 +17,37 @@ of edits (REPLAYED) one that is refused has to be as if it were left out, or the
 before its first edit. The calls of QUIET and of WITHOUT_MEMORY take no memory: they have to
 be answered as ever with every growth refused, those of QUIET beside a hierarchy of hints too.
 """
-import os
 import sys
 import tempfile
 
+from faults.refusing import ALL, library
 from faults.script import QUIET, QUIET_STATES, REPLAYED, SCRIPT, WITHOUT_MEMORY
-from faults.trial import PROGRAM, REFUSAL, Trial, fail, steps_of
-from faults.refusing import ALL, NONE, library
+from faults.trial import CallsTrial, ask_without_memory, fail, known_of, refuse, steps_of
+from project import named_or_built
 
 
-def refuse(command, lines, line, number, before, wanted, after):
-    """Looks at a call with this growth refused, and at the same call afterwards."""
-    trial = Trial(command, lines)
-    reply, _, refused = trial.ask(line, (number, number))
-    found = trial.state()
-    if refused != 1 or len(reply) != 1 or not REFUSAL.fullmatch(reply[0]):
-        fail(lines, line, number, f"{refused} refused", reply)
-    if found != before:
-        fail(lines, line, number, before, found)
-    again = trial.ask(line)[0]
-    if trial.state() != after or not line.startswith("add_constraint_edge ") and again != wanted:
-        fail(lines, line, number, "made again:", wanted, again, after, trial.state())
-    trial.end()
-
-
-def sweep(command, lines, line):
-    """How many growths of a call were refused, one after another."""
-    states, steps = steps_of(command, lines, line, Trial.state)
-    trial = Trial(command, lines)
-    wanted, growths, _ = trial.ask(line)
-    if trial.state() != states[-1] or growths != sum(steps):
-        fail(lines, line, "none", f"{growths} growths, {steps} in steps", states[-1], trial.state())
+def sweep_steps(command, lines, line):
+    """How many growths of a call were refused, one after another. The state is then that of before,
+    or that which the steps before the refused one left."""
+    states, steps = steps_of(command, lines, line, CallsTrial.state)
+    _, wanted, growths, after = known_of(CallsTrial, command, lines, line)
+    if after != states[-1] or growths != sum(steps):
+        fail(lines, line, "none", f"{growths} growths, {steps} in steps", states[-1], after)
+    if line == "from_delaunay" and states[0] != after:
+        fail(lines, line, "none", "it has other vertices, edges or faces", after)
     if line == "try_clone":
-        trial.ask("swap")
-        if trial.state() != states[0]:
-            fail(lines, line, "none", "the copy differs", trial.state())
-    if line == "from_delaunay" and states[0] != states[-1]:
-        fail(lines, line, "none", "it has other vertices, edges or faces", states[-1])
-    trial.end()
+        look_at_copy(command, lines, states[0])
     before = [state for state, count in zip(states, steps) for _ in range(count)]
     for number in range(1, growths + 1):
-        refuse(command, lines, line, number, before[number - 1], wanted, states[-1])
+        refuse(CallsTrial, command, lines, line, number, before[number - 1], wanted, after)
     return growths
+
+
+def look_at_copy(command, lines, wanted):
+    trial = CallsTrial(command, [*lines, "try_clone", "swap"])
+    if trial.state() != wanted:
+        fail(lines, "try_clone", "none", "the copy differs", trial.state())
+    trial.end()
 
 
 def run_script(command):
@@ -66,14 +55,14 @@ def run_script(command):
     for place, line in enumerate(SCRIPT):
         if not line.startswith("write_data"):
             before = SCRIPT[:place]
-            counts = [sweep(command, it, line) for it in (before, [*before, "try_clone", "swap"])]
+            counts = [sweep_steps(command, it, line) for it in (before, [*before, "try_clone", "swap"])]
             calls, total = calls + 2, total + sum(counts)
     print(f"{calls} calls, {total} growths refused: the state is as before, or as steps left it")
 
 
 def replay_without(command, lines, edits, place):
     """What a list of edits gives without one of them, and the state then."""
-    trial = Trial(command, [*lines, *edits[:place], *edits[place + 1 :]])
+    trial = CallsTrial(command, [*lines, *edits[:place], *edits[place + 1 :]])
     (_, *outcomes), _, _ = trial.ask("replay")
     state = trial.state()
     trial.end()
@@ -82,7 +71,7 @@ def replay_without(command, lines, edits, place):
 
 def refuse_replay(command, lines, edits, number, before):
     """Looks at a list of edits with this growth refused: which edit it was, or nothing."""
-    trial = Trial(command, [*lines, *edits])
+    trial = CallsTrial(command, [*lines, *edits])
     (first, *outcomes), _, refused = trial.ask("replay", (number, number))
     state = trial.state()
     trial.end()
@@ -102,7 +91,7 @@ def refuse_replay(command, lines, edits, number, before):
 def run_replay(command):
     total, places = 0, set()
     for lines, edits in REPLAYED:
-        trial = Trial(command, lines)
+        trial = CallsTrial(command, lines)
         before = trial.state()
         for line in edits:
             trial.ask(line)
@@ -119,7 +108,7 @@ def run_replay(command):
 
 def run_named(command):
     """A copy of vertices whose own copies take memory: with a growth refused there is none."""
-    trial = Trial(command, [])
+    trial = CallsTrial(command, [])
     wanted, growths, _ = trial.ask("copy_named")
     first = wanted[wanted.index("first") :]
     for number in range(1, growths + 1):
@@ -134,7 +123,7 @@ def run_named(command):
 
 
 def run_without_memory(command):
-    trial = Trial(command, [])
+    trial = CallsTrial(command, [])
     before = trial.state()
     reply, _, _ = trial.ask("insert 0 0 1", ALL)
     after = trial.state()
@@ -142,28 +131,11 @@ def run_without_memory(command):
         fail([], "insert 0 0 1", "all", reply, after)
     trial.end()
     for count, line, wanted in WITHOUT_MEMORY:
-        trials = [Trial(command, SCRIPT[:count]) for _ in range(2)]
-        replies = [trial.ask(line, numbers) for trial, numbers in zip(trials, (NONE, ALL))]
-        states = [trial.state() for trial in trials]
-        if states[0] != states[1] or any(it != ([f"{line} > {wanted}"], 0, 0) for it in replies):
-            fail(SCRIPT[:count], line, "all", replies, *states)
-        for trial in trials:
-            trial.end()
+        reply = ask_without_memory(CallsTrial, command, SCRIPT[:count], line)
+        if reply != [f"{line} > {wanted}"]:
+            fail(SCRIPT[:count], line, "all", reply)
     count = len(WITHOUT_MEMORY)
     print(f"with every growth refused, an insertion is refused, and {count} edits are answered")
-
-
-def ask_quietly(command, lines, line):
-    """Asks with every growth refused, and compares with an answer where none is."""
-    trials = [Trial(command, lines) for _ in range(2)]
-    replies = [trial.ask(line, numbers) for trial, numbers in zip(trials, (NONE, ALL))]
-    states = [trial.state() for trial in trials]
-    if states[0] != states[1] or replies[0] != replies[1] or replies[1][1:] != (0, 0):
-        fail(lines, line, "all", *replies, *states)
-    if "no such call" in str(replies):
-        fail(lines, line, "all", "there is no such call")
-    for trial in trials:
-        trial.end()
 
 
 def run_quiet(command):
@@ -171,14 +143,16 @@ def run_quiet(command):
     count = 0
     for lines, is_constrained in QUIET_STATES:
         for line in QUIET["both"] + QUIET["constrained" if is_constrained else "plain"]:
-            ask_quietly(command, lines, line)
+            reply = ask_without_memory(CallsTrial, command, lines, line)
+            if "no such call" in str(reply):
+                fail(lines, line, "all", "there is no such call")
             count += 1
     return count
 
 
-def main(words):
+def main():
     with tempfile.TemporaryDirectory() as folder:
-        program = [library(folder), os.path.realpath(words[0] if words else PROGRAM)]
+        program = [library(folder), named_or_built("test_calls")]
         command, hinted = [*program, "0"], [*program, "5"]
         run_script(command)
         run_replay(command)
@@ -188,4 +162,4 @@ def main(words):
         print(f"{count} calls that take no memory are answered with every growth refused")
 
 
-main(sys.argv[1:])
+main()

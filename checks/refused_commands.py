@@ -3,7 +3,7 @@
 and looks at what is there then.
 
 PROGRAM is crates/triangulate as the gate has built it; a `malloc` refuses growths of a command
-(refusing.py). Each command of DIALOGUE is given with its first growth
+(faults/refusing.py). Each command of DIALOGUE is given with its first growth
 refused, in another run with its second, up to its last. The reply has to be `refused OutOfMemory`,
 and counts and faces have to be those of before. Given again, it has to be answered as it is where
 nothing was refused, and no reply may be a refusal then. Commands that take no memory have to be
@@ -14,14 +14,13 @@ type they are those of making constraints possible and of the path, and with the
 the path alone. So a program that was refused the Nth growth of its first `constrain` is given it
 again, and the growths of that are counted.
 """
-import os
 import sys
 import tempfile
 
-from faults.refusing import ALL, NONE, Program, library
-from project import built
+from faults.refusing import ALL, library
+from faults.trial import Trial, ask_without_memory, sweep
+from project import named_or_built
 
-PROGRAM = built("triangulate")
 # Five points, four of them round the first, and constraints through it.
 POINTS = ["insert 0 0", "insert 1 0", "insert -1 0", "insert 0 1", "insert 0 -1", "insert 1 1"]
 POINTS += ["insert -1 -1", "insert 1 -1"]
@@ -52,109 +51,69 @@ BEFORE = [[], POINTS[:1], POINTS[:3], POINTS, POINTS + ["constrain 5 6"]]
 REFUSED = ["refused OutOfMemory"]
 
 
-def ask(program, command, numbers=NONE):
-    if command == "faces":
-        return program.ask(command, numbers, lambda reply: reply in ("end", REFUSED[0]))
-    return program.ask(command, numbers, lambda reply: True)
+class CommandTrial(Trial):
+    """A run of the program over the sheet G, which has taken its buffer for reading."""
+
+    def __init__(self, command, lines):
+        super().__init__([*command, "G"], ["counts", *lines])
+
+    def is_last(self, line, reply):
+        return line != "faces" or reply in ("end", *REFUSED)
+
+    def is_refusal(self, reply):
+        return reply == REFUSED
+
+    def state(self):
+        return self.ask("counts")[0] + self.ask("faces")[0]
 
 
-def start(made):
-    """The program, which has taken its buffer for reading."""
-    made, program = made
-    started = Program(made, [program, "G"], always=True)
-    ask(started, "counts")
-    return started
-
-
-def state(program):
-    return ask(program, "counts")[0] + ask(program, "faces")[0]
-
-
-def prepared(made, commands):
-    program = start(made)
-    for command in commands:
-        ask(program, command)
-    return program, state(program)
-
-
-def sweep(made, commands, command):
-    """How many growths of a command were refused, one after another, each in a run of its own."""
-    program, before = prepared(made, commands)
-    wanted, growths, _ = ask(program, command)
-    after = state(program)
-    program.end()
-    if wanted == REFUSED:
-        sys.exit(f"{command}: refused, with no growth refused")
-    for number in range(1, growths + 1):
-        program, _ = prepared(made, commands)
-        reply, _, refused = ask(program, command, (number, number))
-        if refused != 1 or reply != REFUSED or state(program) != before:
-            sys.exit(f"{command}, growth {number}: {reply}\n{before}\n{state(program)}")
-        if ask(program, command)[0] != wanted or state(program) != after:
-            sys.exit(f"{command}, after growth {number} was refused: another reply or state")
-        program.end()
-    return growths
-
-
-def run_dialogues(made):
+def run_dialogues(command):
     calls, total = 0, 0
     for dialogue in DIALOGUE, JOINED:
-        for place, command in enumerate(dialogue):
-            growths = sweep(made, dialogue[:place], command)
+        for place, line in enumerate(dialogue):
+            growths = sweep(CommandTrial, command, dialogue[:place], line)
             calls, total = calls + bool(growths), total + growths
     print(f"{calls} commands, {total} growths refused: counts and faces are those of before")
 
 
-def answers(made, commands, command, numbers):
-    """What a command gives after others, its growths, and those refused; and counts then."""
-    program = start(made)
-    for it in commands:
-        ask(program, it)
-    found = ask(program, command, numbers), ask(program, "counts")[0]
-    program.end()
-    return found
-
-
-def takes_none(commands, command):
+def takes_none(lines, line):
     """Whether a command takes no memory after others: a point has to be known, and constraints to
     be possible already."""
     needed = {"insert 1 0": POINTS[1], "constrain 1 1": "constrain 5 6"}
-    return command not in needed or needed[command] in commands
+    return line not in needed or needed[line] in lines
 
 
-def run_without_memory(made):
+def run_without_memory(command):
     count = 0
-    for commands in BEFORE:
-        for command in filter(lambda it: takes_none(commands, it), WITHOUT_MEMORY):
-            wanted, found = (answers(made, commands, command, it) for it in (NONE, ALL))
-            if wanted != found or found[0][1:] != (0, 0):
-                sys.exit(f"{commands}\n{command}: {found} and not {wanted}")
+    for lines in BEFORE:
+        for line in filter(lambda it: takes_none(lines, it), WITHOUT_MEMORY):
+            ask_without_memory(CommandTrial, command, lines, line)
             count += 1
-    reply, growths, refused = answers(made, [], "insert 0 0", ALL)[0]
+    trial = CommandTrial(command, [])
+    reply, growths, refused = trial.ask("insert 0 0", ALL)
+    trial.end()
     if reply != REFUSED or refused != growths or not refused:
         sys.exit("with every growth refused a first point is not refused")
     print(f"{count} commands are answered with every growth refused, and a first point is refused")
 
 
-def first_constrain(made, number):
+def first_constrain(command, number):
     """The growths of a first `constrain` with this one refused, and what a second one gives."""
-    program = start(made)
-    for command in POINTS:
-        ask(program, command)
-    before = state(program)
-    reply, growths, refused = ask(program, "constrain 1 2", (number, number))
-    if refused and (reply != REFUSED or state(program) != before):
-        sys.exit(f"first constrain, growth {number}: {reply} {state(program)}")
-    again = ask(program, "constrain 1 2")
-    program.end()
+    trial = CommandTrial(command, POINTS)
+    before = trial.state()
+    reply, growths, refused = trial.ask("constrain 1 2", (number, number))
+    if refused and (reply != REFUSED or trial.state() != before):
+        sys.exit(f"first constrain, growth {number}: {reply} {trial.state()}")
+    again = trial.ask("constrain 1 2")
+    trial.end()
     return growths, refused, again
 
 
-def run_types(made):
-    whole, _, _ = first_constrain(made, 0)
+def run_types(command):
+    whole, _, _ = first_constrain(command, 0)
     types = []
     for number in range(1, whole + 1):
-        _, refused, (reply, second, _) = first_constrain(made, number)
+        _, refused, (reply, second, _) = first_constrain(command, number)
         if not refused or reply != ["edges 1-0 0-2"]:
             sys.exit(f"first constrain, growth {number}: {refused} refused, then {reply}")
         types.append("plain" if second == whole else "constrained")
@@ -163,12 +122,12 @@ def run_types(made):
     print(f"a first constrain takes {whole} growths; by the one refused, the type is then {types}")
 
 
-def main(words):
+def main():
     with tempfile.TemporaryDirectory() as folder:
-        made = library(folder), os.path.realpath(words[0] if words else PROGRAM)
-        run_dialogues(made)
-        run_without_memory(made)
-        run_types(made)
+        command = [library(folder), named_or_built("triangulate")]
+        run_dialogues(command)
+        run_without_memory(command)
+        run_types(command)
 
 
-main(sys.argv[1:])
+main()

@@ -1,7 +1,7 @@
 #!/usr/bin/env python3
 """checks/refused_drawings.py [PROGRAM]: refuses each growth of runs of `mesh` in turn.
 
-PROGRAM is crates/mesh as the gate has built it; a `malloc` refuses growths (refusing.py). Each run
+PROGRAM is crates/mesh as the gate has built it; a `malloc` refuses growths (faults/refusing.py). Each run
 of RUNS triangulates a drawing, with holes and layers of faces, and writes it or answers a question.
 It is made again with its first growth refused, with its second, up to its last, and with all from
 the first, the second .. refused. Either it ends with status 1 or 2, tells of memory, and has

@@ -3,7 +3,7 @@
 turn, and looks at all there is and at the hints.
 
 PROGRAM is crates/test_calls as the gate has built it; a `malloc` refuses growths of a call
-(refusing.py). Each line of HINTED (refused_script.py) is run again and again, each time in a run of
+(faults/refusing.py). Each line of HINTED (faults/script.py) is run again and again, each time in a run of
 its own that begins with the lines before it, with hierarchies by 0, 1, 2, 3 and 16; and so on a
 copy. Either the call is refused, and the state and all hints are those of before, or as the steps
 of a chain left them; or it is done, with the state as where nothing was refused, and the hierarchy
@@ -13,16 +13,16 @@ Of a list of edits (REPLAYED) one that is refused has to be as if it were left o
 refused before its first edit. A hierarchy that is made for positions, and a copy of one, give hint
 0 where a growth was refused.
 """
-import os
 import re
 import sys
 import tempfile
 from collections import Counter
 
-from model.mesh_state import MeshState
-from faults.script import CROWD, FACTORS, HINTED, POSITIONS
-from faults.trial import CHAINS, PROGRAM, REFUSAL, Trial, fail, steps_of
 from faults.refusing import library
+from faults.script import CROWD, FACTORS, HINTED, POSITIONS
+from faults.trial import CHAINS, CallsTrial, fail, known_of, steps_of
+from model.mesh_state import MeshState
+from project import named_or_built
 
 # A list of edits behind the first nine lines of HINTED.
 REPLAYED = ["list_insert 11 12", "list_remove 3", "list_insert -44 60", "list_remove 0"]
@@ -73,11 +73,11 @@ def look_at_done(trial, lines, line, number, reply, known):
 def refuse(command, lines, line, number, known):
     """Whether a call was refused with this growth: else it is done, and hints are forgotten."""
     steps, wanted = known[:2]
-    trial = Trial(command, lines)
+    trial = CallsTrial(command, lines)
     reply, _, refused = trial.ask(line, (number, number))
     if refused != 1:
         fail(lines, line, number, f"{refused} refused")
-    was_refused = bool(REFUSAL.fullmatch(reply[0]))
+    was_refused = trial.is_refusal(reply)
     if was_refused:
         if look(trial) not in steps:
             fail(lines, line, number, "refused, but not as before", *look(trial))
@@ -94,12 +94,10 @@ def refuse(command, lines, line, number, known):
 def sweep(command, lines, line, anew):
     """Whether a call was refused, of each growth. The lines make the hierarchy anew."""
     steps, _ = steps_of(command, lines, line, look)
-    trial = Trial(command, lines)
-    wanted, growths, _ = trial.ask(line)
-    known = steps[:-1], wanted, trial.state(), anew
-    if known[2] != steps[-1][0]:
+    _, wanted, growths, after = known_of(CallsTrial, command, lines, line)
+    known = steps[:-1], wanted, after, anew
+    if after != steps[-1][0]:
         fail(lines, line, "none", "other steps give something else")
-    trial.end()
     for number in range(1, growths + 1):
         yield refuse(command, lines, line, number, known)
 
@@ -120,7 +118,7 @@ def run_hinted(command, factor, first):
 
 def replayed(command, edits):
     """What a list of edits gives behind the first vertices, and the state then."""
-    trial = Trial(command, [*HINTED[:9], *edits])
+    trial = CallsTrial(command, [*HINTED[:9], *edits])
     (_, *outcomes), growths, _ = trial.ask("replay")
     state = trial.state()
     trial.end()
@@ -129,7 +127,7 @@ def replayed(command, edits):
 
 def refuse_list(command, number, before):
     """What a growth refused: the list, one of its edits, or hints."""
-    trial = Trial(command, [*HINTED[:9], *REPLAYED])
+    trial = CallsTrial(command, [*HINTED[:9], *REPLAYED])
     (first, *outcomes), _, refused = trial.ask("replay", (number, number))
     found, hints = look(trial)
     trial.end()
@@ -147,7 +145,7 @@ def refuse_list(command, number, before):
 
 def run_list(command, factor):
     """A list of edits beside a hierarchy."""
-    trial = Trial(command, HINTED[:9])
+    trial = CallsTrial(command, HINTED[:9])
     before = look(trial)
     trial.end()
     growths = replayed(command, REPLAYED)[2]
@@ -161,7 +159,7 @@ def run_list(command, factor):
 def run_generators(command):
     """A hierarchy that is made for positions, and a copy: with a growth refused it gives hint 0."""
     for line in "initialize", "duplicate":
-        trial = Trial(command, [])
+        trial = CallsTrial(command, [])
         wanted, growths, _ = trial.ask(line)
         first = wanted[wanted.index("first") :] if "first" in wanted else []
         for number in range(1, growths + 1):
@@ -173,13 +171,13 @@ def run_generators(command):
         print(f"{line}: {growths} growths refused: hint 0 alone, until it is made anew")
 
 
-def main(words):
+def main():
     with tempfile.TemporaryDirectory() as folder:
-        command = [library(folder), os.path.realpath(words[0] if words else PROGRAM)]
+        command = [library(folder), named_or_built("test_calls")]
         for hints, factor in FACTORS:
             run_hinted([*command, hints], factor, CROWD if factor > 3 else [])
             run_list([*command, hints], factor)
         run_generators([*command, "5"])
 
 
-main(sys.argv[1:])
+main()

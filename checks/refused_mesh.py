@@ -3,7 +3,7 @@
 turn, and looks at all of the mesh.
 
 PROGRAM is crates/test_mesh as the gate has built it: it makes the call of each line that it reads.
-A `malloc` (refusing.py) refuses growths of a line's call; those before them are the growths of
+A `malloc` (faults/refusing.py) refuses growths of a line's call; those before them are the growths of
 reading the line, and a remark of its length takes as many.
 
 Each line of SCRIPT that takes memory is run again and again, each time in a run of its own that
@@ -12,14 +12,13 @@ so on a copy, whose lists are full. The reply has to be a refusal, and all count
 those of before. Made again, the call has to give what it gives where nothing was refused. A line
 that takes no memory has to be answered as ever with every growth refused.
 """
-import os
 import sys
 import tempfile
 
-from faults.refusing import NONE, Program, library
-from project import built
+from faults.refusing import NONE, library
+from faults.trial import Trial, ask_without_memory, known_of, sweep
+from project import named_or_built
 
-PROGRAM = built("test_mesh")
 # What is written to edges and faces before some of the calls.
 WRITES = [
     *(f"directed_edge_data_mut {i} {7 * i + 3}" for i in range(42)),
@@ -101,30 +100,23 @@ OF_ONE = "vertex directed_edge edge_kind undirected_edge edge_data face links ou
 OF_ONE += "voronoi_edge undirected_voronoi_edge voronoi_face voronoi_vertex forms"
 ASKED += [f"{call} {i}" for call in OF_ONE.split() for i in (0, 1, 3)]
 ASKED += [f"compare_{kind} 0 3" for kind in ("edges", "voronoi", "names")]
-# A number that no growth has.
-MOST = 2**62
 REFUSED = ("None", "false", "Err(OutOfMemory)", 'Err("OutOfMemory")', "Err(AllocError)")
 # A line without room stays empty.
 EMPTY_LINE = "Ok(([0, 0, 0], [0, 0, 0], None))"
 
 
-class Trial:
-    """A run of the program that has made the calls of some lines, with nothing refused."""
-
-    def __init__(self, command, lines):
-        self.program = Program(command[0], command[1:], always=True)
-        for line in lines:
-            self.ask(line)
+class MeshTrial(Trial):
+    """A run of test_mesh."""
 
     def reads(self, line):
-        """How many growths it takes to read a line."""
+        """The growths of reading a line: a remark of its length takes as many."""
         return self.program.ask("# " + "." * (len(line) - 2), NONE, lambda reply: True)[1]
 
-    def ask(self, line, refuse=lambda reading: NONE):
-        """What a line's call gives, its growths beside those of reading, and those refused."""
-        reading = self.reads(line)
-        lines, growths, refused = self.program.ask(line, refuse(reading), lambda reply: True)
-        return lines[0][len(line) + 3 :], growths - reading, refused
+    def told(self, line, lines):
+        return lines[0][len(line) + 3 :]
+
+    def is_refusal(self, reply):
+        return reply in REFUSED or reply == EMPTY_LINE
 
     def state(self):
         """All counts, links and data."""
@@ -137,80 +129,34 @@ class Trial:
         lines += [f"face {i}" for i in range(faces)]
         return [counts, *(f"{line} > {self.ask(line)[0]}" for line in lines)]
 
-    def end(self):
-        self.program.end()
 
-
-def fail(lines, line, number, *why):
-    sys.exit("\n".join([*lines, f"{line}, growth {number}:", *map(str, why)]))
-
-
-def is_refusal(reply):
-    return reply in REFUSED or reply == EMPTY_LINE
-
-
-def refuse(command, lines, line, number, before, wanted):
-    """Looks at a call with this growth refused, and at the same call afterwards."""
-    trial = Trial(command, lines)
-    reply, _, refused = trial.ask(line, lambda reading: (reading + number, reading + number))
-    state = trial.state()
-    if refused != 1 or not is_refusal(reply):
-        fail(lines, line, number, f"{refused} refused", reply)
-    if state != before:
-        fail(lines, line, number, *before, "and then", *state)
-    again, _, _ = trial.ask(line)
-    if (again, trial.state()) != wanted:
-        fail(lines, line, number, "made again:", again, *trial.state(), "in place of", *wanted)
-    trial.end()
-
-
-def without_memory(command, lines, line, wanted):
-    """Looks at a call that takes no memory with every growth refused."""
-    trial = Trial(command, lines)
-    reply, growths, refused = trial.ask(line, lambda reading: (reading + 1, MOST))
-    if (reply, trial.state()) != wanted or growths or refused:
-        fail(lines, line, "all", reply, growths, refused, wanted[0])
-    trial.end()
-
-
-def sweep(command, lines, line):
+def sweep_call(command, lines, line):
     """How many growths of a call were refused, one after another."""
-    trial = Trial(command, lines)
-    before = trial.state()
-    reply, growths, _ = trial.ask(line)
-    wanted = reply, trial.state()
-    trial.end()
-    if is_refusal(reply):
-        fail(lines, line, "none", reply)
-    if line == "clone" and wanted[1] != before:
-        fail(lines, line, "none", "the copy differs", *wanted[1])
-    for number in range(1, growths + 1):
-        refuse(command, lines, line, number, before, wanted)
+    if line == "clone":
+        before, _, _, after = known_of(MeshTrial, command, lines, line)
+        if after != before:
+            sys.exit("\n".join([*lines, "the copy differs", *after]))
+    growths = sweep(MeshTrial, command, lines, line)
     if not growths:
-        without_memory(command, lines, line, wanted)
+        ask_without_memory(MeshTrial, command, lines, line)
     return growths
 
 
 def questions(command, lines):
     """How many questions are answered with every growth refused as without."""
-    trial = Trial(command, lines)
     for line in ASKED:
-        wanted, growths, _ = trial.ask(line)
-        found = trial.ask(line, lambda reading: (reading + 1, MOST))
-        if growths or found != (wanted, 0, 0):
-            fail(lines, line, "all", wanted, found)
-    trial.end()
+        ask_without_memory(MeshTrial, command, lines, line)
     return len(ASKED)
 
 
-def main(words):
+def main():
     with tempfile.TemporaryDirectory() as folder:
-        command = [library(folder), os.path.realpath(words[0] if words else PROGRAM)]
+        command = [library(folder), named_or_built("test_mesh")]
         counts = []
         for place, line in enumerate(SCRIPT):
             if line not in WRITES or line.split()[1] == "1":
                 for lines in SCRIPT[:place], [*SCRIPT[:place], "clone"]:
-                    counts.append((line.split()[0], sweep(command, lines, line)))
+                    counts.append((line.split()[0], sweep_call(command, lines, line)))
         asked = questions(command, []) + questions(command, SCRIPT)
     growing = [(name, growths) for name, growths in counts if growths]
     if {name for name, _ in growing} != TAKE_MEMORY:
@@ -220,4 +166,4 @@ def main(words):
     print(f"{quiet} calls that take no memory are answered with every growth refused")
 
 
-main(sys.argv[1:])
+main()

@@ -2,7 +2,7 @@
 """checks/release.py [--trial] [--whole | --folders]: what ./release makes, made and installed as a
 user does.
 
-It tries what ./release refuses, in a clone of its own (refused_release.py). It makes all files
+It tries what ./release refuses, in a clone of its own (faults/release.py). It makes all files
 twice, of the programs and the library that the gate has left, and compares them byte by byte. Then
 it installs them and tries them out where there is no kit and no clone: `mesh` triangulates a file,
 the programs of docs/C.md are compiled by pkg-config and by CMake, threads edit triangulations of
