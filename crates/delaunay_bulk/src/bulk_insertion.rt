@@ -19,8 +19,8 @@ use std::marker::Model;
 use std::vec::IntoIter;
 
 /// The vertices of a list that are still to be inserted: in rounds along a curve through the plane,
-/// so that each is near the one before it. It is for long work, of which a caller wants to hear between
-/// insertions; `insert_all` does the whole at once.
+/// so that each is near the one before it. It is for long work, of which a caller wants to hear
+/// between insertions; `insert_all` does the whole at once.
 ///
 /// ```
 /// let mut insertion = BulkInsertion::new(points)?;
