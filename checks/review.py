@@ -9,8 +9,8 @@
   meanings    `pub` predicates (`IsAt`) and free functions (`edge_after`) that several places define in different ways
   forwards    functions whose whole body is one call with their own parameters
   depends     names of crates.txt's lines that other names of the same line bring along, and crates that one other names
-  imports     lines that import the project's own names, the share of .rt files before the first item, and names that come by
-              several paths
+  imports     lines that import the project's own names, the share of .rt files before the first item, and names that files of
+              other crates import by several paths (tools/imports.py writes one)
   large       contracts of more than eight clauses, functions over 40 lines, files over 500, lines over 100 columns
               (imports apart)
   size        lines by kind of file, and words of docs/
@@ -21,7 +21,11 @@ import os
 import re
 import sys
 
+sys.dont_write_bytecode = True
 os.chdir(os.path.join(os.path.dirname(os.path.realpath(__file__)), ".."))
+sys.path.insert(0, "tools")
+import imports as names_and_paths  # noqa: E402
+
 root = os.path.join(os.getcwd(), "crates")
 words = [w for w in sys.argv[1:] if not w.startswith("-")]
 brief = "--brief" in sys.argv
@@ -249,31 +253,47 @@ def depends():
             f"of {len(below)} crates {len(one)} are named by one other: {' '.join(sorted(one))}")
 
 
-def imported(line):
-    """The path and the names of an import of the project's own, or None."""
-    m = re.match(r"\s*(?:unfoldable )?(?:pub |ghost )*use Rattle\.([\w.]+)\.\{([^}]*)\}", line)
-    if not m:
-        m = re.match(r"\s*(?:pub )?use ([a-z_0-9]+(?:::[a-z_0-9]+)*)::(?:\{([^}]*)\}?|([A-Za-z_]\w*);)", line)
-    if not m or re.split(r"\.|::", m[1])[0] not in {path.split("/")[0] for path in rt}:
-        return None
-    names = m[2] if m[2] is not None else m[3]
-    return m[1], [n.split(" as ")[0].strip() for n in names.split(",") if n.strip()]
+def own_imports(repository):
+    """The imports of .antt files that bring names of the project's own, also of a function's goals."""
+    for key, module in repository.modules.items():
+        for use in module.uses:
+            of_others = use.path.startswith("Rattle") and not repository.is_own(use)
+            is_short = use.path in {x.alias for x in module.uses} or use.path.split(".")[0] in ("declared", *module.children)
+            if use.names is not None and (repository.is_own(use) or is_short) and not of_others:
+                yield key, use
+
+
+def paths_of_names(repository):
+    """What each name is that files of other crates import, with the paths that they do it by."""
+    paths = collections.defaultdict(set)
+    for reader, uses in names_and_paths.readers(repository):
+        for use in uses:
+            for name, path, first in use.brings() if use.names and repository.is_own(use) else ():
+                origin = repository.origin(repository.module(path), first)
+                if origin[0].split(".")[0] != reader.split(".")[0]:
+                    paths[".".join(origin)].add(f"{path}.{first}")
+    crates = names_and_paths.rust_uses.Crates(names_and_paths.ROOT, repository.crates)
+    for file, module in crates.files.items():
+        for mark, text in names_and_paths.rust_uses.USE.findall("\n".join(rt[os.path.relpath(file, root)])):
+            for path, _ in names_and_paths.rust_uses.leaves(text) if not mark else ():
+                to = crates.walk(module, path)
+                if to and isinstance(to[0], tuple) and to[0][0] != module[0] and module[0] not in names_and_paths.USERS:
+                    paths["::".join([*to[0], to[1]])].add("::".join(path))
+    return paths
 
 
 def imports():
-    own = [(path, found) for path, lines in antt.items() for found in map(imported, lines) if found]
+    repository = names_and_paths.Repository({})
+    own = list(own_imports(repository))
     heads = 0
     for lines in rt.values():
         code = [i for i, line in enumerate(lines) if re.match(r"(pub(\(crate\))? )?(const |unsafe |final )*(fn|struct|enum|trait|impl|type|const|static|mod)\b", line)]
         heads += code[0] if code else 0
-    paths = collections.defaultdict(set)
-    for path, lines in [*antt.items(), *rt.items()]:
-        for found in map(imported, lines):
-            for name in found[1] if found else ():
-                paths[name].add(found[0])
+    paths = paths_of_names(repository)
     several = {name: where for name, where in paths.items() if len(where) > 1}
-    heading(f"imports: {len(own)} lines in .antt with {sum(len(names) for _, (_, names) in own)} names; "
-            f"{100 * heads / sum(map(len, rt.values())):.1f} % of .rt before the first item; {len(several)} names by several paths")
+    heading(f"imports: {len(own)} lines in .antt with {sum(len(use.names) for _, use in own)} names; "
+            f"{100 * heads / sum(map(len, rt.values())):.1f} % of .rt before the first item; "
+            f"{len(several)} of {len(paths)} names that other crates import come by several paths")
     if not brief:
         for name, where in sorted(several.items(), key=lambda kv: -len(kv[1]))[:TOP]:
             print(f"  {len(where)} x  {name}: {', '.join(sorted(where)[:4])}, ..")
