@@ -45,9 +45,11 @@ def ask_tile(
     deepest: int,
 ) -> None:
     """The same of one tile, the nearest block first, and then ever more of them."""
-    ranks = asked.ranks(rows, tile.boxes())
+    is_open = np.flatnonzero(part.are_open(tile.tile))
+    ranks = asked.ranks(rows, tile.boxes()[is_open])
     row, block = np.nonzero(ranks < 0)
     order = np.lexsort((ranks[row, block], row))
+    block = is_open[block]
     row, block = row[order], block[order]
     # Which of its row's blocks each one is.
     turn = np.arange(len(row)) - np.searchsorted(row, row)

@@ -145,7 +145,8 @@ def cut_plane(
     tile_of = np.repeat(np.arange(len(boxes)), [len(it.numbers) for it in gathered])
     known = np.bincount(tile_of[rows], minlength=len(boxes))
     has_others = np.array([it.size for it in gathered]) > known
-    return Plan(of_boxes, bounds, corners[rows], numbers[rows], begins, longest, has_others)
+    places = np.stack([tile_of, np.concatenate([it.rows for it in gathered])], 1)[rows]
+    return Plan(of_boxes, bounds, corners[rows], numbers[rows], places, begins, longest, has_others)
 
 
 def place_segments(
