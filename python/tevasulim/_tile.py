@@ -26,11 +26,12 @@ from .errors import CrossingError
 # has at most on each side, by the square root of theirs.
 HALO, AT_SIDE = 6.0, 40
 # Where more faces than this part of a tile's points may have more in their disks than the tile
-# knows, it takes whole blocks: so often, and with at most so many times its own points.
-MANY, TAKEN, MOST_KNOWN = 0.05, 4, 8
+# knows, it takes whole blocks: so often, and with at most so many times its own points, or so many
+# where these are few.
+MANY, TAKEN, MOST_KNOWN, FEW = 0.05, 4, 8, 1 << 15
 # Of how many faces one is looked at to find whether they are many, and to find the first blocks;
 # and what part of a tile its blocks cover at most where many are to be expected.
-SAMPLED, COVERED = 4, 0.1
+LOOKED, SAMPLED, COVERED = 32, 4, 0.1
 # How many points are taken at first for one circle, those deepest inside. Each time that something
 # was given twice as many are taken: many points may be inside and hidden.
 DEEPEST, MOST_AT_ONCE = 8, 4096
@@ -307,7 +308,7 @@ class Tile:
     def near_blocks(self) -> Dict[int, NDArray[Any]]:
         """The blocks of other tiles round the tile, about as many as it may take."""
         x0, y0, x1, y1 = self.bounds[self.tile].tolist()
-        width, most = float(max(x1 - x0, y1 - y0, 1)), MOST_KNOWN * max(len(self.points), BLOCK)
+        width, most = float(max(x1 - x0, y1 - y0, 1)), self.most_known()
         region = self.region_of(width)
         while width > 1 and self.size_of(region) > most:
             width /= 2
@@ -317,6 +318,10 @@ class Tile:
             region = self.region_of(width)
         met = np.flatnonzero(meet(self.bounds, region) & self.is_other)
         return {i: np.flatnonzero(meet(self.tiles[i].boxes(), region)) for i in met.tolist()}
+
+    def most_known(self) -> int:
+        """About how many points of other tiles it may take at most."""
+        return max(MOST_KNOWN * len(self.points), FEW)
 
     def region_of(self, width: float) -> NDArray[Any]:
         return region_round(self.plan.boxes[self.tile], np.full(4, width))
@@ -482,17 +487,18 @@ class Work:
         most, tile = MANY * len(self.tile.points), self.tile
         part.look()
         self.rounds += 1
-        faces = part.faces_at(part.is_own)[::SAMPLED]
-        if SAMPLED * part.count_past(faces) <= most:
+        faces = part.faces_at(part.is_own)
+        if LOOKED * part.count_past(faces[::LOOKED]) <= most:
             past = part.own_faces_past()
             return past, np.ones(len(past), bool)
         if not part.has_firsts:
             part.take_firsts(tile.near_blocks())
             part.look()
-            faces = part.faces_at(part.is_own)[::SAMPLED]
+            faces = part.faces_at(part.is_own)
+        faces = faces[::SAMPLED]
         found = part.reached(faces)
         for _ in range(TAKEN):
-            if BLOCK * sum(map(len, found.blocks.values())) > MOST_KNOWN * len(tile.points):
+            if BLOCK * sum(map(len, found.blocks.values())) > tile.most_known():
                 break
             part.take_blocks(found.blocks, tile.lacking(part, faces)[1])
             part.look()

@@ -167,6 +167,16 @@ def pieces_of(part: str) -> List[Piece]:
     return [Piece(part, begin, min(begin + PIECE, count)) for begin in begins]
 
 
+def is_plain(part: str, reading: Reading) -> bool:
+    """Whether a part is the name of a .npy of points as they are, which this process reaches."""
+    if not part.endswith(".npy") or reading != Reading():
+        return False
+    try:
+        return not load(part).dtype.names
+    except (OSError, ValueError):
+        return False
+
+
 def survey(piece: Piece, count: int) -> Tuple[int, NDArray[Any]]:
     """How many points a piece has, and at most so many of them, picked blindly but always the same.
     A part with anything but points in range is refused."""
