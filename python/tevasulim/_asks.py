@@ -6,6 +6,7 @@ from typing import TYPE_CHECKING, Any, Tuple
 import numpy as np
 
 from ._disks import Disks
+from ._segments import meet
 from ._tile_files import Neighbour
 from ._types import NDArray
 
@@ -45,7 +46,10 @@ def ask_tile(
     deepest: int,
 ) -> None:
     """The same of one tile, the nearest block first, and then ever more of them."""
-    is_open = np.flatnonzero(part.are_open(tile.tile))
+    wide = asked.radii[rows, None]
+    low, high = (asked.centers[rows] - wide).min(0), (asked.centers[rows] + wide).max(0)
+    near = part.are_open(tile.tile) & meet(tile.boxes(), np.concatenate([low, high]))
+    is_open = np.flatnonzero(near)
     ranks = asked.ranks(rows, tile.boxes()[is_open])
     row, block = np.nonzero(ranks < 0)
     order = np.lexsort((ranks[row, block], row))

@@ -1,7 +1,7 @@
 """Which blocks of other tiles the disks of many faces reach."""
 from __future__ import annotations
 
-from typing import TYPE_CHECKING, Any, Dict, Iterator, NamedTuple, Tuple
+from typing import TYPE_CHECKING, Any, Dict, Iterator, List, NamedTuple, Tuple
 
 import numpy as np
 
@@ -15,13 +15,24 @@ if TYPE_CHECKING:
 
 # How many boxes near each other are looked at together, and how many blocks are one at first.
 GROUP, RUN = 256, 8
+# A disk that reaches more blocks is that of a face for which a few points are lacking.
+NEAR = 16
 
 
 class Reached(NamedTuple):
-    """Which disks reach a block, and the blocks of each tile that are reached."""
+    """Which disks reach a block, and the blocks of each tile that are reached: by any of the disks,
+    or by those that do not reach many."""
 
     is_reached: NDArray[Any]
-    blocks: Dict[int, NDArray[Any]]
+    by_any: Dict[int, NDArray[Any]]
+    by_near: Dict[int, NDArray[Any]]
+
+    def blocks(self, most: int) -> Dict[int, NDArray[Any]]:
+        """At most so many blocks: all, or those by near disks, or none."""
+        for blocks in self.by_any, self.by_near:
+            if sum(map(len, blocks.values())) <= most:
+                return blocks
+        return {}
 
 
 def groups_of(boxes: NDArray[Any]) -> Iterator[Tuple[NDArray[Any], NDArray[Any]]]:
@@ -52,22 +63,31 @@ def reach(asked: Disks, part: Part, tiles: NDArray[Any]) -> Reached:
     wide = np.sqrt(asked.reaches_2)[:, None]
     groups = list(groups_of(np.hstack([asked.centers - wide, asked.centers + wide])))
     bounds = np.array([it for _, it in groups]).reshape(-1, 4)
-    is_reached, blocks = np.zeros(len(asked), bool), {}
+    counts = np.zeros(len(asked), np.intp)
+    hits: Dict[int, List[NDArray[Any]]] = {}
     for tile in tiles.tolist():
         near = np.flatnonzero(meet(bounds, part.tile.bounds[tile]))
         is_open = np.flatnonzero(part.are_open(tile)) if len(near) else near
         if not len(is_open):
             continue
         boxes = part.tile.tiles[tile].boxes()[is_open]
-        runs, is_found = runs_of(boxes), np.zeros(len(boxes), bool)
+        runs, found = runs_of(boxes), []
         for group in near.tolist():
             rows, box = groups[group]
             row, block = pairs_of(asked, rows, runs, np.flatnonzero(meet(runs, box)), len(boxes))
             is_hit = asked.are_reached(row, boxes[block])
-            is_reached[row[is_hit]] = is_found[block[is_hit]] = True
-        if is_found.any():
-            blocks[tile] = is_open[is_found]
-    return Reached(is_reached, blocks)
+            found.append((row[is_hit], is_open[block[is_hit]]))
+        hits[tile] = [np.concatenate(it) for it in zip(*found)]
+        counts += np.bincount(hits[tile][0], minlength=len(counts))
+    return Reached(counts > 0, *(blocks_of(hits, it) for it in (counts > 0, counts <= NEAR)))
+
+
+def blocks_of(
+    hits: Dict[int, List[NDArray[Any]]], are_some: NDArray[Any]
+) -> Dict[int, NDArray[Any]]:
+    """The blocks of each tile that some disks reach, by pairs of a disk and a block."""
+    found = {tile: np.unique(block[are_some[row]]) for tile, (row, block) in hits.items()}
+    return {tile: blocks for tile, blocks in found.items() if len(blocks)}
 
 
 def runs_of(boxes: NDArray[Any]) -> NDArray[Any]:

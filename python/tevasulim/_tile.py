@@ -27,8 +27,8 @@ from .errors import CrossingError
 HALO, AT_SIDE = 6.0, 40
 # Where more faces than this part of a tile's points may have more in their disks than the tile
 # knows, it takes whole blocks: so often, and with at most so many times its own points, or so many
-# where these are few.
-MANY, TAKEN, MOST_KNOWN, FEW = 0.05, 4, 8, 1 << 15
+# where these are few. Where they are more than a larger part, it first takes some of each block.
+ASKED, MANY, TAKEN, MOST_KNOWN, FEW = 0.004, 0.05, 4, 8, 1 << 15
 # Of how many faces one is looked at to find whether they are many, and to find the first blocks;
 # and what part of a tile its blocks cover at most where many are to be expected.
 LOOKED, SAMPLED, COVERED = 32, 4, 0.1
@@ -109,7 +109,6 @@ class Part:
         self.segments = NONE
         self._keys: Optional[NDArray[Any]] = None
         self._open: Dict[int, NDArray[Any]] = {}
-        self.has_firsts = False
         self.mesh = Mesh()
         try:
             self.insert_all(points, numbers)
@@ -161,7 +160,6 @@ class Part:
 
     def take_firsts(self, blocks: Dict[int, NDArray[Any]]) -> None:
         """Takes the first point of each of some tiles' blocks."""
-        self.has_firsts = True
         self.take([self.tile.tiles[it].firsts(some) for it, some in blocks.items()], NONE)
 
     def take_blocks(self, blocks: Dict[int, NDArray[Any]], segments: NDArray[Any]) -> None:
@@ -223,8 +221,10 @@ class Part:
         numbers = self.tile.numbers_at(points)
         is_there = numbers >= 0
         if not is_there.any():
-            others = self.segments[crossing(self.segments, segment), ROW]
-            raise Crossing(int(segment[ROW]), int(others.min(initial=segment[ROW])))
+            others = self.segments[crossing(self.segments, segment), ROW].tolist()
+            # It may come after segments that stand behind it in the list.
+            rows = int(segment[ROW]), min(others, default=int(segment[ROW]))
+            raise Crossing(max(rows), min(rows))
         self.insert_all(points[is_there], numbers[is_there])
 
     def add(
@@ -264,7 +264,7 @@ class Tile:
         # Tiles without points have bounds of nothing.
         self.is_other = self.bounds[:, 0] <= self.bounds[:, 2]
         self.is_other[tile] = False
-        self.region = self.first_region()
+        self.region, self.is_sparse = self.first_region(), self.leaves_gaps()
         self.asked, self.deepest = 0, DEEPEST
         self._segments: Dict[int, Any] = {}
 
@@ -297,7 +297,7 @@ class Tile:
         rows = self.plan.places[self.plan.places[:, 0] == tile, 1]
         return self.tiles[tile].are_whole(np.bincount(rows // BLOCK))
 
-    def is_sparse(self) -> bool:
+    def leaves_gaps(self) -> bool:
         """Whether the tile's blocks leave most of it empty, as where points lie on lines: then
         disks are wide."""
         x0, y0, x1, y1 = self.bounds[self.tile].tolist()
@@ -305,10 +305,10 @@ class Tile:
         areas = (boxes[:, 2] - boxes[:, 0]) * (boxes[:, 3] - boxes[:, 1])
         return float(areas.sum()) < COVERED * float(x1 - x0) * float(y1 - y0)
 
-    def near_blocks(self) -> Dict[int, NDArray[Any]]:
-        """The blocks of other tiles round the tile, about as many as it may take."""
+    def near_blocks(self, most: int) -> Dict[int, NDArray[Any]]:
+        """The blocks of other tiles round the tile that have about so many points."""
         x0, y0, x1, y1 = self.bounds[self.tile].tolist()
-        width, most = float(max(x1 - x0, y1 - y0, 1)), self.most_known()
+        width = float(max(x1 - x0, y1 - y0, 1))
         region = self.region_of(width)
         while width > 1 and self.size_of(region) > most:
             width /= 2
@@ -375,11 +375,14 @@ class Tile:
         points, numbers = self.halo()
         points, numbers = np.concatenate([self.points, points]), np.append(self.numbers, numbers)
         segments = self.segments_in(self.region)
-        # All points in the region are known, and no other.
-        more, of_them = ends_of(segments)
-        more = np.concatenate([self.plan.corners, more])
-        of_them, first = np.unique(np.append(self.plan.numbers, of_them), return_index=True)
-        more = more[first]
+        # All points in the region are known. Of those round it some are, so that disks are about as
+        # wide as those of all points.
+        most = self.most_known() if self.is_sparse else len(self.points)
+        given = [self.tiles[it].firsts(some) for it, some in self.near_blocks(most).items()]
+        given += [ends_of(segments), (self.plan.corners, self.plan.numbers)]
+        more, of_them = (np.concatenate(it) for it in zip(*given))
+        of_them, first = np.unique(of_them, return_index=True)
+        more = more[first].astype(np.int64)
         is_new = ~are_in(more, self.region)
         points = np.concatenate([points, more[is_new]])
         numbers = np.append(numbers, of_them[is_new])
@@ -449,6 +452,7 @@ class Work:
     def __init__(self, files: TileFiles, tile: int, plan: Plan):
         self.tile = Tile(files, tile, plan)
         self.rounds = self.known = self.fetched = 0
+        self.before = np.empty((3, 0), np.int32)
 
     def rows(self) -> NDArray[Any]:
         """The cells whose least point is the tile's own. A face of a part is sure where the part
@@ -457,8 +461,6 @@ class Work:
         which all faces at it are made sure."""
         part = self.tile.part()
         try:
-            if self.tile.is_sparse():
-                part.take_firsts(self.tile.near_blocks())
             past, is_reached = self.take_more(part)
             self.known = len(part.points)
             given = self.tile.ask(part, past[is_reached], self.tile.others())
@@ -481,42 +483,58 @@ class Work:
 
     def take_more(self, part: Part) -> Tuple[NDArray[Any], NDArray[Any]]:
         """The faces at own points whose disks reach past the part's region, and which of them may
-        have something in their disks that the part does not know. Where these are many it takes
-        the blocks that they reach: first a point of each block round the tile, so that disks are
-        about as wide as those of all points, and then whole blocks."""
-        most, tile = MANY * len(self.tile.points), self.tile
-        part.look()
-        self.rounds += 1
-        faces = part.faces_at(part.is_own)
-        if LOOKED * part.count_past(faces[::LOOKED]) <= most:
-            past = part.own_faces_past()
-            return past, np.ones(len(past), bool)
-        if not part.has_firsts:
-            part.take_firsts(tile.near_blocks())
-            part.look()
-            faces = part.faces_at(part.is_own)
-        faces = faces[::SAMPLED]
+        have something in their disks that the part does not know. Where these are not few the part
+        takes the blocks that they reach."""
+        few = ASKED * len(self.tile.points)
+        self.look(part)
+        own = part.faces_at(part.is_own)
+        if LOOKED * part.count_past(own[::LOOKED]) > MANY * len(self.tile.points):
+            self.take_roughly(part)
+        faces = part.own_faces_past()
+        if len(faces) <= few:
+            return faces, np.ones(len(faces), bool)
         found = part.reached(faces)
         for _ in range(TAKEN):
-            if BLOCK * sum(map(len, found.blocks.values())) > tile.most_known():
+            blocks = found.blocks(max(len(self.tile.points) // 3, FEW) // BLOCK)
+            if found.is_reached.sum() <= few or not blocks:
                 break
-            part.take_blocks(found.blocks, tile.lacking(part, faces)[1])
-            part.look()
-            self.rounds += 1
-            faces = part.own_faces_past()
+            self.take_blocks(part, faces, blocks)
+            # A face within the region that is as it was needs no more.
+            is_asked = ~are_same(part.corners, self.before)
+            is_asked[faces] = True
+            own = part.faces_at(part.is_own)
+            faces = own[is_asked[own]]
             found = part.reached(faces)
-            if found.is_reached.sum() <= most:
-                return faces, found.is_reached
-        faces = part.own_faces_past()
-        return faces, part.reached(faces).is_reached
+        return faces, found.is_reached
+
+    def look(self, part: Part) -> None:
+        part.look()
+        self.rounds += 1
+
+    def take_roughly(self, part: Part) -> None:
+        """Takes a point of each of many blocks round the tile, and then the blocks that some of its
+        faces reach."""
+        if not self.tile.is_sparse:
+            part.take_firsts(self.tile.near_blocks(self.tile.most_known()))
+            part.look()
+        faces = part.faces_at(part.is_own)[::SAMPLED]
+        blocks = part.reached(faces).blocks(self.tile.most_known() // BLOCK)
+        if blocks:
+            self.take_blocks(part, faces, blocks)
+
+    def take_blocks(self, part: Part, faces: NDArray[Any], blocks: Dict[int, Any]) -> None:
+        """Takes blocks that some faces reach, and what segments may enter these. `before` has the
+        corners of all faces as they were."""
+        self.before = part.corners
+        part.take_blocks(blocks, self.tile.lacking(part, faces)[1])
+        self.look(part)
 
     def sure_cells(self, smaller: Part, asked: NDArray[Any]) -> NDArray[Any]:
         """The cells at some own points, after each face there is made sure."""
         tiles, looked = np.flatnonzero(self.tile.is_there), np.empty((3, 0), np.int32)
         again = np.empty(0, np.int64)
         while True:
-            smaller.look()
-            self.rounds += 1
+            self.look(smaller)
             is_asked = np.isin(smaller.numbers, asked)
             # A face that nothing was given for, and that is as it was, is sure already.
             is_new = ~are_same(smaller.corners, looked)

@@ -69,26 +69,30 @@ def cut_of(sample: NDArray[Any], tiles: int, most: float) -> Any:
         values, half = sample[:, axis], tiles // 2
         larger = values[values > values.min(initial=MOST)]
         if len(larger):
-            middle = len(values) * half // tiles
-            at = max(int(np.partition(values, middle)[middle]), int(larger.min()))
-            each = len(values) / tiles
-            first = max(len(values) - most * (tiles - half), each * half / UNEVEN)
-            last = min(most * half, len(values) - each * (tiles - half) / UNEVEN)
-            at = gap_in(np.sort(values), max(int(np.ceil(first)), 1), int(last), at)
+            count, middle, each = len(values), len(values) * half // tiles, len(values) / tiles
+            first = max(count - most * (tiles - half), each * half / UNEVEN)
+            last = min(most * half, count - each * (tiles - half) / UNEVEN)
+            at = gap_in(np.sort(values), int(np.ceil(first)), int(last), middle)
+            if at is None:
+                at = max(int(np.partition(values, middle)[middle]), int(larger.min()))
             low = values < at
             below = cut_of(sample[low], half, most)
             return axis, at, below, cut_of(sample[~low], tiles - half, most)
     return None
 
 
-def gap_in(values: NDArray[Any], first: int, last: int, at: int) -> int:
-    """The upper end of the widest gap before one of some places in values in order, where it is
-    wide, or else what is given: few circles reach over a wide gap."""
-    some = values[first - 1 : last + 1].astype(np.int64)
+def gap_in(values: NDArray[Any], first: int, last: int, middle: int) -> Optional[int]:
+    """The upper end of a wide gap in values in order, before one of some places, or None: few
+    circles reach over a wide gap. Of several it is the one that is nearest to the middle."""
+    some = values[max(first, 1) - 1 : last + 1].astype(np.int64)
     gaps = some[1:] - some[:-1]
-    if len(gaps) and gaps.max() > GAP * (int(values[-1]) - int(values[0])):
-        return int(some[1 + int(gaps.argmax())])
-    return at
+    least = max(GAP * (int(values[-1]) - int(values[0])), int(gaps.max(initial=0)) // 2)
+    wide = np.flatnonzero(gaps > least)
+    # A grid has as wide a gap everywhere.
+    if not len(wide) or least < 4 * np.median(gaps[gaps > 0]):
+        return None
+    nearest = wide[np.abs(wide + max(first, 1) - middle).argmin()]
+    return int(some[1 + nearest])
 
 
 def boxes_in(plan: Any, box: Box = PLANE) -> List[Box]:
