@@ -30,7 +30,7 @@ void tevasulim_close(tevasulim_triangulation *self)
         tevasulim_close_handle(self);
 }
 
-/* The words of tevasulim_status_text, which compare/c_library compares with these. */
+/* The words of tevasulim_status_text, which checks/c_library.py compares with these. */
 const char *tevasulim_status_string(uint32_t status)
 {
     switch (status) {

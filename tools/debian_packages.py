@@ -14,7 +14,7 @@ LIBDIR = "lib/x86_64-linux-gnu"
 MAINTAINER = "Tevasulim maintainers <maintainers@users.noreply.tevasulim.example>"
 # The version of Debian's packages of this version.
 REVISION = "1"
-# The least C library that serves programs and library; compare/release looks whether it does.
+# The least C library that serves programs and library; checks/release.py looks whether it does.
 LIBRARY_NEEDS, PROGRAMS_NEED = "libc6 (>= 2.14)", "libc6 (>= 2.34)"
 
 # Of each package: its section, what it depends on, its summary, and what it is.

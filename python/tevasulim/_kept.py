@@ -20,7 +20,7 @@ import numpy as np
 
 from . import _library as library
 from ._grid import WHOLE, Grid, chosen
-from ._order import near_order, rounds
+from ._order import near_order
 from ._types import NDArray
 from .errors import (
     ClosedError,
@@ -236,9 +236,7 @@ class Kept:
         """Inserts points of a grid, and gives the first number at each."""
         self._reserve(len(steps))
         self._edit = Insertion(self._size, self._count, self._grid, self._rounding)
-        vertices = np.empty(len(steps), np.uint32)
-        for part in rounds(steps):
-            vertices[part] = self._of_each("insert_all", steps[part], 1)[:, 0]
+        vertices = self._of_each("insert_all", steps, 1)[:, 0]
         firsts = self._note(steps, vertices)
         self._set_numbers(vertices, firsts)
         self._grid, self._rounding = grid, max(self._rounding, rounding)

@@ -1,7 +1,7 @@
-"""Orders of points in which each search begins near its end, and rounds of insertions."""
+"""Orders of points in which each search begins near its end."""
 from __future__ import annotations
 
-from typing import Any, List
+from typing import Any
 
 import numpy as np
 
@@ -10,9 +10,6 @@ from ._types import NDArray
 
 # Fewer points are taken in their own order.
 FEW = 32
-# The last round of an insertion has so many times the points before it, and so on, down to about
-# so many.
-TIMES, FIRST = 8, 1000
 MASKS = (
     (16, 0x0000_FFFF_0000_FFFF),
     (8, 0x00FF_00FF_00FF_00FF),
@@ -72,16 +69,3 @@ def near_order_of_all(points: NDArray[Any]) -> NDArray[Any]:
     rows = order.take(shared)
     order[shared] = rows.take(np.lexsort((near_keys(points.take(rows, axis=0)), keys.take(shared))))
     return order
-
-
-def rounds(points: NDArray[Any]) -> List[NDArray[Any]]:
-    """Rows of points of shape (n, 2) in rounds of more and more, each picked blindly, but always
-    the same, from all over the plane. The library inserts each along a curve: so no order and no
-    distribution of points makes many flips."""
-    ends = [len(points)]
-    while ends[-1] > FIRST:
-        ends.append(ends[-1] // TIMES)
-    if len(ends) == 1:
-        return [np.arange(len(points))]
-    return np.split(np.random.default_rng(0).permutation(len(points)), ends[:0:-1])
-

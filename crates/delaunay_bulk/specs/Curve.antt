@@ -1,8 +1,8 @@
 -- The number that a point has on a Hilbert curve, as it is computed. Which number it is decides
 -- nothing but time.
 use Rattle.std.specs.Prelude.{ℕ, ℤ, Bool, ◌*◌, ◌/◌, ◌^◌, ◌%◌, ◌==◌, if◌then◌else◌, pos}
-use Rattle.std.specs.Prelude.{unsigned_abs, bit_and}
-use Rattle.std.specs.Int.{int_wrapping_add, w64}
+use Rattle.std.specs.Prelude.{◌-◌, min, unsigned_abs, bit_and}
+use Rattle.std.specs.Int.{int_wrapping_add, leading_zeros, w64}
 use Rattle.std.specs.Int.Bits.{bit_or, bit_xor}
 use Rattle.delaunay_bulk.specs.declared.curve.Turns.{Turns}
 
@@ -73,10 +73,13 @@ key_at x y =
     let sixteen = turned_by_twice (turned_by_twice four 4) 8 in
     joined_at px py (turned_by_twice sixteen 16)
 
--- about every eighth number as it is, and each other one above all of these
+-- the round of a number on the curve, from 0 to 7, chosen by a hash
+unfoldable pub round_of : ℕ → ℕ
+round_of key = 7 - min (leading_zeros w64 (key * 11400714819323198485 % 2 ^ 64) / 3) 7
+
+-- a number on the curve below the number of its round
 unfoldable pub round_key : ℕ → ℕ
-round_key key =
-    if key * 11400714819323198485 % 2 ^ 64 / 2 ^ 61 == 0 then key else bit_or key (2 ^ 63)
+round_key key = bit_or (round_of key * 2 ^ 61 % 2 ^ 64) (key / 2)
 
 -- the number by which points are ordered: in rounds where they are not all on one line
 unfoldable pub order_key : Bool → ℤ → ℤ → ℕ

@@ -18,9 +18,9 @@ use std::alloc::AllocError;
 use std::marker::Model;
 use std::vec::IntoIter;
 
-/// The vertices of a list that are still to be inserted: twice along a curve through the plane, so
-/// that each is near the one before it, and first about every eighth. It is for long work, of which a caller wants to hear between
-/// insertions; `insert_all` does the whole at once.
+/// The vertices of a list that are still to be inserted: in rounds along a curve through the plane,
+/// so that each is near the one before it. It is for long work, of which a caller wants to hear
+/// between insertions; `insert_all` does the whole at once.
 ///
 /// ```
 /// let mut insertion = BulkInsertion::new(points)?;

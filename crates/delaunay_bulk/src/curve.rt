@@ -1,6 +1,6 @@
 //! Where a point is on a Hilbert curve.
 ghost use Rattle.std.specs.Prelude.{◌≡◌, ◌<◌};
-ghost use Rattle.delaunay_bulk.specs.Curve.{doubled_by, joined_at, key_at, order_key, round_key};
+ghost use Rattle.delaunay_bulk.specs.Curve.{doubled_by, joined_at, key_at, order_key, round_key, round_of};
 ghost use Rattle.delaunay_bulk.specs.Curve.{spread_of};
 ghost use Rattle.delaunay_bulk.specs.Curve.{turned_by_twice, turned_by_two};
 
@@ -102,22 +102,27 @@ fn curve_key(x: i64, y: i64) -> u64
     key_from(x, y, turns_of_twice(sixteen, 16))
 }
 
-// A number on the curve, and above it the round of its point: about every eighth number, chosen by
-// a hash, is of the first round and stays, and each other one is above all of these.
+// The round of a number on the curve, chosen by a hash: the last one, 7, of about seven numbers in
+// eight, the one before it of seven in eight of the others, and so on.
+#[tactic(auto, unfolding(crate::specs::Curve::round_of))]
+fn round_of(key: u64) -> u64
+    ensures { result ≡ round_of key }
+{
+    let thirds = key.wrapping_mul(0x9e37_79b9_7f4a_7c15).leading_zeros() / 3;
+    u64::from(7 - thirds.min(7))
+}
+
+// A number on the curve below the number of its round.
 #[tactic(auto, unfolding(crate::specs::Curve::round_key))]
 fn round_key(key: u64) -> u64
     ensures { result ≡ round_key key }
 {
-    if key.wrapping_mul(0x9e37_79b9_7f4a_7c15) >> 61 == 0 {
-        key
-    } else {
-        key | (1 << 63)
-    }
+    (round_of(key) << 61) | (key >> 1)
 }
 
-/// The number by which points are ordered: along the curve, in two rounds where they are not all on
-/// one line. The few points of the first round are all over the plane, so that the others make
-/// small faces from the beginning, which takes fewer flips.
+/// The number by which points are ordered: along the curve, in rounds of about eight times as many
+/// points each where they are not all on one line. The points of the rounds before are all over the
+/// plane, so that those of a round make small faces from the beginning, which takes fewer flips.
 #[tactic(auto, unfolding(crate::specs::Curve::order_key))]
 pub(crate) fn order_key(x: i64, y: i64, is_line: bool) -> u64
     ensures { result ≡ order_key is_line x y }

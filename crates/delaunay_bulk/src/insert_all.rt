@@ -20,8 +20,8 @@ pub type ScalarOf<T> = <VertexOf<T> as HasPosition>::Scalar;
 pub trait InsertAll: Triangulation {
     /// Inserts all vertices of a list, as `insert` would one after another, and gives their handles
     /// in the order of the list. They are inserted in another order, by searches that each begin at
-    /// the vertex before: twice along a curve, first a few from all over the plane and then the
-    /// others. That takes less time than any order of the list. Of several vertices at one position
+    /// the vertex before: along a curve, in rounds of about eight times as many as before, each from
+    /// all over the plane. That takes less time than any order of the list. Of several vertices at one position
     /// the last of the list is kept, and all have its handle.
     ///
     /// The first of these that applies decides. It gives `Vertex` with `TooLarge` exactly where a

@@ -50,8 +50,8 @@ fn are_on_one_line<V: HasPosition>(vertices: &[V]) -> bool {
     true
 }
 
-/// The vertices along the curve, those of one position by rising place: in two rounds where they
-/// are not all on one line. It gives `AllocError` where memory was refused.
+/// The vertices along the curve, those of one position by rising place: in rounds where they are
+/// not all on one line. It gives `AllocError` where memory was refused.
 pub(crate) fn along_curve<V: HasPosition + Drop>(
     vertices: Vec<V>,
 ) -> Result<Vec<Keyed<V>>, AllocError>

@@ -1,6 +1,6 @@
 //! Small programs as users of the library write them. Each line of standard input is the name of
 //! one, which is run. The stored output was worked out without a triangulation, by
-//! `compare/examples`.
+//! `checks/examples.py`.
 #![tactic(auto)]
 
 mod castle;

@@ -1,5 +1,5 @@
 //! What is to hold of the parts of the program by themselves, each with whether it does. Whole runs
-//! of the program are made by `compare/dialogues`.
+//! of the program are made by `checks/dialogues.py`.
 #![tactic(auto)]
 
 mod failures;

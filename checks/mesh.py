@@ -1,0 +1,1388 @@
+#!/usr/bin/env python3
+"""checks/mesh.py [PROGRAM]: runs the program `mesh` on drawings and on files with faults, and compares
+what it writes with what the points and segments alone say.
+
+PROGRAM is crates/mesh as the gate has built it. Faces are found by geometry.py's brute force, with
+exact numbers: points are scaled here by Python's fractions, constraints are cut at the points on
+them, and which faces lie outside or in a hole is found by a search of this file. Each form that is
+written is read back by readers of this file, by the program itself where it reads that form, and by
+Debian's python3-meshio, which is installed where that may be done.
+"""
+import json
+import os
+import random
+import re
+import resource
+import stat
+import subprocess
+import sys
+import tempfile
+from fractions import Fraction
+from itertools import combinations
+from xml.etree import ElementTree
+
+import debian
+from model.geometry import carries, distance_2, edges_of, faces_of, in_circle, side, twice_hull
+from project import named_or_built
+
+PROGRAM = named_or_built("mesh")
+
+
+# ---- the program
+
+def run(words, text=b"", status=0):
+    """What the program writes, to both of its outputs, after a look at its exit status."""
+    text = text if isinstance(text, bytes) else text.encode()
+    ran = subprocess.run([PROGRAM, *words], input=text, capture_output=True, timeout=120)
+    if ran.returncode != status:
+        sys.exit(f"mesh {' '.join(words)}: status {ran.returncode}, not {status}: {ran.stderr}")
+    return ran.stdout.decode(), ran.stderr.decode()
+
+
+def expect(is_right, told):
+    if not is_right:
+        sys.exit(told)
+
+
+# ---- drawings: points as texts, segments by places from 0, points in holes, polygons' rings
+
+class Drawing:
+    def __init__(self, points, segments=(), holes=(), polygons=()):
+        self.texts, self.segments, self.holes = list(points), list(segments), list(holes)
+        self.polygons = list(polygons)
+        self.points = [tuple(Fraction(number) for number in point[:2]) for point in self.texts]
+        # whole numbers, for all that is worked out
+        self.whole, self.inner = ([tuple(int(Fraction(number) * 1000) for number in point[:2])
+                                   for point in points] for points in (self.texts, self.holes))
+
+    def csv(self):
+        head = "x,y,z"[: 2 * len(self.texts[0]) - 1]
+        return "\n".join([head, *(",".join(point) for point in self.texts)]) + "\n"
+
+    def lines(self):
+        return "from,to\n" + "".join(f"{a + 1},{b + 1}\n" for a, b in self.segments)
+
+    def poly(self, first=1):
+        lines = ["# a drawing", f"{len(self.texts)} 2 {len(self.texts[0]) - 2} 0"]
+        lines += [f"{i} {' '.join(p)}" for i, p in enumerate(self.texts, first)]
+        lines += ["", f"{len(self.segments)} 0"]
+        lines += [f"{i} {a + first} {b + first}  # a wall"
+                  for i, (a, b) in enumerate(self.segments, first)]
+        lines += [f"{len(self.holes)}"]
+        lines += [f"{i} {' '.join(p)}" for i, p in enumerate(self.holes, first)]
+        return "\n".join(lines) + "\n"
+
+
+def pieces(points, segments):
+    """Segments cut at the points on them, as pairs of places with the lesser first."""
+    found = set()
+    for a, b in segments:
+        on = [k for k, p in enumerate(points)
+              if k in (a, b) or carries(points[a], points[b], p)]
+        on.sort(key=lambda k: (points[k], k))
+        found |= {tuple(sorted(pair)) for pair in zip(on, on[1:])
+                  if points[pair[0]] != points[pair[1]]}
+    return found
+
+
+def is_in(a, b, c, p):
+    """Whether p is in a triple that turns left, or on a side of it."""
+    return min(side(a, b, p), side(b, c, p), side(c, a, p)) >= 0
+
+
+def turned(face):
+    least = face.index(min(face))
+    return tuple(face[least:] + face[:least])
+
+
+def expected_faces(points, walls, written):
+    """All faces of the triangulation; where four points are on one circle, with the diagonal that
+    was written. Many points have no walls: theirs are the faces with no point in their circles."""
+    if len(points) > 20:
+        faces = {turned(face) for face in written}
+        corners = [[points[k] for k in face] for face in faces]
+        expect(all(side(*face) > 0 for face in corners), "faces turn left")
+        expect(sum(side(*face) for face in corners) == twice_hull(points), "faces tile the hull")
+        expect(all(in_circle(*face, p) <= 0 for face in corners for p in points), "empty circles")
+        return faces
+    listed = {tuple(sorted(pair)) for face in written for pair in combinations(face, 2)}
+    edges = edges_of(points, walls, listed)
+    return {turned(list(face)) for face in faces_of(points, edges)}
+
+
+def is_within(ring, p):
+    """Whether p, which is on none of its sides, is within a ring: a ray to the right leaves it."""
+    return sum((a[1] > p[1]) != (b[1] > p[1]) and (side(a, b, p) > 0) == (b[1] > a[1])
+               for a, b in zip(ring, ring[1:] + ring[:1])) % 2 == 1
+
+
+def within_holes(drawing, faces):
+    """The faces at a side of a ring round a hole, within that ring and no polygon."""
+    found = set()
+    rings = [[[drawing.whole[k] for k in ring] for ring in polygon] for polygon in drawing.polygons]
+    for face in faces:
+        corners = [drawing.whole[k] for k in face]
+        middle = tuple(Fraction(sum(numbers), 3) for numbers in zip(*corners))
+        if any(is_within(outer, middle) and not any(is_within(ring, middle) for ring in holes)
+               for outer, *holes in rings):
+            continue
+        for ring in (ring for _, *holes in drawing.polygons for ring in holes):
+            sides = pieces(drawing.whole, list(zip(ring, ring[1:] + ring[:1])))
+            if is_within([drawing.whole[k] for k in ring], middle) and any(
+                    tuple(sorted(pair)) in sides for pair in combinations(face, 2)):
+                found.add(face)
+    return found
+
+
+def kept(points, walls, faces, holes, within=()):
+    """The faces that no way past no wall leads to, from outside, from a hole or from others."""
+    sides = {}
+    for face in faces:
+        for pair in zip(face, face[1:] + face[:1]):
+            sides.setdefault(tuple(sorted(pair)), []).append(face)
+    left = {face for pair, at in sides.items() if len(at) == 1 and pair not in walls for face in at}
+    left |= {face for face in faces for hole in holes
+             if is_in(*(points[k] for k in face), hole)}
+    left |= set(within)
+    todo = list(left)
+    while todo:
+        face = todo.pop()
+        for pair in zip(face, face[1:] + face[:1]):
+            if tuple(sorted(pair)) not in walls:
+                for other in sides[tuple(sorted(pair))]:
+                    if other not in left:
+                        left.add(other)
+                        todo.append(other)
+    return set(faces) - left
+
+
+# ---- readers of what is written: points as fractions, faces by places from 0
+
+def read_obj(text):
+    points = [tuple(map(Fraction, line.split()[1:])) for line in text.splitlines()
+              if line.startswith("v ")]
+    return points, [[int(word) - 1 for word in line.split()[1:]] for line in text.splitlines()
+                    if line.startswith("f ")]
+
+
+def read_ply(text):
+    head, body = text.split("end_header\n")
+    expect(head.startswith("ply\nformat ascii 1.0\n"), "ply: the head")
+    count, faces = (int(re.search(rf"element {name} (\d+)", head).group(1))
+                    for name in ("vertex", "face"))
+    lines = body.splitlines()
+    expect(len(lines) == count + faces, "ply: the number of lines")
+    expect(all(line.startswith("3 ") for line in lines[count:]), "ply: faces")
+    return ([tuple(map(Fraction, line.split())) for line in lines[:count]],
+            [[int(word) for word in line.split()[1:]] for line in lines[count:]])
+
+
+def read_table(text):
+    head, *lines = text.splitlines()
+    expect(head == "a,b,c,area", "csv: the header")
+    rows = [line.split(",") for line in lines]
+    return [[int(word) - 1 for word in row[:3]] for row in rows], [Fraction(r[3]) for r in rows]
+
+
+def read_numbered(text):
+    """A .node or .ele file: its head, and its rows, numbered from 1."""
+    head, *lines = (line.split() for line in text.splitlines())
+    expect([line[0] for line in lines] == [str(i + 1) for i in range(len(lines))], "numbers")
+    expect(int(head[0]) == len(lines), "the number of rows")
+    return head, [line[1:] for line in lines]
+
+
+def read_geojson(text):
+    parsed = json.loads(text, parse_float=Fraction, parse_int=Fraction)
+    expect(parsed["type"] == "FeatureCollection", "geojson: its type")
+    rings = []
+    for feature in parsed["features"]:
+        expect(feature["geometry"]["type"] == "Polygon", "geojson: a polygon")
+        (ring,) = feature["geometry"]["coordinates"]
+        expect(len(ring) == 4 and ring[0] == ring[3], "geojson: a closed ring")
+        rings.append([tuple(corner[:2]) for corner in ring[:3]])
+    return rings
+
+
+def read_svg(text):
+    """The faces and the walls of a picture, in its own units, with y upwards."""
+    found = []
+    for kind in "polygon", "polyline":
+        shapes = []
+        for shape in ElementTree.fromstring(text).iter("{http://www.w3.org/2000/svg}" + kind):
+            pairs = [pair.split(",") for pair in shape.get("points").split()]
+            shapes.append([(int(x), -int(y)) for x, y in pairs])
+        found.append(shapes)
+    return found
+
+
+# Texts with their forms, and how many points and faces there are, for python3-meshio.
+MESHES = []
+
+READ_ALL = """import sys, meshio
+for name in sys.argv[1:]:
+    mesh = meshio.read(name)
+    print(len(mesh.points), sum(len(it.data) for it in mesh.cells if it.type == "triangle"))
+"""
+
+
+def check_by_meshio():
+    """The numbers of points and of faces that python3-meshio finds in all texts of its forms."""
+    with debian.alone("packages"):
+        debian.install([f"python3-{it}" for it in debian.lacking(["meshio"])])
+    if debian.lacking(["meshio"]):
+        print("python3-meshio is not there, and has read nothing")
+        return
+    with tempfile.TemporaryDirectory() as folder:
+        names = [f"{folder}/{i}.{form}" for i, (_, form, _) in enumerate(MESHES)]
+        for name, (text, _, _) in zip(names, MESHES):
+            with open(name, "w") as file:
+                file.write(text)
+        ran = subprocess.run([debian.PYTHON, "-c", READ_ALL, *names], capture_output=True)
+    found = [tuple(map(int, line.split())) for line in ran.stdout.decode().splitlines()]
+    expect(found == [counts for _, _, counts in MESHES], f"meshio: {found} {ran.stderr.decode()}")
+
+
+# ---- one drawing, in each form
+
+def same_shapes(name, said, wanted):
+    expect(sorted(map(sorted, said)) == sorted(map(sorted, wanted)), f"{name}: other shapes")
+
+
+def check_forms(name, drawing, walls, faces, words, text):
+    """Each form of the drawing has these faces and these points."""
+    points = drawing.points
+    wanted = sorted(faces)
+    for form, read in ("obj", read_obj), ("ply", read_ply):
+        said, _ = run([*words, "--to", form], text)
+        at, found = read(said)
+        flat = [point[:2] for point in at]
+        expect(flat == points, f"{name}: {form} has other points")
+        if len(drawing.texts[0]) > 2:
+            expect([p[2] for p in at] == [Fraction(t[2]) for t in drawing.texts], f"{name}: heights")
+        expect(sorted(turned(f) for f in found) == wanted, f"{name}: {form} has other faces")
+        if wanted:
+            MESHES.append((said, form, (len(points), len(wanted))))
+    found, areas = read_table(run([*words, "--to", "csv"], text)[0])
+    expect(sorted(map(turned, found)) == wanted, f"{name}: csv has other faces")
+    for face, area in zip(found, areas):
+        expect(2 * area == side(*(points[k] for k in face)), f"{name}: an area")
+    head, rows = read_numbered(run([*words, "--to", "ele"], text)[0])
+    expect(head[1:] == ["3", "0"], f"{name}: the head of ele")
+    expect(sorted(turned([int(w) - 1 for w in row]) for row in rows) == wanted, f"{name}: ele")
+    head, rows = read_numbered(run([*words, "--to", "node"], text)[0])
+    expect(head[1] == "2" and rows == [list(point) for point in drawing.texts], f"{name}: node")
+    said, _ = run([*words, "--to", "geojson"], text)
+    rings = read_geojson(said)
+    same_shapes(f"{name}: geojson", rings, [[points[k] for k in face] for face in wanted])
+    check_read_back(name, rings, said)
+    check_picture(name, drawing, walls, wanted, run([*words, "--to", "svg"], text)[0])
+
+
+def check_read_back(name, rings, text):
+    """Faces that were written as GeoJSON are read as rings, which are faces of their points."""
+    points, faces = read_obj(run(["--from", "geojson", "-q"], text)[0])
+    expect([p[:2] for p in points] == [corner for ring in rings for corner in ring],
+           f"{name}: other points are read back")
+    found = {tuple(sorted(points[k][:2] for k in face)) for face in faces}
+    expect(all(tuple(sorted(ring)) in found for ring in rings), f"{name}: a ring is no face")
+
+
+def check_picture(name, drawing, walls, faces, said):
+    """The picture's faces and walls are those of the drawing, moved and scaled."""
+    shapes, lines = read_svg(said)
+    corners = sorted({p for shape in shapes for p in shape})
+    wanted = sorted({drawing.points[k] for face in faces for k in face})
+    expect(len(corners) == len(wanted), f"{name}: a picture of other points")
+    if len(corners) > 1:
+        (a, b), (p, q) = (corners[0], corners[-1]), (wanted[0], wanted[-1])
+        scale = Fraction(b[0] - a[0] or b[1] - a[1]) / (q[0] - p[0] or q[1] - p[1])
+        place = {w: c for w, c in zip(wanted, corners)}
+        for w, c in place.items():
+            moved = (c[0] - a[0], c[1] - a[1])
+            expect(moved == ((w[0] - p[0]) * scale, (w[1] - p[1]) * scale), f"{name}: a place")
+        same_shapes(name, shapes, [[place[drawing.points[k]] for k in f] for f in faces])
+    expect(len(lines) == len(walls), f"{name}: {len(lines)} walls in the picture")
+
+
+def check_read(name, drawing, words, text):
+    """All forms of a drawing, as it is and with only its inside kept, and the faces as written."""
+    points, walls = drawing.whole, pieces(drawing.whole, drawing.segments)
+    written = read_obj(run(words, text)[0])[1]
+    faces = expected_faces(points, walls, written)
+    check_forms(name, drawing, walls, faces, words, text)
+    inside = kept(points, walls, faces, drawing.inner, within_holes(drawing, faces))
+    check_forms(f"{name}, inside", drawing, walls, inside, [*words, "--keep", "inside"], text)
+    return written
+
+
+def check(name, drawing):
+    """All forms of a drawing, read as .poly, and its faces where it is read from tables."""
+    text = drawing.poly()
+    written = check_read(name, drawing, ["--from", "poly", "-q"], text)
+    nodes = run(["--from", "poly", "-q", "--to", "node"], text)[0]
+    expect(run(["--from", "node", "-q", "--to", "node"], nodes)[0] == nodes, f"{name}: node again")
+    expect(run(["--from", "poly", "-q"], drawing.poly(0))[0]
+           == run(["--from", "poly", "-q"], text)[0], f"{name}: numbered from 0")
+    with tempfile.TemporaryDirectory() as folder:
+        for file, content in ("points.csv", drawing.csv()), ("lines.csv", drawing.lines()):
+            with open(f"{folder}/{file}", "w") as out:
+                out.write(content)
+        told = ["-q", "-o", f"{folder}/mesh.obj", "--lines", f"{folder}/lines.csv"]
+        run([*told, f"{folder}/points.csv"])
+        expect(sorted(os.listdir(folder)) == ["lines.csv", "mesh.obj", "points.csv"], "files")
+        with open(f"{folder}/mesh.obj") as file:
+            found = read_obj(file.read())
+    # where four points are on one circle, another diagonal may be chosen
+    points, walls = drawing.whole, pieces(drawing.whole, drawing.segments)
+    expect({turned(face) for face in found[1]} == expected_faces(points, walls, found[1])
+           and len(found[1]) == len(written), f"{name}: from tables")
+
+
+# ---- the drawings
+
+def survey():
+    """The survey of crates/examples."""
+    points = [("0", "0"), ("120", "35"), ("-80", "140"), ("-150", "-60")]
+    return Drawing(points, [(0, 2)])
+
+
+def hundred():
+    """A hundred points of a map grid, with heights, below 0 and with fractions."""
+    chance = random.Random(7)
+    points = []
+    while len(points) < 100:
+        x, y = chance.randint(-40000, 40000), chance.randint(-30000, 30000)
+        point = (f"{x / 100:.2f}", f"{y / 1000:+.3f}", f"{chance.randint(-50, 900) / 10}")
+        if all(Fraction(point[0]) != Fraction(p[0]) or Fraction(point[1]) != Fraction(p[1])
+               for p in points):
+            points.append(point)
+    return Drawing(points)
+
+
+def room():
+    """A room with two holes, a wall inside and a point outside."""
+    corners = [(0, 0), (12, 0), (12, 8), (0, 8)]
+    first = [(2, 2), (4, 2), (4, 4), (2, 4)]
+    second = [(7, 3), (10, 3), (8.5, 6)]
+    points = [*corners, *first, *second, (5, 5), (5, 7), (15, 4)]
+    rings = [range(4), range(4, 8), range(8, 11)]
+    segments = [(ring[i - 1], ring[i]) for ring in rings for i in range(len(ring))]
+    texts = [(f"{x}", f"{y}") for x, y in points]
+    return Drawing(texts, [*segments, (11, 12)], [("3", "2.5"), ("8.5", "4")])
+
+
+def manual():
+    """A box with a square hole, in the form of Triangle's manual, in other spellings of numbers."""
+    box = [("0", "0"), ("3e0", ".0"), ("3.00", "3"), ("-0", "30E-1")]
+    hole = [("1", "1"), ("+2", "1."), ("2", "2"), ("1.0", "0.2e1")]
+    segments = [(k, (k + 1) % 4) for k in range(4)] + [(4 + k, 4 + (k + 1) % 4) for k in range(4)]
+    return Drawing(box + hole, segments, [("1.5", "1.5")])
+
+
+def cut():
+    """Segments over points, along one another and twice."""
+    points = [("0", "0"), ("4", "0"), ("8", "0"), ("3", "5"), ("5", "-4"), ("1", "-3")]
+    return Drawing(points, [(0, 2), (0, 1), (1, 0), (3, 5)][:3])
+
+
+# ---- GeoJSON, as this file reads it
+
+def is_same(one, other):
+    return len(one) == len(other) and all(Fraction(a) == Fraction(b) for a, b in zip(one, other))
+
+
+def lines_of(kind, at):
+    """The positions of coordinates that stand next to one another."""
+    if kind == "Point":
+        return [[at]]
+    if kind in ("MultiPoint", "LineString"):
+        return [at]
+    return at if kind in ("MultiLineString", "Polygon") else [ring for part in at for ring in part]
+
+
+def drawing_of(text):
+    """The drawing of GeoJSON: a line that ends where it began has no second point there."""
+    points, segments, polygons = [], [], []
+
+    def take(it):
+        if it is None:
+            return
+        kind = it["type"]
+        for inner in it.get("features", []) + it.get("geometries", []):
+            take(inner)
+        if kind == "Feature":
+            take(it["geometry"])
+        rings = []
+        for line in lines_of(kind, it["coordinates"]) if "coordinates" in it else []:
+            line = [position[:3] for position in line]
+            if "Point" in kind:
+                points.extend(line)
+                continue
+            places = list(range(len(points), len(points) + len(line)))
+            if line and is_same(line[0], line[-1]):
+                places[-1] = places[0]
+                line.pop()
+            points.extend(line)
+            segments.extend(zip(places, places[1:]))
+            rings.append(places[:-1])
+        if "Polygon" in kind:
+            for part in [it["coordinates"]] if kind == "Polygon" else it["coordinates"]:
+                polygons.append(rings[:len(part)])
+                del rings[:len(part)]
+
+    take(json.loads(text, parse_float=str, parse_int=str))
+    return Drawing([tuple(point) for point in points], segments, polygons=polygons)
+
+
+# A room with two holes, a wall and points, with members in any order and numbers in any spelling.
+HOUSE = """{"features": [
+ {"geometry": {"coordinates": [[[0, 0], [1.2e1, 0.0], [12, 8], [0, 80e-1], [-0, 0e5]],
+                               [[2, 2], [2, 4], [4, 4], [4, 2], [2.0, 2]],
+                               [[7, 3], [10, 3], [8.5, 6], [7, 3]]], "type": "Polygon"},
+  "properties": {"coordinates": [[]], "a": {"features": [1, "\\u00e9]}", null]}}, "type": "Feature"},
+ {"type": "Feature", "id": 7, "properties": null, "geometry": null},
+ {"type": "Feature", "properties": {}, "geometry": {"type": "LineString", "bbox": [5, 5, 5, 7],
+  "coordinates": [[5, 5], [5, 7.125]]}},
+ {"type": "Feature", "properties": {}, "geometry": {"type": "MultiPoint",
+  "coordinates": [[15, 4], [-1.5, -2.25]]}}
+], "crs": {"type": "name"}, "type": "FeatureCollection"}
+"""
+
+# Two parcels, one with a hole, and paths, of which one is closed; all with heights.
+PARCELS = """{"type":"GeometryCollection","geometries":[
+{"type":"MultiPolygon","coordinates":[[[[0,0,1],[3,0,2],[3,3,3],[0,3.5,4],[0,0,1.0]],
+[[1,1,5],[2,1,5],[1.5,2,5],[1,1,5]]],[[[5,0,1.5],[7,0,-2],[6,2,1E1],[5,0,1.5]]]]},
+{"type":"GeometryCollection","geometries":[{"type":"Point","coordinates":[8,8,8.25,9,10]},
+{"type":"MultiLineString","coordinates":[[[5,4,0],[6,5,0],[5,6,0]],[[8,4,0],[9,4,0],[8.5,5,0],[8,4,0]]]},
+{"type":"LineString","coordinates":[]},{"type":"GeometryCollection","geometries":[]}]}]}"""
+
+
+# Polygons whose holes touch the outer ring, are cut by points and by a line, hold another polygon,
+# are filled by one with other points, or by one with the same points and a further one, or have
+# others along parts of their sides, which may fill them together.
+HOLES = [
+    [[[[0, 0], [9, 0], [9, 9], [0, 9]], [[0, 3], [3, 2], [3, 5]], [[9, 9], [6, 8], [8, 6]]]],
+    [[[[0, 0], [9, 0], [9, 9], [0, 9]], [[2, 2], [2, 6], [7, 7], [6, 2]]],
+     [[[3, 3], [4, 3], [3, 4]]]],
+    [[[[0, 0], [9, 0], [9, 9], [0, 9]], [[2, 2], [7, 2], [7, 7], [2, 7]]],
+     [[[2, 2], [7, 2], [7, 7], [2, 7]]]],
+    [[[[0, 0], [9, 0], [9, 9], [0, 9]], [[2, 2], [2, 7], [7, 7], [7, 2]]],
+     [[[2, 2], [7, 2], [2, 7]]]],
+    [[[[0, 0], [0, 2], [3, 2], [3, 0]], [[1, 0], [1, 1], [2, 1]]]],
+    [[[[0, 0], [9, 0], [9, 9], [0, 9]], [[2, 2], [7, 2], [7, 7], [2, 7]]],
+     [[[2, 2], [4, 2], [4, 7], [2, 7]]]],
+    [[[[0, 0], [9, 0], [9, 9], [0, 9]], [[2, 2], [7, 2], [7, 7], [2, 7]]],
+     [[[2, 2], [4, 2], [4, 7], [2, 7]]], [[[4, 2], [7, 2], [7, 7], [4, 7]]]],
+    [[[[0, 0], [9, 0], [9, 9], [0, 9]], [[2, 2], [4, 2], [7, 2], [7, 7], [2, 7]]],
+     [[[2, 2], [7, 2], [2, 7]]]],
+    [[[[0, 0], [9, 0], [9, 9], [0, 9]], [[2, 2], [8, 5], [2, 8]]],
+     [[[4, 3], [6, 4], [4, 5]]], [[[2, 3], [2, 4], [3, 4]]], [[[2, 5], [2, 7], [3, 5]]]],
+]
+
+
+def multi_polygon(polygons):
+    rings = [[ring + ring[:1] for ring in polygon] for polygon in polygons]
+    return json.dumps({"type": "MultiPolygon", "coordinates": rings})
+
+
+def check_inside(name, text):
+    """The faces that are kept of GeoJSON where points may repeat others."""
+    drawing = drawing_of(text)
+    places = [drawing.whole.index(point) for point in drawing.whole]
+    once = sorted(set(places))
+    number = {place: k for k, place in enumerate(once)}
+    drawing = Drawing([drawing.texts[place] for place in once],
+                      [[number[places[k]] for k in pair] for pair in drawing.segments], (),
+                      [[[number[places[k]] for k in ring] for ring in polygon]
+                       for polygon in drawing.polygons])
+    words = ["--from", "geojson", "-q"]
+    written, inside = ([[number[places[k]] for k in face]
+                        for face in read_obj(run([*words, *keep], text)[0])[1]]
+                       for keep in ((), ("--keep", "inside")))
+    walls = pieces(drawing.whole, drawing.segments)
+    faces = expected_faces(drawing.whole, walls, written)
+    wanted = kept(drawing.whole, walls, faces, (), within_holes(drawing, faces))
+    expect(len(written) == len(faces), f"{name}: all faces")
+    expect({turned(face) for face in inside} == wanted and len(inside) == len(wanted), name)
+
+
+def check_holes():
+    """Rings round holes, as they are and the other way round, with points on their sides and a line
+    through them."""
+    for k, polygons in enumerate(HOLES):
+        for turned_round in False, True:
+            if turned_round:
+                polygons = [[ring[::-1] for ring in polygon] for polygon in polygons]
+            check_inside(f"holes {k}, {turned_round}", multi_polygon(polygons))
+    ring = '"coordinates":[[[0,0],[9,0],[9,9],[0,9],[0,0]],[[2,2],[6,2],[2,6],[2,2]]]'
+    for more in ('{"type":"MultiPoint","coordinates":[[4,2],[2,4],[4,4]]}',
+                 '{"type":"LineString","coordinates":[[2,4],[4,2]]}'):
+        text = f'{{"type":"GeometryCollection","geometries":[{{"type":"Polygon",{ring}}},{more}]}}'
+        check_inside("a cut hole", text)
+    # a ring with no area has nothing within
+    flat = multi_polygon([[[[0, 0], [9, 0], [9, 9], [0, 9]], [[2, 2], [4, 4], [6, 6]]]])
+    words = ["--from", "geojson", "-q"]
+    expect(run([*words, "--keep", "inside"], flat) == run(words, flat), "a ring with no area")
+
+
+def check_geojson():
+    """Drawings in GeoJSON, and what of them is left out."""
+    for name, text in ("house", HOUSE), ("parcels", PARCELS):
+        check_read(name, drawing_of(text), ["--from", "geojson", "-q"], text)
+    check_holes()
+    said, error = run(["--from", "geojson"], HOUSE)
+    expect("mesh: left out: properties\n" in error, error)
+    for suffix in ".json", ".geojson":
+        with tempfile.NamedTemporaryFile("w", suffix=suffix) as file:
+            file.write("\ufeff" + HOUSE)
+            file.flush()
+            expect(run([file.name, "-q"])[0] == said, f"a file that ends in {suffix}")
+    error = run(["--from", "geojson"], PARCELS)[1]
+    expect("mesh: left out: numbers of positions behind the third\n" in error, error)
+    text = '{"type":"MultiPoint","coordinates":[[0,0],[1,0],[0,1],[0.0,0]]}'
+    said, error = run(["--from", "geojson"], text)
+    expect(len(read_obj(said)[0]) == 4 and "1 points repeat others" in error, error)
+    for text in ('{"type":"FeatureCollection","features":[]}', '{"type":"Point","coordinates":[]}',
+                 '{"type":"Feature","geometry":null}'):
+        said, error = run(["--from", "geojson"], text)
+        expect(not said and "0 vertices, 0 faces" in error, error)
+
+
+# ---- texts that are not right
+
+FAULTS = [
+    # the words, the text, and what is told
+    ([], "", "line 1: the file ends where a header should come"),
+    ([], "a,b\n1,2\n", "line 1: there is no column named x"),
+    ([], "x,z\n1,2\n", "line 1: there is no column named y"),
+    ([], "x,y\n1,2\n3\n", "line 3: it has another number of fields than the first line"),
+    ([], "x,y\n1,2\n3,four\n", "line 3: y is not a decimal number"),
+    ([], "x,y\n1,\n", "line 2: y is not a decimal number"),
+    ([], "x,y\n--1,0\n", "line 2: x is not a decimal number"),
+    ([], "x,y\n1e,0\n", "line 2: x is not a decimal number"),
+    ([], "x,y\n.,0\n", "line 2: x is not a decimal number"),
+    ([], "x,y\n1_0,0\n", "line 2: x is not a decimal number"),
+    ([], "x,y\n123456789012345678901,0\n", "line 2: x has more than 17 digits before the point"),
+    ([], "x,y\n1e999,0\n", "line 2: x has more than 17 digits before the point, or a power of ten"),
+    ([], "x,y\n123456789012345678.55555,0\n", "line 2: x has more than 17 digits before the point"),
+    ([], "x,y,z\n1,0,high\n", "line 2: z is not a decimal number"),
+    (["--exact"], "x,y\n0,0\n1,0.000000001\n0,9\n",
+     "line 3: y has more digits behind the point than fit: --round 8 keeps as many as do"),
+    (["--round", "9"], "x,y\n0,0\n1,0.000000001\n0,9\n",
+     "y is too far from the others: all have to be within 2^30 units of 9 digits; --round 8"),
+    ([], "x,y\n0,0\n0,5\n-2000000000,9\n2000000000,9\n",
+     "line 4: x is too far from the others: all have to be within 2^30 units of 0 digits\n"),
+    ([], "x,y\n0,0\n1\0,0\n", "line 3: it has a NUL byte, so this is no text"),
+    ([], "x,y\n0,0\n" + "1" * 70000, "line 3: it is longer than 65536 bytes"),
+    (["--from", "node"], "", "line 0: the file ends where the number of points should come"),
+    (["--from", "node"], "2 3 0 0\n", "line 1: only points of the plane are read"),
+    (["--from", "node"], "0 2 0 0\n", "line 1: its points are in a .node file"),
+    (["--from", "node"], "2 2 0 0\n1 0 0\n", "line 2: the file ends where a point should come"),
+    (["--from", "node"], "2 2 0 0\n1 0 0\n3 1 1\n", "line 3: the points are numbered from 0 or"),
+    (["--from", "node"], "1 2 0 0\n1 0\n", "line 2: y is missing"),
+    (["--from", "node"], "1 2 0 0\n1 0 y\n", "line 2: y is not a decimal number"),
+    (["--from", "poly"], "2 2 0 0\n1 0 0\n2 1 1\n1 0\n1 1 3\n", "line 5: point 3 is named here"),
+    (["--from", "poly"], "2 2 0 0\n1 0 0\n2 1 1\n1 0\n1 1 b\n", "line 5: a segment's end is not"),
+    (["--from", "poly"], "4 2 0 0\n1 0 0\n2 2 2\n3 0 2\n4 2 0\n2 0\n1 1 2\n2 3 4\n0\n",
+     "line 8: the segment crosses that of line 7"),
+    ([], 'x,y,note\n1,2,"a\n3,4,b\n5,6,c\n', "line 2: a quoted field does not end"),
+    ([], 'x,y\n0,0\n1,"' + "2\n" * 40000, "line 3: a quoted field does not end"),
+    ([], '\ufeff"x,y\n' + "1,2\n" * 20000, "line 1: a quoted field does not end"),
+    ([], "x,y\n" + '"\n",1,' * 20000, "it is longer than 65536 bytes"),
+]
+
+GEOJSON_FAULTS = [
+    # the text, and what is told
+    ("", "line 1: the file ends where more of it should come"),
+    ('{"type":"Point",\n"coordinates":[1,2]\n\n', "line 2: the file ends where more of it"),
+    ('{"type":"Point",\n"coordinates":[1 2]}', "line 2: this is no JSON, or it nests"),
+    ('{"type":"Point","coordinates":[1,2]}\n{}', "line 2: the end of the file should stand here"),
+    ('{"type":"Point","coordinates":[1,\n"2"]}', "line 2: y is missing"),
+    ('{"type":"Point","coordinates":[1]}', "line 1: y is missing"),
+    ('{"type":"Point","coordinates":[1,2,"3"]}', "line 1: a number should stand here"),
+    ('{"type":"Point","coordinates":[1e999,2]}', "line 1: x has more than 17 digits"),
+    ('{"type":"Point","coordinates":[+1,2]}', "line 1: this is no JSON, or it nests"),
+    ('{"type":"Point","coordinates":{}}', "line 1: an array of coordinates should stand here"),
+    ('{"type":"Point","coordinates":5}', "line 1: an array of coordinates should stand here"),
+    ('{"type":"LineString","coordinates":[[1,2],[]]}', "line 1: an array of coordinates should"),
+    ('{"type":"LineString","coordinates":[[1,2],3]}', "line 1: an array of coordinates should"),
+    ('{"type":"LineString","coordinates":[1,2]}', "line 1: coordinates are nested otherwise"),
+    ('{"type":"Point","coordinates":' + "[" * 100000, "line 1: an array of coordinates should"),
+    ('{"type":"Polygon","coordinates":[[[0,0],[1,0]]]}', "line 1: a ring has three corners"),
+    ('{"type":"Polygon","coordinates":[[[0,0],[1,0],[0,0]]]}', "line 1: a ring has three corners"),
+    ('{"type":"MultiPoint","coordinates":[[0,0],\n[1,0,3]]}', "line 2: some points have a height"),
+    ('{"type":"MultiPoint","coordinates":[[0,0,3],[1,0]]}', "line 1: some points have a height"),
+    ('{"coordinates":[0,0]}', "line 1: there is no member named type"),
+    ('{"type":"Point"}', "line 1: there is no member named coordinates"),
+    ('{"type":"Circle","coordinates":[0,0]}', "line 1: a type of GeoJSON should stand here"),
+    ('{"type":5}', "line 1: a type of GeoJSON should stand here"),
+    ('{"type":"Feature","coordinates":[0,0]}', "line 1: it has coordinates, and its type has none"),
+    ('{"type":"Feature","geometry":null,"features":[]}', "line 1: it has geometry and features"),
+    ('{"type":"Feature","geometry":[]}', "line 1: a geometry should stand here"),
+    ('{"type":"Feature","geometry":{"type":"Feature","geometry":null}}', "a geometry should stand"),
+    ('{"type":"Feature","properties":5}', "line 1: an object of properties should stand here"),
+    ('{"type":"FeatureCollection","features":{}}', "line 1: a list should stand here"),
+    ('{"type":"FeatureCollection","features":[5]}', "line 1: a member or an object of GeoJSON"),
+    ('{"type":"FeatureCollection","features":[{"type":"Feature","geometry":null},\n'
+     '{"type":"Point","coordinates":[0,0]}]}', "line 2, feature 2: a feature should stand here"),
+    ('{"type":"FeatureCollection","features":[{"type":"Feature","geometry":'
+     '{"type":"Point","coordinates":[0,0]}},{"type":"Feature","geometry":'
+     '{"type":"Point","coordinates":[2e9,0]}}]}', "line 1, feature 2: x is too far from the others"),
+    ('{"type":"MultiLineString","coordinates":[[[0,0],[2,2]],\n[[0,2],[2,0]]]}',
+     "line 2: the segment crosses that of line 1"),
+    ("[1,2]", "line 1: an object of GeoJSON should stand here"),
+    ('{"a":' + "[" * 100000, "line 1: this is no JSON, or it nests more than 128 deep"),
+    ('{"type":"GeometryCollection","geometries":[' * 200, "it nests more than 128 deep"),
+    ('{"type":"Point","coordinates":[1,2]}\0', "line 1: it has a NUL byte, so this is no text"),
+    (b'{"type":"\xff"}', "the file is no text in UTF-8"),
+]
+
+
+def check_faults():
+    for words, text, told in FAULTS + [(["--from", "geojson"], *row) for row in GEOJSON_FAULTS]:
+        said, error = run(words, text, 1)
+        expect(told in error and not said, f"mesh {words} on {text[:60]!r}: {error}")
+    for words in ["--to", "step"], ["--nowhere"], ["a", "b"], ["--round", "x"], ["--keep", "out"]:
+        said, error = run(words, "", 2)
+        expect(not said and error.strip(), f"mesh {words}: {error}")
+    for words in ["--help"], ["--version"]:
+        expect("mesh" in run(words)[0], f"mesh {words}")
+    said, error = run(["/nowhere/at/all.csv"], "", 1)
+    expect("/nowhere/at/all.csv" in error, error)
+
+
+def check_choices():
+    """Crossing segments that are left out, rounded numbers, repeated points, few points."""
+    text = "4 2 0 0\n1 0 0\n2 2 2\n3 0 2\n4 2 0\n2 0\n1 1 2\n2 3 4\n0\n"
+    said, error = run(["--from", "poly", "--skip-crossing", "--to", "svg"], text)
+    expect("line 8: the segment crosses that of line 7, and is left out" in error, error)
+    expect(len(read_svg(said)[1]) == 1, "one of two crossing segments")
+    said, error = run(["--round", "1"], "x,y\n0.04,0\n1.25,-1.25\n0,7e-30\n")
+    expect("standard input: rounded 4 numbers to 1 digits behind the point, by at most 0.05\n"
+           in error, error)
+    expect([p[:2] for p in read_obj(said)[0]] == [(0, 0), (Fraction("1.3"), Fraction("-1.3")),
+                                                (0, 0)], said)
+    said, error = run([], "x,y\n0,0\n1,0\n0,0\n0,1\n")
+    expect("1 points repeat others" in error and len(read_obj(said)[1]) == 1, error)
+    for text, count in ("x,y\n", 0), ("x,y\n1,1\n", 1), ("x,y\n0,0\n1,1\n2,2\n", 3):
+        said, error = run([], text)
+        expect(len(read_obj(said)[0]) == count and not read_obj(said)[1], said)
+    far = "x,y\n" + "".join(f"{500000 + k}.{k},{5400000 + k * k}.5\n" for k in range(9))
+    expect(len(read_obj(run([], far)[0])[1]) == 7, "a map grid's points")
+    rings = "x,y,ring\n0,0,a\n4,0,a\n4,4,a\n0,4,a\n9,9,\n"
+    said, _ = run(["--keep", "inside", "-q"], rings)
+    expect(len(read_obj(said)[1]) == 2, "a ring of a table")
+    check_columns()
+    text = "3 2 2 1\n1 0 0 5 6 1\n2 1 0 5 6 1\n3 0 1 5 6 1\n"
+    error = run(["--from", "node"], text)[1]
+    told = "mesh: left out: attributes of points behind the first, markers of points"
+    expect(told + "\n" in error, error)
+    error = run(["--from", "poly"], text + "1 1\n1 1 2 7\n0\n1\n1 0.5 0.5 7 0.1\n")[1]
+    expect(told + ", markers of segments, attributes of regions\n" in error, error)
+    expect("left out" not in run(["--from", "poly"], room().poly())[1], "nothing is left out")
+    with tempfile.TemporaryDirectory() as folder:
+        with open(f"{folder}/old.obj", "w") as file:
+            file.write("old")
+        run(["-o", f"{folder}/old.obj"], "x,y\n1\n", 1)
+        with open(f"{folder}/old.obj") as file:
+            expect(file.read() == "old", "a fault leaves the old file")
+        run(["-o", f"{folder}/none/mesh.obj"], "x,y\n", 1)
+        os.mkdir(f"{folder}/folder")
+        run(["-o", f"{folder}/folder"], "x,y\n", 1)
+        expect(sorted(os.listdir(folder)) == ["folder", "old.obj"], "a fault leaves nothing")
+
+
+def crossing_poly(segments):
+    """Four corners of a square, its middle, three points on its upper half, and segments."""
+    points = [(0, 0), (4, 4), (0, 4), (4, 0), (2, 2), (0, 3), (4, 3), (2, 3)]
+    return Drawing([tuple(map(str, point)) for point in points], segments).poly()
+
+
+# Segments, in lines 13, 14 and on, and which crosses that of which. Diagonals meet in the middle.
+CROSSED = [
+    ([(0, 1), (2, 3), (5, 6)], [(15, 13)]),
+    ([(0, 4), (2, 3), (5, 6)], [(15, 14)]),
+    ([(5, 6), (0, 1), (2, 3)], [(14, 13), (15, 13)]),
+    ([(2, 3), (5, 6), (0, 1), (6, 5)], [(14, 13), (16, 13)]),
+    ([(0, 1), (5, 7), (2, 3)], [(15, 14)]),
+]
+
+
+def check_crossings():
+    """The segment that is in the way of another, by its file, line and feature: not one that was
+    left out itself, nor one that is met in a point."""
+    words = ["--from", "poly", "--to", "ele"]
+    for segments, pairs in CROSSED:
+        text = crossing_poly(segments)
+        told = [f"mesh: standard input: line {line}: the segment crosses that of line {other}"
+                for line, other in pairs]
+        error = run(words, text, 1)[1]
+        expect(error == told[0] + "\n", error)
+        error = run([*words, "--skip-crossing"], text)[1]
+        lines = [line for line in error.splitlines() if "crosses" in line]
+        expect(lines == [line + ", and is left out" for line in told], error)
+        expect(not run([*words, "--skip-crossing", "-q"], text)[1], "--quiet")
+    with tempfile.TemporaryDirectory() as folder:
+        for name, text in (("points.csv", "x,y,line\n0,0,a\n4,4,a\n0,4,\n4,0,\n"),
+                           ("lines.csv", "from,to\n3,4\n")):
+            with open(f"{folder}/{name}", "w") as file:
+                file.write(text)
+        error = run(["--lines", f"{folder}/lines.csv", f"{folder}/points.csv"], status=1)[1]
+        expect(f"{folder}/lines.csv: line 2: the segment crosses that of line 3 of "
+               f"{folder}/points.csv" in error, error)
+    line = '{"type":"Feature","geometry":{"type":"LineString","coordinates":%s}}'
+    text = ('{"type":"FeatureCollection","features":[' + line % "[[0,0],[2,2]]" + ",\n"
+            + line % "[[0,2],[2,0]]" + "]}")
+    error = run(["--from", "geojson"], text, 1)[1]
+    expect("line 2, feature 2: the segment crosses that of line 1, feature 1" in error, error)
+
+
+def check_columns():
+    """Columns that are left out, and quoted fields with line ends, quotes and commas in them."""
+    text = 'x,y,note,,size\n0,0,"a\nb, c",1,\n"1",0,"d""e",2,5" pipe\n0,1,"",3,\n'
+    said, error = run([], text)
+    expect("mesh: left out: note, column 4, size\n" in error, error)
+    points, faces = read_obj(said)
+    expect(points == [(0, 0, 0), (1, 0, 0), (0, 1, 0)], said)
+    expect(list(map(turned, faces)) == [turned([0, 1, 2])], said)
+    expect(not run(["-q"], text)[1], "--quiet")
+    expect("left out" not in run([], "y,x,z,line,ring\n0,0,0,,\n")[1], "no column is left out")
+    with tempfile.TemporaryDirectory() as folder:
+        for name, table in ("points.csv", text), ("lines.csv", "kind,from,to\nwall,1,2\n"):
+            with open(f"{folder}/{name}", "w") as file:
+                file.write(table)
+        error = run(["--lines", f"{folder}/lines.csv", f"{folder}/points.csv"])[1]
+    expect("mesh: left out: note, column 4, size, kind\n" in error, error)
+
+
+def check_lines_of_input():
+    """Segments of a table beside points from standard input."""
+    with tempfile.TemporaryDirectory() as folder:
+        with open(f"{folder}/lines.csv", "w") as file:
+            file.write("from,to\n1,2\n2,3\n")
+        _, error = run(["--lines", f"{folder}/lines.csv"], "x,y\n0,0\n4,0\n0,4\n")
+        expect("mesh: 3 vertices, 1 faces, 2 constraints" in error, error)
+        _, error = run(["--lines", f"{folder}/lines.csv"], "x,y\n0,0\n4,0\n", 1)
+        expect(f"{folder}/lines.csv: line 3: point 3 is named here" in error, error)
+
+
+# ---- points in holes
+
+# A square, a wall along a diagonal of it, and a point that is on none of its sides.
+SQUARE = [("0", "0"), ("4", "0"), ("4", "4"), ("0", "4")]
+SIDES = [(0, 1), (1, 2), (2, 3), (3, 0)]
+WALL = [*SIDES, (0, 2)]
+OUT_OF_FACES, ON_SEGMENT = "the hole's point is in no face", "the hole's point is on a segment"
+HOLE_FAULTS = [
+    # points, segments, points in holes, and which of these is refused for what
+    (SQUARE, SIDES, [("4", "4")], 0, OUT_OF_FACES),
+    (SQUARE, (), [("4", "4")], 0, OUT_OF_FACES),
+    (SQUARE, SIDES, [("2", "0")], 0, ON_SEGMENT),
+    (SQUARE, WALL, [("2", "2")], 0, ON_SEGMENT),
+    (SQUARE, WALL, [("3", "1"), ("9", "9"), ("1", "1"), ("0", "0")], 2, ON_SEGMENT),
+    (SQUARE, WALL, [("3", "1"), ("0", "0"), ("1", "1")], 1, OUT_OF_FACES),
+    (SQUARE, SIDES, [("2000000000", "0")], 0, "x is too far from the others"),
+    ([("0", "0"), ("4", "0")], (), [("4", "0")], 0, OUT_OF_FACES),
+    ([("0", "0"), ("4", "0")], [(0, 1)], [("1", "0")], 0, ON_SEGMENT),
+    ([("0", "0")], (), [("1", "1")], 0, OUT_OF_FACES),
+]
+TAKEN_HOLES = [
+    # points, segments and points in holes that are taken, and how many faces are kept
+    (SQUARE, SIDES, [], 2),
+    (SQUARE, SIDES, [("9", "9"), ("-1", "2")], 2),
+    (SQUARE, SIDES, [("3", "1")], 0),
+    (SQUARE, SIDES, [("2", "2")], 0),
+    (SQUARE, WALL, [("3", "1")], 1),
+    (SQUARE, WALL, [("3", "1"), ("3.5", "0.5")], 1),
+    (SQUARE, WALL, [("3", "1"), ("1", "3")], 0),
+    ([("0", "0"), ("4", "0")], (), [("1", "1")], 0),
+    ([("0", "0"), ("4", "0")], (), [("1", "0")], 0),
+]
+
+
+def poly_of(points, segments, holes):
+    """A drawing as .poly, and the line of the first point in a hole."""
+    lines = [f"{len(points)} 2 0 0", *(f"{k} {x} {y}" for k, (x, y) in enumerate(points)),
+             f"{len(segments)} 0", *(f"{k} {a} {b}" for k, (a, b) in enumerate(segments)),
+             f"{len(holes)}", *(f"{k} {x} {y}" for k, (x, y) in enumerate(holes))]
+    return "\n".join(lines) + "\n", len(lines) - len(holes) + 1
+
+
+def check_hole_points():
+    """A point in a hole is refused, with its line, where it is on a vertex, on a constraint or in no
+    triangulation; in a face, on an edge that is no constraint and outside it is taken."""
+    words = ["--from", "poly", "--to", "obj", "-q", "--keep", "inside"]
+    for points, segments, holes, place, told in HOLE_FAULTS:
+        text, first = poly_of(points, segments, holes)
+        said, error = run(words, text, 1)
+        expect(f"line {first + place}: {told}" in error and not said, f"{holes}: {error}")
+    for points, segments, holes, count in TAKEN_HOLES:
+        text, _ = poly_of(points, segments, holes)
+        faces = read_obj(run(words, text)[0])[1]
+        expect(len(faces) == count, f"{holes}: {len(faces)} faces, not {count}")
+
+
+# ---- how numbers are spelled
+
+# Each number in several spellings. All have at most four digits behind the point.
+SPELLINGS = [
+    ["0", "-0", "+0.0", ".0", "0.", "0e7", "-0E-2", "000"],
+    ["7", "+7", "7.", "007.000", "0.7e1", "70E-1", "7e0", "7e+0", "7000e-3", ".0007e4"],
+    ["-12.5", "-12.50", "-1.25e1", "-125E-1", "-0.125e+2", "-012.5", "-.125e2", "-1250e-02"],
+    ["0.0625", ".0625", "+.0625", "625e-4", "6.25E-2", "0.00000625e4", "0000.062500"],
+    ["399.9375", "3999375e-4", "3.999375e2", "+399.937500", "0.3999375E+03"],
+    ["-1024", "-1.024e3", "-1024.0000", "-10240e-1", "-.01024e5", "-001024."],
+]
+
+
+def spelled_texts(x, y):
+    """Two numbers as they are spelled, as the second of three points of each form that is read."""
+    yield "csv", f"x,y\n5000,5000\n{x},{y}\n5000,-5000\n"
+    yield "csv", f'y,x\n5000,5000\n"{y}", {x} \n-5000,5000\n'
+    yield "node", f"3 2 0 0\n1 5000 5000\n2 {x} {y}\n3 5000 -5000\n"
+    yield "poly", f"3 2 0 0\n1 5000 5000\n2 {x} {y}\n3 5000 -5000\n0 0\n0\n"
+    if all(re.fullmatch(r"-?(0|[1-9]\d*)(\.\d+)?([eE][-+]?\d+)?", number) for number in (x, y)):
+        yield "geojson", ('{"type":"MultiPoint","coordinates":'
+                          f"[[5000,5000],[{x},{y}],[5000,-5000]]}}")
+
+
+def check_spellings():
+    """A number that is read is the one that its text writes: the point that is read is told at the
+    place that Python's fractions tell, and one unit of the last digit beside it no point is."""
+    unit = Fraction(1, 10 ** 4)
+    with tempfile.TemporaryDirectory() as folder:
+        path = f"{folder}/asked.csv"
+        for spellings, others in zip(SPELLINGS, SPELLINGS[1:] + SPELLINGS[:1]):
+            for k, x in enumerate(spellings):
+                y = others[k % len(others)]
+                p = Fraction(x), Fraction(y)
+                asked = [p, (p[0] + unit, p[1]), (p[0], p[1] - unit)]
+                with open(path, "w") as file:
+                    file.write("x,y\n" + "".join(f"{float(a):.4f},{float(b):.4f}\n"
+                                                 for a, b in asked))
+                for form, text in spelled_texts(x, y):
+                    rows = rows_of(run(["--from", form, "-q", "--nearest", path], text)[0],
+                                   "x,y,point,distance,distance_2")
+                    found = [(row[2], Fraction(row[4])) for row in rows]
+                    expect(found == [("2", 0), ("2", unit ** 2), ("2", unit ** 2)],
+                           f"{x}, {y} as {form}: {rows}")
+
+
+# ---- numbers with more digits than fit
+
+def rounded(number, digits):
+    """A number rounded to so many digits behind the point, away from 0 where two are as near."""
+    units = abs(number) * 10 ** digits
+    return Fraction(int(units + Fraction(1, 2)), 10 ** digits) * (1 if number > 0 else -1)
+
+
+def fitting(points):
+    """The most digits behind the point to which numbers can be rounded and be within 2^30."""
+    axes = list(zip(*points))
+    for digits in range(60, -1, -1):
+        units = [[rounded(number, digits) * 10 ** digits for number in axis] for axis in axes]
+        if all(max(axis) - min(axis) <= 2 ** 30 and max(map(abs, axis)) <= 2 ** 62
+               for axis in units):
+            return digits
+    return None
+
+
+# Long numbers as people's programs write them, and some whose digits are cut where that decides.
+LONG = [
+    [("529393.498863390879706", "180.00000000000000000000000001"), ("529394", "181.5"),
+     ("529500.25", "250.99999999999999999999999999")],
+    [("0.1000000000000000055511151231257827021181583404541015625", "-0.5"),
+     ("0.5", "1e-30"), ("0.75", "0.25000000000000000000000000000000")],
+    [("-122.41941550000001", "37.77492950000000000001"), ("2.3522219000000177", "48.856614"),
+     ("151.20699020000002", "-33.867486900000004")],
+    [("0.049999999999999999999999999", "0.05"), ("0.95", "0.04999999999999999999999999999"),
+     ("1073741823.9499999999999999999999", "7")],
+    [("1.0e19", "10000000000000000001"), ("10000000000000000002", "10000000000000000007"),
+     ("10000000000000000009.0000", "10000000000000000003")],
+    [("10000000.50000000000000000000001", "0"), ("10000000", "1"),
+     ("10000000.4999999999999999999999999", "1.000")],
+]
+
+
+def check_long_numbers():
+    """Numbers of any length are rounded as Python's fractions tell, once, to as many digits as fit,
+    which is told; `--exact` refuses them, and `--round` takes fewer digits."""
+    for texts in LONG:
+        points = [tuple(map(Fraction, text)) for text in texts]
+        most = fitting(points)
+        if most is None:
+            run([], "x,y\n" + "".join(f"{x},{y}\n" for x, y in texts), 1)
+            continue
+        for form, text in (("csv", "x,y\n" + "".join(f"{x},{y}\n" for x, y in texts)),
+                           ("node", "3 2 0 0\n" + "".join(f"{k} {x} {y}\n" for k, (x, y)
+                                                          in enumerate(texts)))):
+            for words, digits in [([], most)] + [(["--round", str(k)], k) for k in range(most)]:
+                said, error = run(["--from", form, *words], text)
+                wanted = [tuple(rounded(n, digits) for n in point) for point in points]
+                expect([p[:2] for p in read_obj(said)[0]] == wanted, f"{texts}: {digits}: {said}")
+                moved = [abs(a - b) for p, q in zip(points, wanted) for a, b in zip(p, q)]
+                check_told_moves(texts, error, digits, moved)
+            status = any(point != tuple(rounded(n, most) for n in point) for point in points)
+            error = run(["--from", form, "--exact"], text, int(status))[1]
+            expect(not status or f"--round {most} keeps as many as do" in error, error)
+
+
+def check_told_moves(texts, error, digits, moved):
+    """What is told of rounded numbers: how many, and how far they went, rounded up."""
+    told = re.search(r"rounded (\d+) numbers? to (\d+) digits behind the point, by at most (\S+)\n",
+                     error)
+    if not told:
+        expect(not any(moved), f"{texts}: {error}")
+        return
+    most = Fraction(told[3])
+    expect(int(told[2]) == digits and int(told[1]) >= sum(map(bool, moved)), f"{texts}: {error}")
+    # numbers with more than 18 digits are taken to be off by one in the last that is kept
+    more = Fraction(2, 10 ** (digits + 1)) + Fraction(1, 10 ** (digits + 3))
+    expect(max(moved) <= most <= max(moved) + more, f"{texts}: {error}")
+
+
+FAR = ["1e9,1e9", "-12345678901.5,99999999999", "0,3000000000", "-3e9,0.25", "4.6e14,-4.6e14"]
+
+
+# Tables of the same three points in other forms, and the words that they are read with.
+TABLES = [
+    ("x;y;z\n1,5;2,25;10\n-3;4,0;11,5\n0;0;1\n", []),
+    ('"x";"y";"z"\r\n"1,5";"2,25";"10"\r\n"-3";"4,0";"11,5"\r\n"0";"0";"1"\r\n', []),
+    ("x\ty\tz\n1.5\t2.25\t10\n-3\t4\t11.5\n0\t0\t1\n", []),
+    ("1.5 2.25  10\n -3\t4 11.5 \n0 0 1\n", []),
+    ("1.5,2.25,10\n-3,4,11.5\n0,0,1\n", []),
+    ("x,y,z,\n1.5,2.25,10\n-3,4,11.5,\n0,0,1,\n", []),
+    ("lon,lat,z\n1.5,2.25,10\n-3,4,11.5\n0,0,1\n", []),
+    ("Longitude,Latitude,z\n1.5,2.25,10\n-3,4,11.5\n0,0,1\n", []),
+    ("northing,easting,z\n2.25,1.5,10\n4,-3,11.5\n0,0,1\n", []),
+    ("E;N;H;x\n1,5;2,25;10;9\n-3;4;11,5;9\n0;0;1;9\n",
+     ["--x", "e", "--y", "N", "--z", "H"]),
+    ("\ufeffx;y;z\n1,5;2,25;10\n-3;4;11,5\n0;0;1", []),
+    ("\ufeff1.5,2.25,10\n-3,4,11.5\n0,0,1\n", []),
+    ('x;y;note;z;\r\n1,5;2,25;5" pipe;10;\r\n-3;4;"a "";"" b";11,5;\r\n0;0;;1;', []),
+    ('\n {"type":"MultiPoint","coordinates":[[1.5,2.25,10],[-3,4,11.5],[0,0,1]]}', []),
+]
+TABLE_POINTS = [(Fraction(3, 2), Fraction(9, 4), 10), (-3, 4, Fraction(23, 2)), (0, 0, 1)]
+
+FOREIGN = [
+    (b"\0\0\x27\x0a\0\0", "a Shapefile"), (b"SQLite format 3\0", "a GeoPackage"),
+    (b"LASF\0\0", "a LAS file"), (b"II*\0\x08", "a GeoTIFF"), (b"MM\0*\0", "a GeoTIFF"),
+    (b"  0\nSECTION\n  2\n", "a DXF file"), (b"0\r\nSECTION\r\n", "a DXF file"),
+    (b"PK\3\4\0", "an archive"), (b"\x1f\x8b\x08", "a compressed file"),
+    (b"<?xml version='1.0'?>", "an XML file"),
+]
+
+
+def check_tables():
+    """Tables of other separators, with decimal commas, without a header, with columns of other
+    names; files of other programs; the lines that faults are told of."""
+    for text, words in TABLES:
+        said, _ = run([*words, "-"], text)
+        points, faces = read_obj(said)
+        expect(points == TABLE_POINTS and len(faces) == 1, f"{text!r}: {said}")
+    for text, told in (("x;y\n1;2\n1;z\n", "line 3: y is not a decimal number"),
+                       ("1 2\n1 z\n", "line 2: y is not a decimal number"),
+                       ("1,2\n1,z\n", "line 2: y is not a decimal number"),
+                       ("x;y\n1,5,2;1\n", "line 2: x is not a decimal number"),
+                       ("x;y\n1;2\n1;2;3\n", "line 3: it has another number of fields"),
+                       ("1 2\n3\n", "line 2: it has another number of fields"),
+                       ("1,2,3,4\n", "line 1: it has another number of fields")):
+        error = run([], text, 1)[1]
+        expect(told in error, f"{text!r}: {error}")
+    with tempfile.NamedTemporaryFile("w", suffix=".csv") as asked:
+        asked.write("lon,lat\n1,1\n")
+        asked.flush()
+        said, _ = run(["-q", "--x", "lon", "--y", "lat", "--z", "height", "--locate", asked.name],
+                      "lat,lon,height\n0,0,1\n0,3,1\n3,0,4\n")
+        row = said.splitlines()[1].split(",")
+        expect((row[2], {*row[3:6]}, Fraction(row[6])) == ("face", {"1", "2", "3"}, 2),
+               f"questions have no height: {said}")
+    error = run(["--x", "q"], "x,y\n", 1)[1]
+    expect("line 1: there is no column of the name that is given for x" in error, error)
+    for text, told in FOREIGN:
+        error = run([], text, 1)[1]
+        expect(f"standard input: this is {told}" in error and "GDAL" in error, error)
+    big = "".join(f"{k / 4:.2f}; {k % 7},50\n" for k in range(20000)).replace(".", ",")
+    points = read_obj(run(["-q"], "x;y\n" + big)[0])[0]
+    expect(points == [(Fraction(k, 4), Fraction(2 * (k % 7) + 1, 2), 0) for k in range(20000)],
+           "a long table of semicolons")
+
+
+def check_more_forms():
+    """STL, segments of .poly and OBJ, neighbours, rings that are closed, and endings of outputs."""
+    text = '{"type":"Polygon","coordinates":[[[0,0],[4,0],[4,4],[0,3]],[[1,1],[2,1],[2,2],[1,1]]]}'
+    said, error = run([], text)
+    told = "standard input: line 1: a ring does not end where it began"
+    expect(f"mesh: {told}, and is closed (1 such)\n" in error, error)
+    expect(run(["--exact"], text, 1)[1] == f"mesh: {told}\n", "an open ring")
+    points, faces = read_obj(said)
+    walls = {(k, (k + 1) % 4) for k in range(4)} | {(4, 5), (5, 6), (6, 4)}
+    lines = {tuple(int(word) - 1 for word in line.split()[1:]) for line in said.splitlines()
+             if line.startswith("l ")}
+    expect({frozenset(pair) for pair in lines} == {frozenset(pair) for pair in walls}, said)
+    poly, _ = run(["-q", "--to", "poly"], text)
+    again = read_obj(run(["-q", "--from", "poly"], poly)[0])
+    expect(again[0] == points and {frozenset(map(int, line.split()[1:])) for line in
+                                   poly.splitlines()[9:-1]}
+           == {frozenset((a + 1, b + 1)) for a, b in walls}, poly)
+    facets = re.findall(r"facet normal 0 0 0\nouter loop\n((?:vertex .*\n){3})endloop\nendfacet\n",
+                        run(["-q", "--to", "stl"], text)[0])
+    expect([[tuple(map(Fraction, line.split()[1:])) for line in facet.splitlines()]
+            for facet in facets] == [[points[k] for k in face] for face in faces], "stl")
+    rows = [list(map(int, line.split()))[1:]
+            for line in run(["-q", "--to", "neigh"], text)[0].splitlines()[1:]]
+    for face, row in zip(faces, rows):
+        for k in range(3):
+            pair = {face[k - 1], face[k - 2]}
+            wanted = [i for i, other in enumerate(faces, 1) if other != face and pair <= set(other)]
+            expect([row[k]] == (wanted or [-1]), f"neighbours of {face}: {row}")
+    with tempfile.TemporaryDirectory() as folder:
+        error = run(["-o", f"{folder}/mesh.step"], "x,y\n0,0\n", 1)[1]
+        expect(f"{folder}/mesh.step: it ends in no form" in error and not os.listdir(folder), error)
+        os.mkdir(f"{folder}/out.d")
+        run(["-q", "-o", f"{folder}/out.d/hill"], text)
+        with open(f"{folder}/out.d/hill") as file:
+            expect(file.read() == said, "a name without an ending, in a folder with a point")
+        with open(f"{folder}/real.obj", "w") as file:
+            file.write("old")
+        os.chmod(f"{folder}/real.obj", 0o640)
+        os.symlink("real.obj", f"{folder}/link.obj")
+        run(["-q", "-o", f"{folder}/link.obj"], text)
+        expect(os.path.islink(f"{folder}/link.obj"), "a link stays one")
+        expect(stat.S_IMODE(os.stat(f"{folder}/real.obj").st_mode) == 0o640, "the old file's mode")
+        with open(f"{folder}/real.obj") as file:
+            expect(file.read() == said, "what a link leads to is written")
+    with open("/dev/full", "w") as full:
+        ran = subprocess.run([PROGRAM], input=text.encode(), stdout=subprocess.PIPE, stderr=full,
+                             timeout=120)
+    expect(ran.returncode == 0 and ran.stdout.decode() == said, "a full standard error")
+
+
+def check_far_questions():
+    """Points that are asked about outside the range of coordinates: they are outside, and what is
+    nearest to them, and how far it is, is as Python's whole numbers tell."""
+    chance = random.Random(5)
+    points = [(chance.randint(-10 ** 6, 10 ** 6), chance.randint(0, 10 ** 6)) for _ in range(60)]
+    points = [(x / 4, y / 4) for x, y in points]
+    text = "x,y\n" + "".join(f"{x},{y}\n" for x, y in points)
+    with tempfile.TemporaryDirectory() as folder:
+        path = f"{folder}/asked.csv"
+        with open(path, "w") as file:
+            file.write("x,y\n" + "".join(f"{row}\n" for row in FAR + ["1e17,1e17"]))
+        rows = rows_of(run(["-q", "--nearest", path], text)[0], "x,y,point,distance,distance_2")
+        for told, row in zip(FAR, rows):
+            asked = tuple(map(Fraction, told.split(",")))
+            expect(row[:2] == told.split(","), f"{row}: another question")
+            least = min(distance_2(asked, tuple(map(Fraction, p))) for p in points)
+            at = tuple(map(Fraction, points[int(row[2]) - 1]))
+            expect(Fraction(row[4]) == distance_2(asked, at) == least, f"{row} is not nearest")
+            distance, half = Fraction(row[3]), Fraction(1, 2 * 10 ** 5)
+            expect((distance - half) ** 2 <= least <= (distance + half) ** 2, f"{row}: how far")
+        expect(rows[-1][2:] == ["too far", "", ""], f"{rows[-1]}")
+        for row in rows_of(run(["-q", "--locate", path], text)[0], "x,y,on,a,b,c,z"):
+            expect(row[2:] == ["outside", "", "", "", ""], f"{row} is outside")
+    # just left of a drawing that is far from 0, and just below it
+    text = "x,y\n" + "".join(f"{x},{y}\n" for x, y in [(10 ** 9, 10 ** 9), (10 ** 9 + 2, 10 ** 9),
+                                                      (10 ** 9, 10 ** 9 + 2)])
+    said = run(["-q", "--line", "999999999", "1000000001", "1000000003", "1000000000"], text)[0]
+    expect(said.startswith("meets,a,b\ncrosses,"), said)
+    error = run(["-q", "--line", "1", "1", "1000000003", "1000000000"], text, 1)[1]
+    expect("--line: an end is outside the range" in error, error)
+
+
+# ---- questions
+
+def rows_of(said, head):
+    first, *lines = said.splitlines()
+    expect(first == head, f"the header {first}")
+    return [line.split(",") for line in lines]
+
+
+def ask(drawing, words, asked):
+    """What the program tells of points or of a way, with the drawing read as .poly, and the faces of
+    the triangulation that it asked."""
+    with tempfile.TemporaryDirectory() as folder:
+        if asked:
+            with open(f"{folder}/asked.csv", "w") as file:
+                file.write("x,y\n" + "".join(f"{x},{y}\n" for x, y in asked))
+            words = [*words, f"{folder}/asked.csv"]
+        words = ["--from", "poly", "-q", "-o", f"{folder}/mesh.obj", *words]
+        said, _ = run(words, drawing.poly())
+        with open(f"{folder}/mesh.obj") as file:
+            return said, {turned(face) for face in read_obj(file.read())[1]}
+
+
+def check_nearest(name, drawing, asked):
+    said, _ = ask(drawing, ["--nearest"], asked)
+    rows = rows_of(said, "x,y,point,distance,distance_2")
+    expect(len(rows) == len(asked), f"{name}: {len(rows)} answers")
+    for spot, row in zip(asked, rows):
+        x, y, number, distance, squared = map(Fraction, row)
+        expect([x, y] == list(map(Fraction, spot)), f"{name}: another question")
+        least = min(distance_2((x, y), p) for p in drawing.points)
+        expect(squared == least == distance_2((x, y), drawing.points[int(number) - 1]),
+               f"{name}: {row} is not nearest")
+        digits = len(row[3].partition(".")[2])
+        half = Fraction(1, 2 * 10 ** digits)
+        expect(max(distance - half, 0) ** 2 <= least <= (distance + half) ** 2, f"{name}: {row}")
+
+
+def is_mean(drawing, corners, weights, said):
+    """Whether a height is the mean of those of points, rounded, if they have heights."""
+    if len(drawing.texts[0]) < 3:
+        return said == ""
+    mean = sum(weight * Fraction(drawing.texts[k][2]) for k, weight in zip(corners, weights))
+    return abs(Fraction(said) - mean / sum(weights)) <= Fraction(1, 2 * 10 ** 3)
+
+
+def is_there(drawing, edges, p, kind, corners, height):
+    """Whether a point is on the part that is told."""
+    at = [drawing.points[k] for k in corners]
+    if kind == "point":
+        return at == [p] and is_mean(drawing, corners, [1], height)
+    if kind == "edge":
+        a, b = at
+        weights = [abs(b[0] - p[0]) + abs(b[1] - p[1]), abs(a[0] - p[0]) + abs(a[1] - p[1])]
+        return (tuple(sorted(corners)) in edges and carries(a, b, p)
+                and is_mean(drawing, corners, weights, height))
+    if kind == "face":
+        weights = [side(p, at[i - 2], at[i - 1]) for i in range(3)]
+        return min(weights) > 0 and is_mean(drawing, corners, weights, height)
+    return kind in ("outside", "nowhere") and not corners and height == ""
+
+
+def check_places(name, drawing, asked):
+    """Each point is on the part of the triangulation that is told; it is told to be outside only
+    where it is in no face."""
+    said, faces = ask(drawing, ["--locate"], asked)
+    edges = {tuple(sorted(pair)) for face in faces for pair in combinations(face, 2)}
+    rows = rows_of(said, "x,y,on,a,b,c,z")
+    expect(len(rows) == len(asked), f"{name}: {len(rows)} answers")
+    for row in rows:
+        p = Fraction(row[0]), Fraction(row[1])
+        corners = [int(word) - 1 for word in row[3:6] if word]
+        expect(is_there(drawing, edges, p, row[2], corners, row[6]), f"{name}: {row}")
+        inside = any(is_in(*(drawing.points[k] for k in face), p) for face in faces)
+        expect(inside == (row[2] != "outside"), f"{name}: {row}")
+        if row[2] == "face":
+            expect(turned(corners) in faces, f"{name}: {row} is no face")
+
+
+def along(p, q, r):
+    """How far r, on the line from p to q, is on the way."""
+    way = (q[0] - p[0], q[1] - p[1])
+    return Fraction((r[0] - p[0]) * way[0] + (r[1] - p[1]) * way[1], way[0] ** 2 + way[1] ** 2)
+
+
+def met_at(a, b, p, q):
+    """What the way from p to q has in common with the edge from a to b, less the edge's ends: a
+    kind, and how far on the way it is."""
+    if side(p, q, a) == side(p, q, b) == 0:
+        first, last = sorted((along(p, q, a), along(p, q, b)))
+        first, last = max(first, Fraction(0)), min(last, Fraction(1))
+        return ("along", (first + last) / 2) if first < last else None
+    if side(p, q, a) * side(p, q, b) < 0 and side(a, b, p) * side(a, b, q) <= 0:
+        whole = side(a, b, p) - side(a, b, q)
+        return "crosses", Fraction(side(a, b, p), 1) / whole
+    return None
+
+
+def check_line(name, drawing, p, q):
+    """A way meets exactly these points and edges, in order."""
+    answer, faces = ask(drawing, ["--line", *(f"{float(n):g}" for n in (*p, *q))], None)
+    found = [(along(p, q, r), "point", (k,)) for k, r in enumerate(drawing.points)
+             if r in (p, q) or carries(p, q, r)]
+    for pair in {tuple(sorted(pair)) for face in faces for pair in combinations(face, 2)}:
+        met = met_at(*(drawing.points[k] for k in pair), p, q)
+        if met:
+            found.append((met[1], met[0], pair))
+    rows = rows_of(answer, "meets,a,b")
+    said = [(row[0], tuple(int(word) - 1 for word in row[1:] if word)) for row in rows]
+    expect([(kind, tuple(sorted(ends))) for kind, ends in said]
+           == [(kind, ends) for _, kind, ends in sorted(found)], f"{name}: {said}, not {found}")
+    for kind, ends in said:
+        if kind == "crosses":
+            a, b = (drawing.points[k] for k in ends)
+            expect(side(a, b, q) > 0 or side(a, b, q) == 0 > side(a, b, p), f"{name}: a direction")
+        if kind == "along":
+            a, b = (drawing.points[k] for k in ends)
+            expect(along(p, q, a) < along(p, q, b), f"{name}: a direction")
+
+
+def check_questions(name, drawing):
+    """Questions about the points themselves, means of them, and points all round."""
+    chance = random.Random(11)
+    known = [text[:2] for text in drawing.texts[:12]]
+    means = [[f"{float((a[i] + b[i]) / 2):g}" for i in (0, 1)]
+             for a, b in zip(drawing.points[:12], drawing.points[1:])]
+    low, high = (f(n for p in drawing.points for n in p) for f in (min, max))
+    round_all = [[f"{chance.uniform(float(low) - 1, float(high) + 1):.2f}" for _ in "xy"]
+                 for _ in range(20)]
+    asked = known + means + round_all
+    check_nearest(name, drawing, asked)
+    check_places(name, drawing, asked)
+    spots = [tuple(map(Fraction, spot)) for spot in asked]
+    for p, q in [*zip(spots, spots[5:]), (spots[0], spots[1]), (spots[1], spots[0])]:
+        if p != q:
+            check_line(name, drawing, p, q)
+
+
+ASKED_FAULTS = [
+    # the points that are asked about, and what is told of three points from 0 to 4
+    ("x,y\n1,1\n1e400,0\n", "line 3: x has more than 17 digits before the point, or a power"),
+    ("x,y\n1,one\n", "line 2: y is not a decimal number"),
+    ("x\n1\n", "line 1: there is no column named y"),
+]
+
+
+def check_asked_faults():
+    """Points that are asked about and have no place, and questions that are none."""
+    text = "x,y\n0,0\n4,0\n0,4\n"
+    with tempfile.TemporaryDirectory() as folder:
+        path, mesh = f"{folder}/asked.csv", f"{folder}/mesh.obj"
+        for asked, told in ASKED_FAULTS:
+            with open(path, "w") as file:
+                file.write(asked)
+            for words in ["--nearest"], ["--locate"]:
+                said, error = run([*words, path], text, 1)
+                expect(f"{path}: {told}" in error and not said, f"mesh {words}: {error}")
+        with open(path, "w") as file:
+            file.write("x,y,note\n1,0.0000000001,far\n")
+        said, error = run(["--round", "1", "--nearest", path], text)
+        expect(said.splitlines()[1] == "1,0.0000000001,1,1,1" and "left out: note" in error, said)
+        expect(f"{path}: rounded 1 number to 1 digits behind the point, by at most 0.0001\n"
+               in error, error)
+        for words in ["--nearest"], ["--locate"]:
+            said, error = run(["--exact", *words, path], "x,y\n0,0\n40,0\n0,4\n", 1)
+            expect(not said and f"{path}: line 2: y has more digits behind the point" in error, error)
+        run(["--nearest", path, "--locate", path], text, 2)
+        for words, told in ["--nearest", ",,,"], ["--locate", ",nowhere,,,,"]:
+            said, _ = run(["--round", "0", "-q", words, path], "x,y\n")
+            expect(said.splitlines()[1:] == ["1,0.0000000001" + told], said)
+        said, _ = run(["-q", "--line", "1", "1", "1", "-1", "-o", mesh], text)
+        expect(said == "meets,a,b\ncrosses,2,1\n" and os.path.exists(mesh), said)
+    _, error = run(["--line", "1", "1", "one", "1"], text, 1)
+    expect("--line: x is not a decimal number" in error, error)
+    run(["--line", "1", "1", "1"], text, 2)
+    run(["--nearest", "/nowhere/at/all.csv"], text, 1)
+
+
+# ---- what is told while it works, and outputs that take nothing
+
+def check_terminal():
+    """Progress is told on a terminal, for many points, and not with --quiet."""
+    text = "x,y\n" + "".join(f"{k % 400},{k // 400}\n" for k in range(120000))
+    for words, is_told in ([], True), (["-q"], False):
+        ours, theirs = os.openpty()
+        with tempfile.TemporaryFile() as file:
+            file.write(text.encode())
+            file.seek(0)
+            ran = subprocess.run([PROGRAM, *words, "--to", "ele"], stdin=file, stderr=theirs,
+                                 stdout=subprocess.DEVNULL, timeout=120)
+        os.close(theirs)
+        said = b""
+        try:
+            while more := os.read(ours, 4096):
+                said += more
+        except OSError:
+            pass
+        os.close(ours)
+        expect(ran.returncode == 0, f"a terminal: status {ran.returncode}")
+        expect((b"mesh: 120000 points: triangulating" in said) == is_told, f"a terminal: {said}")
+    _, error = run(["--to", "ele"], text)
+    expect("triangulating" not in error and "120000 vertices" in error, error)
+
+
+def limited(what, most):
+    """What gives a program no more bytes than so many, of memory or of a file that it writes."""
+    return lambda: resource.setrlimit(what, (most, most))
+
+
+def check_outputs():
+    """A full disk, a reader that has gone, and a file that may not be so large."""
+    text = "x,y\n" + "".join(f"{k % 100},{k // 100}\n" for k in range(20000))
+    with open("/dev/full", "w") as full:
+        ran = subprocess.run([PROGRAM, "-q"], input=text.encode(), stdout=full,
+                             stderr=subprocess.PIPE, timeout=120)
+    expect(ran.returncode == 1 and b"standard output" in ran.stderr, f"a full disk: {ran}")
+    reader, writer = os.pipe()
+    os.close(reader)
+    with open(writer, "w") as gone:
+        ran = subprocess.run([PROGRAM, "-q"], input=text.encode(), stdout=gone,
+                             stderr=subprocess.PIPE, timeout=120)
+    expect(ran.returncode == 1 and b"standard output" in ran.stderr, f"no reader: {ran}")
+    with tempfile.TemporaryDirectory() as folder:
+        path = f"{folder}/old.obj"
+        with open(path, "w") as file:
+            file.write("old")
+        ran = subprocess.run([PROGRAM, "-q", "-o", path], input=text.encode(), timeout=120,
+                             stderr=subprocess.PIPE, restore_signals=False,
+                             preexec_fn=limited(resource.RLIMIT_FSIZE, 4096))
+        with open(path) as file:
+            expect(ran.returncode == 1 and file.read() == "old", f"a refused write: {ran}")
+        expect(os.listdir(folder) == ["old.obj"], "a refused write leaves nothing")
+
+
+def check_long_lines():
+    """A line of a gigabyte is refused, and is not kept in memory."""
+    chunk = b"1" * 2**20
+    for words, start, told in (([], b"x,y\n", "line 2: it is longer than 65536 bytes"),
+                               ([], b'x,y\n0,"', "line 2: a quoted field does not end"),
+                               (["--from", "node"], b"1 2 0 0\n1 ", "line 2: it is longer")):
+        with subprocess.Popen([PROGRAM, *words], bufsize=0, stdin=subprocess.PIPE,
+                              stdout=subprocess.DEVNULL, stderr=subprocess.PIPE,
+                              preexec_fn=limited(resource.RLIMIT_AS, 2**27)) as ran:
+            try:
+                ran.stdin.write(start)
+                for _ in range(1024):
+                    ran.stdin.write(chunk)
+            except BrokenPipeError:
+                pass
+            ran.stdin.close()
+            error = ran.stderr.read().decode()
+        expect(ran.returncode == 1 and told in error, f"a long line: {error}")
+
+
+def check_pipe():
+    """A pipe with a name is written to itself, and stays."""
+    text = "x,y\n0,0\n4,0\n0,4\n"
+    with tempfile.TemporaryDirectory() as folder:
+        path = f"{folder}/mesh.obj"
+        os.mkfifo(path)
+        reader = os.open(path, os.O_RDONLY | os.O_NONBLOCK)
+        run(["-q", "-o", path], text)
+        said = os.read(reader, 4096).decode()
+        os.close(reader)
+        expect(said == run(["-q"], text)[0], f"a pipe: {said}")
+        expect(os.listdir(folder) == ["mesh.obj"], "a pipe has nothing beside it")
+        expect(stat.S_ISFIFO(os.stat(path).st_mode), "a pipe stays one")
+
+
+def main():
+    drawings = survey, hundred, room, manual, cut
+    for drawing in drawings:
+        check(drawing.__name__, drawing())
+        check_questions(drawing.__name__, drawing())
+    check_geojson()
+    check_faults()
+    check_choices()
+    check_crossings()
+    check_hole_points()
+    check_spellings()
+    check_long_numbers()
+    check_tables()
+    check_more_forms()
+    check_far_questions()
+    check_lines_of_input()
+    check_asked_faults()
+    check_by_meshio()
+    check_terminal()
+    check_outputs()
+    check_long_lines()
+    check_pipe()
+    count = sum(map(len, (FAULTS, GEOJSON_FAULTS, ASKED_FAULTS, HOLE_FAULTS)))
+    print(f"{len(drawings) + 2} drawings in 7 forms, and {count} faults")
+
+
+main()
