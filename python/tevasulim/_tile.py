@@ -24,11 +24,11 @@ from .errors import CrossingError
 
 # How wide a halo is at first, in mean distances of the tile's points, and about how many points it
 # has at most on each side, by the square root of theirs.
-HALO, AT_SIDE = 6.0, 40
+HALO, AT_SIDE = 6.0, 100
 # Where more faces than this part of a tile's points may have more in their disks than the tile
 # knows, it takes whole blocks: so often, and with at most so many times its own points, or so many
 # where these are few. Where they are more than a larger part, it first takes some of each block.
-ASKED, MANY, TAKEN, MOST_KNOWN, FEW = 0.004, 0.05, 4, 8, 1 << 15
+ASKED, MANY, TAKEN, MOST_KNOWN, FEW = 0.01, 0.05, 4, 8, 1 << 15
 # Of how many faces one is looked at to find whether they are many, and to find the first blocks;
 # and what part of a tile its blocks cover at most where many are to be expected.
 LOOKED, SAMPLED, COVERED = 32, 4, 0.1
@@ -305,10 +305,10 @@ class Tile:
         areas = (boxes[:, 2] - boxes[:, 0]) * (boxes[:, 3] - boxes[:, 1])
         return float(areas.sum()) < COVERED * float(x1 - x0) * float(y1 - y0)
 
-    def near_blocks(self, most: int) -> Dict[int, NDArray[Any]]:
-        """The blocks of other tiles round the tile that have about so many points."""
+    def near_blocks(self) -> Dict[int, NDArray[Any]]:
+        """The blocks of other tiles round the tile, about as many as it may take."""
         x0, y0, x1, y1 = self.bounds[self.tile].tolist()
-        width = float(max(x1 - x0, y1 - y0, 1))
+        width, most = float(max(x1 - x0, y1 - y0, 1)), self.most_known()
         region = self.region_of(width)
         while width > 1 and self.size_of(region) > most:
             width /= 2
@@ -375,10 +375,10 @@ class Tile:
         points, numbers = self.halo()
         points, numbers = np.concatenate([self.points, points]), np.append(self.numbers, numbers)
         segments = self.segments_in(self.region)
-        # All points in the region are known. Of those round it some are, so that disks are about as
-        # wide as those of all points.
-        most = self.most_known() if self.is_sparse else len(self.points)
-        given = [self.tiles[it].firsts(some) for it, some in self.near_blocks(most).items()]
+        # All points in the region are known. Of those round it some are where disks would be wider
+        # without them than those of all points.
+        blocks = self.near_blocks() if self.is_sparse else {}
+        given = [self.tiles[it].firsts(some) for it, some in blocks.items()]
         given += [ends_of(segments), (self.plan.corners, self.plan.numbers)]
         more, of_them = (np.concatenate(it) for it in zip(*given))
         of_them, first = np.unique(of_them, return_index=True)
@@ -515,7 +515,7 @@ class Work:
         """Takes a point of each of many blocks round the tile, and then the blocks that some of its
         faces reach."""
         if not self.tile.is_sparse:
-            part.take_firsts(self.tile.near_blocks(self.tile.most_known()))
+            part.take_firsts(self.tile.near_blocks())
             part.look()
         faces = part.faces_at(part.is_own)[::SAMPLED]
         blocks = part.reached(faces).blocks(self.tile.most_known() // BLOCK)
