@@ -5,10 +5,13 @@ import json
 import os
 import shutil
 import signal
+import subprocess
+import sys
 import tempfile
 import threading
 import time
-from concurrent.futures import ProcessPoolExecutor
+from concurrent.futures import ProcessPoolExecutor, ThreadPoolExecutor
+from concurrent.futures.process import BrokenProcessPool
 
 import dask
 import numpy as np
@@ -112,6 +115,26 @@ def one_wall(draw):
     points = np.unique(draw.integers(-MOST + 1, MOST, (FEWER, 2)), axis=0)
     ends = [(-MOST, -MOST + 5), (MOST, MOST - 3)]
     return np.concatenate([points, ends]), np.array([[len(points), len(points) + 1]])
+
+
+def survey_lines(draw):
+    """Twelve lines far from each other: each circle reaches from one to the next."""
+    y = draw.integers(0, 12, FEWER) * 80_000_000 - 450_000_000 + draw.integers(-3, 4, FEWER)
+    return np.stack([draw.integers(-MOST, MOST, FEWER), y], 1), NO_SEGMENTS
+
+
+def survey_segments(draw):
+    """The same with segments along the lines."""
+    points, _ = survey_lines(draw)
+    return points, legal_segments(draw, points, 60, 12)
+
+
+def most_on_circle(draw):
+    """Corners of the hull but for a few: each circle passes near all of them."""
+    turns, radii = draw.uniform(0, 2 * np.pi, FEWER // 4), np.full(FEWER // 4, 2.0**28)
+    radii[:10] *= draw.uniform(0.5, 0.999999, 10)
+    points = np.stack([np.cos(turns) * radii, np.sin(turns) * radii], 1)
+    return np.rint(points).astype(np.int64), NO_SEGMENTS
 
 
 def rows_in_order(rows):
@@ -309,12 +332,81 @@ class Ending(threading.Thread):
             time.sleep(0.002)
 
 
+def keys_of(dask_scheduler):
+    """The names of tasks that the dashboard shows."""
+    return set(dask_scheduler.task_prefixes)
+
+
+def check_habits(client, folder):
+    """What a user of Dask expects: names of tasks on the dashboard; the command's progress, on
+    standard error; tasks that need memory, of which workers were begun with so much; and two runs
+    at the same time."""
+    names = {"survey", "cut", "gather", "cells_of_tile"}
+    assert names <= client.run_on_scheduler(keys_of)
+    points = np.random.default_rng(40).integers(0, 10**6, (3000, 2))
+    np.save(f"{folder}/few.npy", points)
+    wanted = cells_of_all(points)
+    words = "tiles", f"{folder}/few.npy", "--tile-size", "1000", "-o", f"{folder}/out"
+    command = [sys.executable, "-m", "tevasulim", *words, "--scheduler", client.scheduler.address]
+    for more in [], ["-q"], ["-q", "--memory", "1e8"]:
+        run = subprocess.run([*command, *more], capture_output=True, text=True)
+        assert not run.returncode, run.stderr
+        rows = np.concatenate([np.load(name) for name in run.stdout.split()])
+        assert np.array_equal(rows_in_order(rows), wanted)
+        assert ("Completed" in run.stderr) == (not more), run.stderr
+    # Two runs in one folder at the same time.
+    with ThreadPoolExecutor(2) as pool:
+        runs = [pool.submit(triangulate_tiles, [points], 500, client, folder) for _ in range(2)]
+        found = [it.result() for it in runs]
+    assert not set(found[0].cells) & set(found[1].cells)
+    for it in found:
+        rows = np.concatenate([np.load(name) for name in it.cells])
+        assert np.array_equal(rows_in_order(rows), wanted)
+        shutil.rmtree(os.path.dirname(it.index_file))
+    print("tasks have names, progress is shown, and two runs share a folder")
+
+
+def check_broken_pool():
+    """A pool of which a process was ended is begun again."""
+    points = np.random.default_rng(41).integers(0, 10**6, (FEWER, 2))
+    wanted = cells_of_all(points)
+    with tempfile.TemporaryDirectory() as folder, ProcessPoolExecutor(2) as pool:
+        pid = pool.submit(os.getpid).result()
+        with ThreadPoolExecutor(1) as other:
+            run = other.submit(triangulate_tiles, [points], 200, pool, folder)
+            begin = time.monotonic()
+            while time.monotonic() < begin + 600:
+                if len(glob.glob(f"{folder}/tiles-*/cells-*.npy")) > 10:
+                    break
+                time.sleep(0.002)
+            os.kill(pid, signal.SIGKILL)
+            found = run.result()
+        rows = np.concatenate([np.load(name) for name in found.cells])
+        assert np.array_equal(rows_in_order(rows), wanted)
+        try:
+            pool.submit(os.getpid)
+        except BrokenProcessPool:
+            print("the same where a process of a pool was ended")
+            return
+    raise AssertionError("the pool was not broken")
+
+
 def check_segments(client, folder):
     """Tiles with constraints of each kind beside one triangulation."""
     for number, make in enumerate((random_segments, contours, parcels, one_wall)):
         points, segments = make(np.random.default_rng(20 + number))
         wanted = cells_of_all(points, segments)
-        for tiles in 1, 4, 25:
+        for tiles in TILES:
+            check(points, tiles, client, folder, wanted, segments)
+        print(f"{make.__name__}: {len(wanted)} cells, {len(segments)} segments", flush=True)
+
+
+def check_far_reaching(client, folder):
+    """Points whose circles reach far past their tiles."""
+    for number, make in enumerate((survey_lines, survey_segments, most_on_circle)):
+        points, segments = make(np.random.default_rng(30 + number))
+        wanted = cells_of_all(points, segments)
+        for tiles in 4, 25:
             check(points, tiles, client, folder, wanted, segments)
         print(f"{make.__name__}: {len(wanted)} cells, {len(segments)} segments", flush=True)
 
@@ -333,6 +425,7 @@ def main():
     os.mkdir(folder)
     local = {"host": "127.0.0.1", "dashboard_address": "127.0.0.1:0", "local_directory": room.name}
     local.update({"n_workers": WORKERS, "threads_per_worker": 1, "silence_logs": 50})
+    local["resources"] = {"memory": 1.5e8}
     with room, LocalCluster(**local) as cluster, Client(cluster) as client:
         for number, make in enumerate((random_points, clustered, grid, line)):
             draw = np.random.default_rng(number)
@@ -352,9 +445,12 @@ def main():
                 assert ending.pid not in client.run(os.getpid).values()
                 print(f"the same where a worker was ended after {ending.found} of 100 tiles")
         check_segments(client, folder)
+        check_far_reaching(client, folder)
+        check_habits(client, folder)
     with tempfile.TemporaryDirectory() as folder, ProcessPoolExecutor(2) as pool:
         check(points, 25, pool, folder, wanted)
         check(points, 25, None, folder, wanted)
+    check_broken_pool()
 
 
 if __name__ == "__main__":

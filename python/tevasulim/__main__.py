@@ -56,6 +56,8 @@ def add_tiles(part: argparse.ArgumentParser) -> None:
     part.add_argument("--tile-size", type=int, default=1_000_000, help="points a tile, about")
     part.add_argument("--workers", type=int, default=1, help="how many processes")
     part.add_argument("--scheduler", help="the address of a Dask scheduler, in place of these")
+    about = "how many bytes of Dask's resource `memory` a task needs, of which workers were begun"
+    part.add_argument("--memory", type=float, help=f"{about} with so many")
     part.add_argument(
         "--segments", nargs="+", default=[], help="tables or .npy of pairs of numbers of points"
     )
@@ -198,6 +200,8 @@ def tiles(given: Any) -> None:
     os.makedirs(out, exist_ok=True)
     if given.workers < 1:
         raise ValueError(f"--workers is to be 1 or more, not {given.workers}")
+    if given.memory and not given.scheduler:
+        raise ValueError("--memory is for the workers of a --scheduler")
     words = given.inputs, given.tile_size
     names = "segments", "scale", "columns", "header", "layer"
     settings = {it: getattr(given, it) for it in names}
@@ -205,9 +209,10 @@ def tiles(given: Any) -> None:
         from distributed import Client
 
         connect: Any = Client
+        needs = {"memory": given.memory} if given.memory else None
+        dask = {"progress": not given.quiet, "resources": needs}
         with connect(given.scheduler) as client:
-            shows = not given.quiet
-            found = triangulate_tiles(*words, client, out, progress=shows, **settings)
+            found = triangulate_tiles(*words, client, out, **dask, **settings)
     elif given.workers == 1:
         found = triangulate_tiles(*words, None, out, **settings)
     else:

@@ -6,6 +6,7 @@ from typing import TYPE_CHECKING, Any, Tuple
 import numpy as np
 
 from ._disks import Disks
+from ._segments import meet
 from ._tile_files import Neighbour
 from ._types import NDArray
 
@@ -45,9 +46,14 @@ def ask_tile(
     deepest: int,
 ) -> None:
     """The same of one tile, the nearest block first, and then ever more of them."""
-    ranks = asked.ranks(rows, tile.boxes())
+    wide = asked.radii[rows, None]
+    low, high = (asked.centers[rows] - wide).min(0), (asked.centers[rows] + wide).max(0)
+    near = part.are_open(tile.tile) & meet(tile.boxes(), np.concatenate([low, high]))
+    is_open = np.flatnonzero(near)
+    ranks = asked.ranks(rows, tile.boxes()[is_open])
     row, block = np.nonzero(ranks < 0)
     order = np.lexsort((ranks[row, block], row))
+    block = is_open[block]
     row, block = row[order], block[order]
     # Which of its row's blocks each one is.
     turn = np.arange(len(row)) - np.searchsorted(row, row)

@@ -1,6 +1,7 @@
 """The closed disks of faces, points in them, and what constraints hide of them."""
 from __future__ import annotations
 
+from functools import cached_property
 from typing import Any, Iterator, Tuple
 
 import numpy as np
@@ -44,7 +45,7 @@ class Disks:
         is_constraint: NDArray[Any],
         segments: NDArray[Any],
     ):
-        self.corners, found = points[corners], disks(points, corners)
+        self.points, self.rows, found = points, corners, disks(points, corners)
         self.is_constraint = is_constraint
         self.centers, self.radii = found[:, :2], found[:, 3]
         # So that no box which a disk reaches is passed over.
@@ -54,27 +55,55 @@ class Disks:
             wide = self.radii[:, None]
             boxes = np.hstack([self.centers - wide, self.centers + wide])
             self.hiders = hiders_of(segments, self.corners, boxes)
+        # Those of which something may be hidden.
+        self.is_cut = is_constraint.any(0)
+        if len(self.hiders):
+            self.is_cut |= self.hiders.any((0, 2))
 
     def __len__(self) -> int:
         return len(self.radii)
 
+    @cached_property
+    def corners(self) -> NDArray[Any]:
+        """The corners of their faces, of shape (3, f, 2)."""
+        return self.points[self.rows]
+
     def ranks(self, rows: NDArray[Any], bounds: NDArray[Any]) -> NDArray[Any]:
         """For some of them and each box: below 0 where something of the box may be in the disk and
         not be hidden, and lower the nearer it is to the centre."""
-        x, y = self.centers[rows].T[:, :, None]
-        dx = np.maximum(np.maximum(bounds[:, 0] - x, x - bounds[:, 2]), 0)
-        dy = np.maximum(np.maximum(bounds[:, 1] - y, y - bounds[:, 3]), 0)
-        ranks: NDArray[Any] = dx * dx + dy * dy - self.reaches_2[rows, None]
-        if len(self.hiders):
-            # What hides the four corners of a box hides all of it.
+        ranks = self.distances(rows[:, None], bounds)
+        if self.is_cut[rows].any():
             row, box = np.nonzero(ranks < 0)
-            is_hidden = np.ones((3 + len(self.hiders), len(row)), bool)
-            for k, m in (0, 1), (2, 1), (2, 3), (0, 3):
-                corners = bounds[box, k], bounds[box, m]
-                is_hidden &= np.stack(list(self.hidden(rows[row], *corners)))
-            all_hidden = is_hidden.any(0)
+            all_hidden = self.hide(rows[row], bounds[box])
             ranks[row[all_hidden], box[all_hidden]] = np.inf
         return ranks
+
+    def are_reached(self, rows: NDArray[Any], bounds: NDArray[Any]) -> NDArray[Any]:
+        """For pairs of one of them and a box whether something of the box may be in the disk and
+        not be hidden."""
+        given: NDArray[Any] = self.distances(rows, bounds) < 0
+        if self.is_cut.any():
+            pairs = np.flatnonzero(given & self.is_cut[rows])
+            given[pairs] = ~self.hide(rows[pairs], bounds[pairs])
+        return given
+
+    def distances(self, rows: NDArray[Any], bounds: NDArray[Any]) -> NDArray[Any]:
+        """The squared distance of boxes from centres, less the squared radius: below 0 where
+        something of the box may be in the disk."""
+        x, y = self.centers[rows, 0], self.centers[rows, 1]
+        dx = np.maximum(np.maximum(bounds[:, 0] - x, x - bounds[:, 2]), 0)
+        dy = np.maximum(np.maximum(bounds[:, 1] - y, y - bounds[:, 3]), 0)
+        given: NDArray[Any] = dx * dx + dy * dy - self.reaches_2[rows]
+        return given
+
+    def hide(self, rows: NDArray[Any], bounds: NDArray[Any]) -> NDArray[Any]:
+        """For pairs of one of them and a box whether constraints hide all of the box: what hides
+        its four corners does."""
+        is_hidden = np.ones((3 + len(self.hiders), len(rows)), bool)
+        for k, m in (0, 1), (2, 1), (2, 3), (0, 3):
+            is_hidden &= np.stack(list(self.hidden(rows, bounds[:, k], bounds[:, m])))
+        given: NDArray[Any] = is_hidden.any(0)
+        return given
 
     def hidden(
         self, rows: NDArray[Any], x: NDArray[Any], y: NDArray[Any]
@@ -98,8 +127,9 @@ class Disks:
         a, b, c = self.corners[:, rows[near[0]]]
         signs, depths = np.full(points.shape[:2], -1, np.int8), np.zeros(points.shape[:2])
         signs[near], depths[near] = circle_test(a, b, c, points[near].astype(np.int64))
-        if len(self.hiders):
-            row, place = np.nonzero(signs >= 0)
+        is_cut = self.is_cut[rows]
+        if is_cut.any():
+            row, place = np.nonzero((signs >= 0) & is_cut[:, None])
             x, y = points[row, place].astype(np.int64).T
             is_hidden = np.logical_or.reduce(list(self.hidden(rows[row], x, y)))
             signs[row[is_hidden], place[is_hidden]] = -1

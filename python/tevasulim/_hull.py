@@ -38,6 +38,21 @@ def maybe_corners(points: NDArray[Any]) -> NDArray[Any]:
     return np.flatnonzero(~is_inside)
 
 
+def without_dents(points: NDArray[Any], rows: NDArray[Any]) -> NDArray[Any]:
+    """Rows of points in order by x and y, or the other way round, without most of those that are
+    not on the right of the line from the one before to the one behind: these are no corners of the
+    chain."""
+    while len(rows) > FEW:
+        ways = points[rows[1:]] - points[rows[:-1]]
+        (ax, ay), (bx, by) = ways[:-1].T, ways[1:].T
+        is_corner = np.ones(len(rows), bool)
+        np.greater(ax * by, ay * bx, out=is_corner[1:-1])
+        count, rows = len(rows), rows[is_corner]
+        if 10 * len(rows) > 9 * count:
+            break
+    return rows
+
+
 def chain(places: List[Any]) -> List[Any]:
     """The corners on the right of a way through places in order, but the last one."""
     corners: List[Any] = []
@@ -58,10 +73,14 @@ def hull_rows(points: NDArray[Any]) -> NDArray[Any]:
     """
     points = points.astype(np.int64)
     rows = maybe_corners(points) if len(points) > FEW else np.arange(len(points))
-    places = sorted(zip(*points[rows].T.tolist(), rows.tolist()))
-    if len(places) < 2:
+    if len(rows) < 2:
         return rows
-    return np.array([place[2] for place in chain(places) + chain(places[::-1])])
+    rows = rows[np.lexsort(points[rows].T[::-1])]
+    found: List[int] = []
+    for way in rows, rows[::-1]:
+        some = without_dents(points, way)
+        found += [place[2] for place in chain(list(zip(*points[some].T.tolist(), some.tolist())))]
+    return np.array(found)
 
 
 def are_inside(boxes: NDArray[Any], polygon: NDArray[Any]) -> NDArray[Any]:

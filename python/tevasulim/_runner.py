@@ -1,8 +1,10 @@
 """Tasks in the processes of a cluster, of a pool, or in this one."""
 from __future__ import annotations
 
+import sys
 from concurrent.futures import ProcessPoolExecutor
 from concurrent.futures.process import BrokenProcessPool
+from contextlib import redirect_stdout
 from functools import partial
 from typing import Any, Callable, Dict, List, Optional, Sequence, Tuple
 from uuid import uuid4
@@ -35,13 +37,26 @@ class Runner:
         if self.client is None:
             return [function(*words) for words in tasks]
         futures = [self.submit(function, words) for words in tasks]
-        if self.is_dask and self.shows:
+        if self.is_dask and self.shows and futures:
             import distributed
 
             show: Any = distributed.progress
-            show(futures, notebook=False)
+            # Standard output may be read by a program.
+            with redirect_stdout(sys.stderr):
+                show(futures, notebook=False)
+        if self.is_dask:
+            try:
+                return list(self.client.gather(futures))
+            except Exception:  # of one task, which is told or run again below
+                pass
         again = [partial(self.submit, function, words) for words in tasks]
         return list(map(self.result_of, futures, again))
+
+    def workers(self) -> int:
+        """How many tasks run at the same time, as far as it is known."""
+        if self.is_dask:
+            return sum(self.client.nthreads().values()) or 1
+        return getattr(self.client, "_max_workers", 1)
 
     def submit(self, function: Callable[..., Any], words: Tuple[Any, ...]) -> Any:
         if self.is_dask:

@@ -15,24 +15,30 @@ from ._disks import Disks, are_in, are_listed, keys_of
 from ._library import MOST
 from ._memory import freed_is_kept
 from ._mesh import Mesh
+from ._reach import Reached, groups_of, reach
 from ._segments import ENDS, NONE, NUMBERS, ROW, bounds_of, common_points, crossing, may_enter
 from ._segments import meet
 from ._tile_files import BLOCK, Neighbour, TileFiles, save
 from ._types import NDArray
 from .errors import CrossingError
 
-# How wide a halo is at first, in mean distances of the tile's points.
-HALO = 6.0
-# Where more faces than this part of a tile's points reach past the halo it is made wider: at least
-# and at most so many times as wide, so often, and with points for so many times those of the tile.
-MANY, LEAST, MOST_WIDER, WIDENED, MOST_KNOWN = 0.05, 1.5, 8.0, 6, 8
+# How wide a halo is at first, in mean distances of the tile's points, and about how many points it
+# has at most on each side, by the square root of theirs.
+HALO, AT_SIDE = 6.0, 100
+# Where more faces than this part of a tile's points may have more in their disks than the tile
+# knows, it takes whole blocks: so often, and with at most so many times its own points, or so many
+# where these are few. Where they are more than a larger part, it first takes some of each block.
+ASKED, MANY, TAKEN, MOST_KNOWN, FEW = 0.01, 0.05, 4, 8, 1 << 15
+# Of how many faces one is looked at to find whether they are many, and to find the first blocks;
+# and what part of a tile its blocks cover at most where many are to be expected.
+LOOKED, SAMPLED, COVERED = 32, 4, 0.1
 # How many points are taken at first for one circle, those deepest inside. Each time that something
 # was given twice as many are taken: many points may be inside and hidden.
 DEEPEST, MOST_AT_ONCE = 8, 4096
 # The sides of a box that are nowhere.
 FAR = np.array([-(2**31), -(2**31), 2**31 - 1, 2**31 - 1])
-# How many circles are looked at together, and how many pairs of a face and a segment.
-AT_ONCE, PAIRS = 1024, 1 << 18
+# How many circles are looked at together.
+AT_ONCE = 1024
 
 
 class TileReport(NamedTuple):
@@ -53,14 +59,16 @@ class TileReport(NamedTuple):
 
 class Plan(NamedTuple):
     """What each tile knows of all: the part of the plane of each, and the bounds of its points, as
-    rows of x and y from, x and y to; the corners of the hull of all points, with their numbers; for
-    each part of the segments where those of a tile begin; the longest segments of all; and which
-    tiles have points that are not corners of that hull, which all tiles know."""
+    rows of x and y from, x and y to; the corners of the hull of all points, with their numbers, and
+    the tile and row in it of each; for each part of the segments where those of a tile begin; the
+    longest segments of all; and which tiles have points that are not corners of that hull, which
+    all tiles know."""
 
     boxes: NDArray[Any]
     bounds: NDArray[Any]
     corners: NDArray[Any]
     numbers: NDArray[Any]
+    places: NDArray[Any]
     segments: List[List[int]]
     longest: NDArray[Any]
     has_others: NDArray[Any]
@@ -70,9 +78,10 @@ class Plan(NamedTuple):
 NOWHERE = np.array([0, 0, -1, -1])
 
 
-def region_round(box: NDArray[Any], width: float) -> NDArray[Any]:
-    """A box and so much round it, in whole numbers. A side beyond which no point can be is far."""
-    sides = np.rint(np.clip(box + np.array([-width, -width, width, width]), -MOST, MOST))
+def region_round(box: NDArray[Any], widths: NDArray[Any]) -> NDArray[Any]:
+    """A box and so much beyond each side, in whole numbers. A side beyond which no point can be is
+    far."""
+    sides = np.rint(np.clip(box + widths * (-1, -1, 1, 1), -MOST, MOST))
     is_far = np.concatenate([sides[:2] <= -MOST, sides[2:] >= MOST])
     given: NDArray[Any] = np.where(is_far, FAR, sides.astype(np.int64))
     return given
@@ -99,11 +108,11 @@ class Part:
         self.points, self.numbers = np.empty((0, 2), np.int64), np.empty(0, np.int64)
         self.segments = NONE
         self._keys: Optional[NDArray[Any]] = None
+        self._open: Dict[int, NDArray[Any]] = {}
         self.mesh = Mesh()
         try:
             self.insert_all(points, numbers)
             self.constrain(segments)
-            self.look()
         except BaseException:
             self.close()
             raise
@@ -127,12 +136,42 @@ class Part:
         given: NDArray[Any] = past[self.is_own[self.corners[:, past]].any(0)]
         return given
 
-    def overhang(self, faces: NDArray[Any]) -> float:
-        """About how far half of some faces' disks reach past the region at most."""
-        x, y, wide, _ = disks(self.points, self.corners[:, faces]).T
-        x0, y0, x1, y1 = self.region.astype(np.float64)
-        past = np.maximum(np.maximum(x0 - x, x - x1), np.maximum(y0 - y, y - y1)) + wide
-        return float(np.median(past))
+    def are_open(self, tile: int) -> NDArray[Any]:
+        """Which blocks of another tile may have points that are not known."""
+        if tile not in self._open:
+            boxes, (x0, y0, x1, y1) = self.tile.tiles[tile].boxes(), self.region.tolist()
+            is_in = (boxes[:, 0] >= x0) & (boxes[:, 1] >= y0)
+            is_in &= (boxes[:, 2] <= x1) & (boxes[:, 3] <= y1)
+            self._open[tile] = ~(is_in | self.tile.are_corners(tile))
+        return self._open[tile]
+
+    def reached(self, faces: NDArray[Any]) -> Reached:
+        """Which of many faces may have something in their disks that is not known, and the blocks
+        in which it may be."""
+        asked = Disks(self.points, self.corners[:, faces], self.is_constraint[:, faces], NONE)
+        return reach(asked, self, self.tile.others())
+
+    def count_past(self, faces: NDArray[Any]) -> int:
+        """About how many of some faces have disks that reach past the region."""
+        x, y, _, wide = disks(self.points, self.corners[:, faces]).T
+        x0, y0, x1, y1 = self.region.tolist()
+        is_in = (x - wide >= x0) & (x + wide <= x1) & (y - wide >= y0) & (y + wide <= y1)
+        return len(faces) - int(is_in.sum())
+
+    def take_firsts(self, blocks: Dict[int, NDArray[Any]]) -> None:
+        """Takes the first point of each of some tiles' blocks."""
+        self.take([self.tile.tiles[it].firsts(some) for it, some in blocks.items()], NONE)
+
+    def take_blocks(self, blocks: Dict[int, NDArray[Any]], segments: NDArray[Any]) -> None:
+        """Takes all points of some tiles' blocks, and segments."""
+        self.take([self.tile.tiles[it].rows(some) for it, some in blocks.items()], segments)
+        for tile, some in blocks.items():
+            self.are_open(tile)[some] = False
+
+    def take(self, given: List[Tuple[Any, Any]], segments: NDArray[Any]) -> None:
+        points = [np.empty((0, 2), np.int64), *(some for some, _ in given)]
+        numbers = [np.empty(0, np.int64), *(of_them for _, of_them in given)]
+        self.add(np.concatenate(points), np.concatenate(numbers), segments)
 
     def disks_of(self, faces: NDArray[Any]) -> Disks:
         words = self.corners[:, faces], self.is_constraint[:, faces]
@@ -182,8 +221,10 @@ class Part:
         numbers = self.tile.numbers_at(points)
         is_there = numbers >= 0
         if not is_there.any():
-            others = self.segments[crossing(self.segments, segment), ROW]
-            raise Crossing(int(segment[ROW]), int(others.min(initial=segment[ROW])))
+            others = self.segments[crossing(self.segments, segment), ROW].tolist()
+            # It may come after segments that stand behind it in the list.
+            rows = int(segment[ROW]), min(others, default=int(segment[ROW]))
+            raise Crossing(max(rows), min(rows))
         self.insert_all(points[is_there], numbers[is_there])
 
     def add(
@@ -196,7 +237,6 @@ class Part:
         is_new = ~self.is_known(points)
         self.insert_all(points[is_new], numbers[is_new])
         self.constrain(segments)
-        self.look()
 
     def cells(self, is_open: NDArray[Any], are_at: bool) -> NDArray[Any]:
         """The cells whose least point is the tile's own, by the numbers of their corners: those at
@@ -221,15 +261,70 @@ class Tile:
         self.tiles = [Neighbour(files, it) for it in range(len(plan.bounds))]
         self.bounds = plan.bounds.astype(np.int64)
         self.is_there = plan.has_others
-        self.width = self.first_width()
-        self.region = region_round(plan.boxes[tile], self.width)
+        # Tiles without points have bounds of nothing.
+        self.is_other = self.bounds[:, 0] <= self.bounds[:, 2]
+        self.is_other[tile] = False
+        self.region, self.is_sparse = self.first_region(), self.leaves_gaps()
         self.asked, self.deepest = 0, DEEPEST
         self._segments: Dict[int, Any] = {}
 
-    def first_width(self) -> float:
-        """How wide a halo is at first."""
+    def first_region(self) -> NDArray[Any]:
+        """The tile's part of the plane and so much round it that at most sides some rows of points
+        are had of the tiles beyond."""
         x0, y0, x1, y1 = self.bounds[self.tile].tolist()
-        return HALO * float(np.sqrt(max(x1 - x0, 1) * max(y1 - y0, 1) / len(self.points)))
+        box, count = self.plan.boxes[self.tile], len(self.points)
+        width = HALO * float(np.sqrt(max(x1 - x0, 1) * max(y1 - y0, 1) / count))
+        widths = np.full(4, width)
+        for side in range(4):
+            of_side = np.arange(4) == side
+            while widths[side] > 1:
+                if self.size_of(region_round(box, widths * of_side)) <= AT_SIDE * np.sqrt(count):
+                    break
+                widths[side] /= 2
+        return region_round(box, widths)
+
+    def size_of(self, region: NDArray[Any]) -> int:
+        """About how many points of other tiles a region has."""
+        met = np.flatnonzero(meet(self.bounds, region) & self.is_other)
+        return BLOCK * sum(int(meet(self.tiles[i].boxes(), region).sum()) for i in met)
+
+    def others(self) -> NDArray[Any]:
+        """The other tiles that have points which not all tiles know."""
+        return np.flatnonzero(self.is_there & self.is_other)
+
+    def are_corners(self, tile: int) -> NDArray[Any]:
+        """Which blocks of a tile have nothing but corners of the hull of all points."""
+        rows = self.plan.places[self.plan.places[:, 0] == tile, 1]
+        return self.tiles[tile].are_whole(np.bincount(rows // BLOCK))
+
+    def leaves_gaps(self) -> bool:
+        """Whether the tile's blocks leave most of it empty, as where points lie on lines: then
+        disks are wide."""
+        x0, y0, x1, y1 = self.bounds[self.tile].tolist()
+        boxes = self.files.rows("boxes", self.tile).astype(np.float64)
+        areas = (boxes[:, 2] - boxes[:, 0]) * (boxes[:, 3] - boxes[:, 1])
+        return float(areas.sum()) < COVERED * float(x1 - x0) * float(y1 - y0)
+
+    def near_blocks(self) -> Dict[int, NDArray[Any]]:
+        """The blocks of other tiles round the tile, about as many as it may take."""
+        x0, y0, x1, y1 = self.bounds[self.tile].tolist()
+        width, most = float(max(x1 - x0, y1 - y0, 1)), self.most_known()
+        region = self.region_of(width)
+        while width > 1 and self.size_of(region) > most:
+            width /= 2
+            region = self.region_of(width)
+        while width < MOST and self.size_of(self.region_of(2 * width)) <= most:
+            width *= 2
+            region = self.region_of(width)
+        met = np.flatnonzero(meet(self.bounds, region) & self.is_other)
+        return {i: np.flatnonzero(meet(self.tiles[i].boxes(), region)) for i in met.tolist()}
+
+    def most_known(self) -> int:
+        """About how many points of other tiles it may take at most."""
+        return max(MOST_KNOWN * len(self.points), FEW)
+
+    def region_of(self, width: float) -> NDArray[Any]:
+        return region_round(self.plan.boxes[self.tile], np.full(4, width))
 
     def are_own(self, points: NDArray[Any]) -> NDArray[Any]:
         """Which points lie in the tile's part of the plane; lower sides belong to it."""
@@ -265,8 +360,7 @@ class Tile:
     def halo(self) -> Tuple[NDArray[Any], NDArray[Any]]:
         """The points of other tiles in the region."""
         points, numbers = [np.empty((0, 2), np.int64)], [np.empty(0, np.int64)]
-        is_asked = meet(self.bounds, self.region) & (self.bounds[:, 0] <= self.bounds[:, 2])
-        is_asked[self.tile] = False
+        is_asked = meet(self.bounds, self.region) & self.is_other
         for i in np.flatnonzero(is_asked):
             boxes = self.tiles[i].boxes()
             some, of_them = self.tiles[i].rows(np.flatnonzero(meet(boxes, self.region)))
@@ -281,36 +375,18 @@ class Tile:
         points, numbers = self.halo()
         points, numbers = np.concatenate([self.points, points]), np.append(self.numbers, numbers)
         segments = self.segments_in(self.region)
-        # All points in the region are known, and no other.
-        more, of_them = ends_of(segments)
-        more = np.concatenate([self.plan.corners, more])
-        of_them, first = np.unique(np.append(self.plan.numbers, of_them), return_index=True)
-        more = more[first]
+        # All points in the region are known. Of those round it some are where disks would be wider
+        # without them than those of all points.
+        blocks = self.near_blocks() if self.is_sparse else {}
+        given = [self.tiles[it].firsts(some) for it, some in blocks.items()]
+        given += [ends_of(segments), (self.plan.corners, self.plan.numbers)]
+        more, of_them = (np.concatenate(it) for it in zip(*given))
+        of_them, first = np.unique(of_them, return_index=True)
+        more = more[first].astype(np.int64)
         is_new = ~are_in(more, self.region)
         points = np.concatenate([points, more[is_new]])
         numbers = np.append(numbers, of_them[is_new])
         return Part(self, points, numbers, segments, self.region)
-
-    def widen(self, more: float) -> bool:
-        """Makes the region wider, by so much or what is allowed at once. Where that would have too
-        many points, or nothing more is there, it does not."""
-        least, most = LEAST * self.width, MOST_KNOWN * len(self.points)
-        width = min(max(self.width + more, least), MOST_WIDER * self.width)
-        while self.size_of(width) > most and width > least:
-            width = max(width / 2, least)
-        if not 0 < self.size_of(width) <= most:
-            return False
-        before, self.region = self.region, region_round(self.plan.boxes[self.tile], width)
-        self.width = width
-        return not np.array_equal(self.region, before)
-
-    def size_of(self, width: float) -> int:
-        """About how many points of other tiles are in a region that is so wide."""
-        region = region_round(self.plan.boxes[self.tile], width)
-        is_met = meet(self.bounds, region) & self.is_there
-        is_met[self.tile] = False
-        blocks = (meet(self.tiles[i].boxes(), region) for i in np.flatnonzero(is_met))
-        return BLOCK * sum(int(it.sum()) for it in blocks)
 
     def part_at(self, part: Part, is_open: NDArray[Any], given: Given, more: NDArray[Any]) -> Part:
         """A smaller part: some points of a part, their neighbours in it, what was given, the
@@ -342,12 +418,12 @@ class Tile:
         boxes = np.hstack([corners.min(0), corners.max(0)])
         segments = self.segments_in(np.concatenate([boxes[:, :2].min(0), boxes[:, 2:].max(0)]))
         segments = segments[~np.isin(segments[:, ROW], part.segments[:, ROW])]
-        is_needed, some = np.zeros(len(segments), bool), max(PAIRS // max(len(segments), 1), 1)
-        for begin in range(0, len(faces) if len(segments) else 0, some):
-            rows = slice(begin, begin + some)
-            may = may_enter(segments, corners[:, rows], boxes[rows])
+        is_needed, bounds = np.zeros(len(segments), bool), bounds_of(segments)
+        for rows, box in groups_of(boxes) if len(segments) else ():
+            near = np.flatnonzero(meet(bounds, box))
+            may = may_enter(segments[near], corners[:, rows], boxes[rows])
             is_lacking[rows] = may.any(1)
-            is_needed |= may.any(0)
+            is_needed[near] |= may.any(0)
         return is_lacking, segments[is_needed]
 
     def ask(self, part: Part, faces: NDArray[Any], tiles: NDArray[Any]) -> Given:
@@ -376,25 +452,25 @@ class Work:
     def __init__(self, files: TileFiles, tile: int, plan: Plan):
         self.tile = Tile(files, tile, plan)
         self.rounds = self.known = self.fetched = 0
+        self.before = np.empty((3, 0), np.int32)
 
     def rows(self) -> NDArray[Any]:
         """The cells whose least point is the tile's own. A face of a part is sure where the part
         has each point of all that may be seen in its closed disk, and each segment that may enter
         it. Where a face at an own point is not, the cells at that point come of a smaller part, in
         which all faces at it are made sure."""
-        part, past = self.wide_part()
+        part = self.tile.part()
         try:
+            past, is_reached = self.take_more(part)
             self.known = len(part.points)
-            others = self.tile.is_there.copy()
-            others[self.tile.tile] = False
-            given = self.tile.ask(part, past, np.flatnonzero(others))
-            is_lacking, segments = self.tile.lacking(part, past)
-            unsure = past[given.is_given | is_lacking]
+            given = self.tile.ask(part, past[is_reached], self.tile.others())
+            is_unsure, segments = self.tile.lacking(part, past)
+            is_unsure[np.flatnonzero(is_reached)[given.is_given]] = True
             is_open = np.zeros(len(part.points), bool)
-            is_open[part.corners[:, unsure]] = True
+            is_open[part.corners[:, past[is_unsure]]] = True
             is_open &= part.is_own
             rows = part.cells(is_open, False)
-            if not len(unsure):
+            if not is_unsure.any():
                 return rows
             smaller = self.tile.part_at(part, is_open, given, segments)
             asked = part.numbers[is_open]
@@ -405,28 +481,60 @@ class Work:
         finally:
             smaller.close()
 
-    def wide_part(self) -> Tuple[Part, NDArray[Any]]:
-        """The tile's part, and the faces at own points that reach past its region, which is wider
-        where they were many."""
-        most = MANY * len(self.tile.points)
-        while True:
-            part = self.tile.part()
-            self.rounds += 1
-            try:
-                past, is_last = part.own_faces_past(), self.rounds > WIDENED
-                if is_last or len(past) <= most or not self.tile.widen(part.overhang(past)):
-                    return part, past
-            except BaseException:
-                part.close()
-                raise
-            part.close()
+    def take_more(self, part: Part) -> Tuple[NDArray[Any], NDArray[Any]]:
+        """The faces at own points whose disks reach past the part's region, and which of them may
+        have something in their disks that the part does not know. Where these are not few the part
+        takes the blocks that they reach."""
+        few = ASKED * len(self.tile.points)
+        self.look(part)
+        own = part.faces_at(part.is_own)
+        if LOOKED * part.count_past(own[::LOOKED]) > MANY * len(self.tile.points):
+            self.take_roughly(part)
+        faces = part.own_faces_past()
+        if len(faces) <= few:
+            return faces, np.ones(len(faces), bool)
+        found = part.reached(faces)
+        for _ in range(TAKEN):
+            blocks = found.blocks(max(len(self.tile.points) // 3, FEW) // BLOCK)
+            if found.is_reached.sum() <= few or not blocks:
+                break
+            self.take_blocks(part, faces, blocks)
+            # A face within the region that is as it was needs no more.
+            is_asked = ~are_same(part.corners, self.before)
+            is_asked[faces] = True
+            own = part.faces_at(part.is_own)
+            faces = own[is_asked[own]]
+            found = part.reached(faces)
+        return faces, found.is_reached
+
+    def look(self, part: Part) -> None:
+        part.look()
+        self.rounds += 1
+
+    def take_roughly(self, part: Part) -> None:
+        """Takes a point of each of many blocks round the tile, and then the blocks that some of its
+        faces reach."""
+        if not self.tile.is_sparse:
+            part.take_firsts(self.tile.near_blocks())
+            part.look()
+        faces = part.faces_at(part.is_own)[::SAMPLED]
+        blocks = part.reached(faces).blocks(self.tile.most_known() // BLOCK)
+        if blocks:
+            self.take_blocks(part, faces, blocks)
+
+    def take_blocks(self, part: Part, faces: NDArray[Any], blocks: Dict[int, Any]) -> None:
+        """Takes blocks that some faces reach, and what segments may enter these. `before` has the
+        corners of all faces as they were."""
+        self.before = part.corners
+        part.take_blocks(blocks, self.tile.lacking(part, faces)[1])
+        self.look(part)
 
     def sure_cells(self, smaller: Part, asked: NDArray[Any]) -> NDArray[Any]:
         """The cells at some own points, after each face there is made sure."""
         tiles, looked = np.flatnonzero(self.tile.is_there), np.empty((3, 0), np.int32)
         again = np.empty(0, np.int64)
         while True:
-            self.rounds += 1
+            self.look(smaller)
             is_asked = np.isin(smaller.numbers, asked)
             # A face that nothing was given for, and that is as it was, is sure already.
             is_new = ~are_same(smaller.corners, looked)

@@ -21,6 +21,9 @@ from .errors import NoSuchPointError, TevasulimError
 # How many points a block has, how many a task surveys and cuts, and how many are looked at
 # together.
 BLOCK, PIECE, TOGETHER = 128, 250_000, 1 << 15
+# How many times as many points as on average a tile may have where a gap in the points that is so
+# wide, as a part of their spread, is where the plane is cut.
+UNEVEN, GAP = 1.25, 0.03
 Box = Tuple[Tuple[float, float], Tuple[float, float]]
 PLANE: Box = ((-np.inf, np.inf), (-np.inf, np.inf))
 
@@ -55,17 +58,41 @@ def plan_of(sample: NDArray[Any], tiles: int) -> Any:
     """How the plane is cut, by halves of about as many sampled points for each tile: a tile is
     None, and a cut is an axis, the coordinate from which on points are in the second part, and both
     parts."""
+    return cut_of(sample, tiles, UNEVEN * len(sample) / tiles)
+
+
+def cut_of(sample: NDArray[Any], tiles: int, most: float) -> Any:
+    """The same where a tile is to have at most so many of the sampled points."""
     if tiles > 1:
         spread = np.ptp(sample.astype(np.int64), axis=0) if len(sample) else np.zeros(2)
         axis = int(spread[1] > spread[0])
         values, half = sample[:, axis], tiles // 2
         larger = values[values > values.min(initial=MOST)]
         if len(larger):
-            middle = len(values) * half // tiles
-            at = max(int(np.partition(values, middle)[middle]), int(larger.min()))
+            count, middle, each = len(values), len(values) * half // tiles, len(values) / tiles
+            first = max(count - most * (tiles - half), each * half / UNEVEN)
+            last = min(most * half, count - each * (tiles - half) / UNEVEN)
+            at = gap_in(np.sort(values), int(np.ceil(first)), int(last), middle)
+            if at is None:
+                at = max(int(np.partition(values, middle)[middle]), int(larger.min()))
             low = values < at
-            return axis, at, plan_of(sample[low], half), plan_of(sample[~low], tiles - half)
+            below = cut_of(sample[low], half, most)
+            return axis, at, below, cut_of(sample[~low], tiles - half, most)
     return None
+
+
+def gap_in(values: NDArray[Any], first: int, last: int, middle: int) -> Optional[int]:
+    """The upper end of a wide gap in values in order, before one of some places, or None: few
+    circles reach over a wide gap. Of several it is the one that is nearest to the middle."""
+    some = values[max(first, 1) - 1 : last + 1].astype(np.int64)
+    gaps = some[1:] - some[:-1]
+    least = max(GAP * (int(values[-1]) - int(values[0])), int(gaps.max(initial=0)) // 2)
+    wide = np.flatnonzero(gaps > least)
+    # A grid has as wide a gap everywhere.
+    if not len(wide) or least < 4 * np.median(gaps[gaps > 0]):
+        return None
+    nearest = wide[np.abs(wide + max(first, 1) - middle).argmin()]
+    return int(some[1 + nearest])
 
 
 def boxes_in(plan: Any, box: Box = PLANE) -> List[Box]:
@@ -144,6 +171,16 @@ def pieces_of(part: str) -> List[Piece]:
     return [Piece(part, begin, min(begin + PIECE, count)) for begin in begins]
 
 
+def is_plain(part: str, reading: Reading) -> bool:
+    """Whether a part is the name of a .npy of points as they are, which this process reaches."""
+    if not part.endswith(".npy") or reading != Reading():
+        return False
+    try:
+        return not load(part).dtype.names
+    except (OSError, ValueError):
+        return False
+
+
 def survey(piece: Piece, count: int) -> Tuple[int, NDArray[Any]]:
     """How many points a piece has, and at most so many of them, picked blindly but always the same.
     A part with anything but points in range is refused."""
@@ -199,12 +236,13 @@ def positions_of(numbers: NDArray[Any], parts: List[str], firsts: List[int]) -> 
 
 class Gathered(NamedTuple):
     """A tile's points: how many there are, their bounds as x and y from, x and y to, and the
-    corners of their hull with their numbers."""
+    corners of their hull with their numbers and rows."""
 
     size: int
     bounds: NDArray[Any]
     corners: NDArray[Any]
     numbers: NDArray[Any]
+    rows: NDArray[Any]
 
 
 class TileFiles:
@@ -288,8 +326,9 @@ class TileFiles:
         low, high = boxes[:, :2].min(0, initial=MOST), boxes[:, 2:].max(0, initial=-MOST)
         is_outer = np.repeat(~are_inside(boxes, polygon), BLOCK)[: len(points)]
         outer = np.flatnonzero(is_outer)
-        corners = outer[hull_rows(points[outer])]
-        return Gathered(len(points), np.concatenate([low, high]), points[corners], numbers[corners])
+        rows = outer[hull_rows(points[outer])]
+        bounds = np.concatenate([low, high])
+        return Gathered(len(points), bounds, points[rows], numbers[rows], rows)
 
     def numbers_at(self, tile: int, points: NDArray[Any]) -> NDArray[Any]:
         """The numbers of a tile's points at some positions, or -1 where none is."""
@@ -340,6 +379,7 @@ class Neighbour:
     def __init__(self, files: TileFiles, tile: int):
         self.files, self.tile = files, tile
         self._boxes: Any = None
+        self._firsts = 0
 
     def boxes(self) -> NDArray[Any]:
         """The bounds of its blocks."""
@@ -356,7 +396,8 @@ class Neighbour:
         if self._boxes is None:
             return 0
         each = self._points.itemsize * 2 + self._numbers.itemsize
-        given: int = self._boxes.nbytes // 2 + int(self._is_read.sum()) * BLOCK * each
+        points = self._firsts + int(self._is_read.sum()) * BLOCK
+        given: int = self._boxes.nbytes // 2 + points * each
         return given
 
     def blocks(self, numbers: NDArray[Any]) -> Tuple[NDArray[Any], NDArray[Any]]:
@@ -367,8 +408,22 @@ class Neighbour:
         np.minimum(places, len(self._points) - 1, out=places)
         return self._points[places], self._numbers[places]
 
+    def are_whole(self, counts: NDArray[Any]) -> NDArray[Any]:
+        """Which blocks have at most as many points as is said of the first ones."""
+        sizes = np.full(len(self.boxes()), BLOCK)
+        sizes[-1:] = len(self._points) - BLOCK * (len(sizes) - 1)
+        given: NDArray[Any] = np.append(counts, np.zeros(len(sizes), np.intp))[: len(sizes)] >= sizes
+        return given
+
+    def firsts(self, blocks: NDArray[Any]) -> Tuple[NDArray[Any], NDArray[Any]]:
+        """The first point of some blocks, and their numbers."""
+        self.boxes()
+        self._firsts += len(blocks)
+        return self._points[blocks * BLOCK], self._numbers[blocks * BLOCK]
+
     def rows(self, blocks: NDArray[Any]) -> Tuple[NDArray[Any], NDArray[Any]]:
         """The points of some blocks, and their numbers."""
+        self.boxes()
         self._is_read[blocks] = True
         places = (blocks[:, None] * BLOCK + np.arange(BLOCK)).ravel()
         places = places[places < len(self._points)]

@@ -34,15 +34,18 @@ from ._hull import hull_rows
 from ._runner import Runner
 from ._segments import NONE, longest_of
 from ._tile import Plan, TileReport, cells_of_tile
-from ._tile_files import TileFiles, boxes_in, pieces_of, plan_of, survey
+from ._tile_files import TileFiles, boxes_in, is_plain, pieces_of, plan_of, survey
 from ._tile_parts import TABLES, Reading, ending, parts_of, segments_in
 from ._types import NDArray
 from .errors import CrossingError, TevasulimError
 
 __all__ = ["triangulate_tiles", "neighbors", "TiledCells", "TileReport"]
 
-# How many points of all are looked at before the plane is cut, and of these for their hull.
-SAMPLE, FOR_HULL = 200_000, 2_000
+# How many points of all are looked at before the plane is cut, and of these for their hull, of
+# which so many corners are taken or somewhat more.
+SAMPLE, FOR_HULL, CORNERS = 200_000, 2_000, 64
+# Of how many tiles a worker waits long for the others at the end.
+FEW = 5
 
 
 class TiledCells(NamedTuple):
@@ -83,7 +86,8 @@ def names_of(given: Any, files: TileFiles, runner: Runner, reading: Reading) -> 
     """The points that were handed in, as names of .npy files. Workers read what is named, and this
     process writes what it holds."""
     tasks = [(part, i, reading) for i, part in enumerate(parts_of(given))]
-    named = [it for it in tasks if isinstance(it[0], str) or hasattr(it[0], "compute")]
+    named = [it for it in tasks if isinstance(it[0], str) and not is_plain(it[0], reading)]
+    named += [it for it in tasks if hasattr(it[0], "compute")]
     found = dict(zip((it[1] for it in named), runner.run(files.take, named)))
     return [found.get(it[1]) or files.take(*it) for it in tasks]
 
@@ -110,7 +114,7 @@ def cut_plane(
     found = runner.run(survey, [(piece, each) for piece in pieces])
     counts = [count for count, _ in found]
     sample = np.concatenate([np.empty((0, 2), np.int32), *(some for _, some in found)])
-    cuts = plan_of(sample, max(-(-sum(counts) // tile_size), 1))
+    cuts = plan_of(sample, tile_count(sum(counts), tile_size, runner.workers()))
     boxes = boxes_in(cuts)
     firsts = np.cumsum([0, *counts]).tolist()
     tasks = [(piece, i, firsts[i], cuts, len(boxes)) for i, piece in enumerate(pieces)]
@@ -125,6 +129,7 @@ def cut_plane(
     ]
     some = sample[:: max(len(sample) // FOR_HULL, 1)].astype(np.int64)
     polygon = some[hull_rows(some)]
+    polygon = polygon[:: max(len(polygon) // CORNERS, 1)]
     has_keys = bool(of_segments)
     gathering = [(tile, part, polygon, has_keys) for tile, part in enumerate(parts)]
     gathered = runner.run(files.gather, gathering)
@@ -145,7 +150,14 @@ def cut_plane(
     tile_of = np.repeat(np.arange(len(boxes)), [len(it.numbers) for it in gathered])
     known = np.bincount(tile_of[rows], minlength=len(boxes))
     has_others = np.array([it.size for it in gathered]) > known
-    return Plan(of_boxes, bounds, corners[rows], numbers[rows], begins, longest, has_others)
+    places = np.stack([tile_of, np.concatenate([it.rows for it in gathered])], 1)[rows]
+    return Plan(of_boxes, bounds, corners[rows], numbers[rows], places, begins, longest, has_others)
+
+
+def tile_count(points: int, tile_size: int, workers: int) -> int:
+    """How many tiles there are: where each worker has few, so many that all have as many."""
+    tiles = max(-(-points // tile_size), 1)
+    return -(-tiles // workers) * workers if workers < tiles <= FEW * workers else tiles
 
 
 def place_segments(
