@@ -9,8 +9,8 @@ use delaunay_interface::delaunay_core::{HintGenerator, LastUsedVertexHintGenerat
 use hint_hierarchy::HierarchyHintGeneratorWithBranchFactor as Hierarchy;
 use std::alloc::Global;
 use std::io;
-use test_hints::generators::{duplicate, five, initialize};
-use test_hints::last_used;
+use test_reader::hints::generators::{duplicate, five, initialize};
+use test_reader::hints::last_used;
 use test_reader::{Call, index};
 
 /// A generator that belongs to no triangulation.

@@ -3,8 +3,8 @@
 use delaunay_interface::delaunay_core::HintGenerator;
 use hint_hierarchy::HierarchyHintGeneratorWithBranchFactor as Hierarchy;
 use std::io;
-use test_hints::{Choice, Listing, Switching, Told};
 use test_reader::Call;
+use test_reader::hints::{Choice, Listing, Switching, Told};
 
 /// The generators of the scripts.
 pub type Hints = Switching<

@@ -19,7 +19,7 @@ use delaunay_interface::Triangulation;
 use std::alloc::{AllocError, Global};
 use std::io;
 use std::mem::{replace as put, swap};
-use test_hints::Choice;
+use test_reader::hints::Choice;
 use test_reader::{Answers, Call, index};
 
 /// A triangulation with its last copy.

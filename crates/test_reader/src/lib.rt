@@ -1,8 +1,10 @@
-//! A test's script: each line has the name of a call and some numbers, and is printed with what the
-//! call gives. Lines that start with `#` are printed as they are.
+//! What test programs share. A test's script: each line has the name of a call and some numbers, and
+//! is printed with what the call gives. Lines that start with `#` are printed as they are. Generators
+//! of hints are in `hints`.
 #![tactic(auto)]
 
 mod hashes;
+pub mod hints;
 
 use delaunay_core::point::Point2;
 pub use hashes::hash_of;

@@ -4,11 +4,11 @@ ghost use Rattle.plane.specs.Fraction.{Point};
 ghost use Rattle.plane.specs.Hint.{IsAtMost, IsAtMostWith, IsAtMostWithout};
 ghost use Rattle.delaunay_core.specs.Held.{place_if};
 ghost use Rattle.delaunay_core.specs.Place.{place_of};
-ghost use Rattle.test_hints.specs.Unions.{IsHeldIn};
+ghost use Rattle.test_reader.specs.Unions.{IsHeldIn};
 
-use crate::listing::Listing;
-use crate::telling::tell_inserted;
-use crate::{Always1000, EachInTurn};
+use crate::hints::listing::Listing;
+use crate::hints::telling::tell_inserted;
+use crate::hints::{Always1000, EachInTurn};
 use delaunay_core::math::PlaneTests;
 use delaunay_core::point::{Point2, SpadeNum};
 use delaunay_core::{HintGenerator, LastUsedVertexHintGenerator};
@@ -109,7 +109,7 @@ impl<
     D: HintGenerator<S>,
     E: HintGenerator<S>,
 > HintGenerator<S> for Switching<A, B, C, D, E> {
-    ghost use Rattle.test_hints.specs.Unions.{IsHeldIn};
+    ghost use Rattle.test_reader.specs.Unions.{IsHeldIn};
 
     ghost holds = { IsHeldIn A.holds B.holds C.holds D.holds E.holds };
 

@@ -1,6 +1,5 @@
 //! Hint generators for tests, whose answers help no search, or come from one of several others: no
 //! answer of a triangulation depends on them. And calls of generators by themselves.
-#![tactic(auto)]
 
 ghost use Rattle.std.specs.Prelude.{◌≡◌, Some};
 ghost use Rattle.plane.specs.Fraction.{Point};
