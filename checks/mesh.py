@@ -1,6 +1,6 @@
 #!/usr/bin/env python3
-"""checks/mesh.py [PROGRAM]: runs the program `mesh` on drawings and on files with faults, and compares
-what it writes with what the points and segments alone say.
+"""checks/mesh.py [PROGRAM]: runs the program `mesh` on drawings and on files with faults, and
+compares what it writes with what the points and segments alone say.
 
 PROGRAM is crates/mesh as the gate has built it. Faces are found by geometry.py's brute force, with
 exact numbers: points are scaled here by Python's fractions, constraints are cut at the points on
