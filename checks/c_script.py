@@ -2,12 +2,12 @@
 """checks/c_script.py [--seed SEED] [--lists LISTS] [LIBRARY]: what the calls for C answer, beside
 brute force.
 
-LIBRARY is c/libtevasulim.so, which is made where it is not there. The scripts of checks/scripts
-are played, and then random lists of edits: on points that are near each other, on one line, at the
+LIBRARY is c/libtevasulim.so, which is made where it is not there. The scripts of checks/scripts are
+played, and then random lists of edits: on points that are near each other, on one line, at the
 limits of coordinates, or anywhere, of both kinds, with refusals. After each edit all there is is
-compared with lists of points and constraints (for_c/beside.py), and queries are asked and worked out
-(for_c/queries.py). Where four points are on one circle, either diagonal may be there. The same seed
-makes the same lists.
+compared with lists of points and constraints (for_c/beside.py), and queries are asked and worked
+out (for_c/queries.py). Where four points are on one circle, either diagonal may be there. The same
+seed makes the same lists.
 
 A line of a script is the name of an edit or of a query and numbers (c_lines.py). One that begins
 with a space goes on with the line before it.

@@ -1,8 +1,8 @@
 #!/usr/bin/env python3
-"""checks/guides.py [write] [PROGRAM [LIBRARY]]: follows the guides of docs/guide that PAGES names, as
-a reader does, and compares what they show with what comes.
+"""checks/guides.py [write] [PROGRAM [LIBRARY]]: follows the guides of docs/guide that PAGES names,
+as a reader does, and compares what they show with what comes.
 
-PROGRAM is the `mesh` that the gate has built, LIBRARY the shared library, as of checks/python_package.py.
+PROGRAM is the `mesh` that the gate has built, LIBRARY the shared library, as in python_package.py.
 Each page has a fresh folder. Its fenced blocks are taken in their order:
 
 - a block with a file's name behind its language is written to that file, which the text names too;

@@ -1,6 +1,6 @@
 #!/usr/bin/env python3
-"""checks/mesh.py [PROGRAM]: runs the program `mesh` on drawings and on files with faults, and compares
-what it writes with what the points and segments alone say.
+"""checks/mesh.py [PROGRAM]: runs the program `mesh` on drawings and on files with faults, and
+compares what it writes with what the points and segments alone say.
 
 PROGRAM is crates/mesh as the gate has built it. Faces are found by geometry.py's brute force, with
 exact numbers: points are scaled here by Python's fractions, constraints are cut at the points on
@@ -973,6 +973,10 @@ FOREIGN = [
     (b"<?xml version='1.0'?>", "an XML file"),
 ]
 
+# What names end in, and what such a file is, of which the first bytes tell nothing.
+FOREIGN_ENDINGS = [("shp", "a Shapefile"), ("GPKG", "a GeoPackage"), ("dxf", "a DXF file"),
+                   ("Laz", "a LAZ file"), ("kml", "a KML file"), ("parquet", "a Parquet file")]
+
 
 def check_tables():
     """Tables of other separators, with decimal commas, without a header, with columns of other
@@ -1003,6 +1007,16 @@ def check_tables():
     for text, told in FOREIGN:
         error = run([], text, 1)[1]
         expect(f"standard input: this is {told}" in error and "GDAL" in error, error)
+    with tempfile.TemporaryDirectory() as folder:
+        for ending, told in FOREIGN_ENDINGS:
+            path = f"{folder}/points.{ending}"
+            with open(path, "w") as file:
+                file.write("x,y\n0,0\n4,0\n0,4\n")
+            error = run([path], status=1)[1]
+            expect(f"{path}: this is {told}; GDAL" in error, error)
+            expect("\nf " in run(["--from", "csv", path])[0], f"--from of a .{ending}")
+        os.rename(path, f"{folder}/points.xyz")
+        expect("\nf " in run([f"{folder}/points.xyz"])[0], "an ending that is not foreign")
     big = "".join(f"{k / 4:.2f}; {k % 7},50\n" for k in range(20000)).replace(".", ",")
     points = read_obj(run(["-q"], "x;y\n" + big)[0])[0]
     expect(points == [(Fraction(k, 4), Fraction(2 * (k % 7) + 1, 2), 0) for k in range(20000)],

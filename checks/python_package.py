@@ -1,8 +1,8 @@
 #!/usr/bin/env python3
-"""checks/python_package.py [LIBRARY]: the Python package over the shared library: the examples in its
-docstrings and guides, its unit tests, what pip makes of it with no network, its types, how long its
-import takes, scipy's and matplotlib's own tests over its adapter (python_scipy.py), and its answers
-beside scipy's and those of brute force (python_answers.py).
+"""checks/python_package.py [LIBRARY]: the Python package over the shared library: the examples in
+its docstrings and guides, its unit tests, what pip makes of it with no network, its types, how long
+its import takes, scipy's and matplotlib's own tests over its adapter (python_scipy.py), and its
+answers beside scipy's and those of brute force (python_answers.py).
 
 c/Makefile makes c/libtevasulim.so over the libraries that the gate has built. LIBRARY is taken as
 it is: nothing is known of how it was built. It runs Debian's own Python with the packages of

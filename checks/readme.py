@@ -2,11 +2,11 @@
 """checks/readme.py: proves and runs the program of docs/guide/rattle.md over the libraries that the
 gate has left, as whoever has run `./test` may do at once.
 
-A folder beside the repository gets the crate `hill` of that page with the libraries below it, linked
-from crates/*/out/rlib with their stamps. `rt run` there has to prove that program alone, and the
-program has to print what was worked out by hand. A library that is built once more fails: then its
-stamp was not taken (tools/libraries.py). How long it took is told, and fails nothing, since hours
-of one machine differ by two and a half.
+A folder beside the repository gets the crate `hill` of that page with the libraries below it,
+linked from crates/*/out/rlib with their stamps. `rt run` there has to prove that program alone, and
+the program has to print what was worked out by hand. A library that is built once more fails: then
+its stamp was not taken (tools/libraries.py). How long it took is told, and fails nothing, since
+hours of one machine differ by two and a half.
 """
 import os
 import re

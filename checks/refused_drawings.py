@@ -1,13 +1,13 @@
 #!/usr/bin/env python3
 """checks/refused_drawings.py [PROGRAM]: refuses each growth of runs of `mesh` in turn.
 
-PROGRAM is crates/mesh as the gate has built it; a `malloc` refuses growths (faults/refusing.py). Each run
-of RUNS triangulates a drawing, with holes and layers of faces, and writes it or answers a question.
-It is made again with its first growth refused, with its second, up to its last, and with all from
-the first, the second .. refused. Either it ends with status 1 or 2, tells of memory, and has
-written to standard output nothing or a beginning of what it writes where nothing is refused; or it
-does without that memory, and writes all of that. A file that was there stays as it was where a run
-is refused.
+PROGRAM is crates/mesh as the gate has built it; a `malloc` refuses growths (faults/refusing.py).
+Each run of RUNS triangulates a drawing, with holes and layers of faces, and writes it or answers a
+question. It is made again with its first growth refused, with its second, up to its last, and with
+all from the first, the second .. refused. Either it ends with status 1 or 2, tells of memory, and
+has written to standard output nothing or a beginning of what it writes where nothing is refused; or
+it does without that memory, and writes all of that. A file that was there stays as it was where a
+run is refused.
 """
 import os
 import subprocess

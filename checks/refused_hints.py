@@ -1,13 +1,13 @@
 #!/usr/bin/env python3
-"""checks/refused_hints.py [PROGRAM]: refuses each growth of each edit beside a hierarchy of hints in
-turn, and looks at all there is and at the hints.
+"""checks/refused_hints.py [PROGRAM]: refuses each growth of each edit beside a hierarchy of hints
+in turn, and looks at all there is and at the hints.
 
 PROGRAM is crates/test_calls as the gate has built it; a `malloc` refuses growths of a call
-(faults/refusing.py). Each line of HINTED (faults/script.py) is run again and again, each time in a run of
-its own that begins with the lines before it, with hierarchies by 0, 1, 2, 3 and 16; and so on a
-copy. Either the call is refused, and the state and all hints are those of before, or as the steps
-of a chain left them; or it is done, with the state as where nothing was refused, and the hierarchy
-gives hint 0 until it is made anew.
+(faults/refusing.py). Each line of HINTED (faults/script.py) is run again and again, each time in a
+run of its own that begins with the lines before it, with hierarchies by 0, 1, 2, 3 and 16; and so
+on a copy. Either the call is refused, and the state and all hints are those of before, or as the
+steps of a chain left them; or it is done, with the state as where nothing was refused, and the
+hierarchy gives hint 0 until it is made anew.
 
 Of a list of edits (REPLAYED) one that is refused has to be as if it were left out, or the list is
 refused before its first edit. A hierarchy that is made for positions, and a copy of one, give hint

@@ -1,10 +1,10 @@
 #!/usr/bin/env python3
-"""checks/refused_mesh.py [PROGRAM]: refuses each growth of each call of the mesh that takes memory in
-turn, and looks at all of the mesh.
+"""checks/refused_mesh.py [PROGRAM]: refuses each growth of each call of the mesh that takes memory
+in turn, and looks at all of the mesh.
 
 PROGRAM is crates/test_mesh as the gate has built it: it makes the call of each line that it reads.
-A `malloc` (faults/refusing.py) refuses growths of a line's call; those before them are the growths of
-reading the line, and a remark of its length takes as many.
+A `malloc` (faults/refusing.py) refuses growths of a line's call; those before them are the growths
+of reading the line, and a remark of its length takes as many.
 
 Each line of SCRIPT that takes memory is run again and again, each time in a run of its own that
 begins with the lines before it: with its first growth refused, with its second, up to its last; and

@@ -1,6 +1,6 @@
 #!/usr/bin/env python3
-"""checks/script.py [PROGRAM]: works out what crates/test_calls has to print, and plays it the scripts
-of the calls for C, with hints of each kind.
+"""checks/script.py [PROGRAM]: works out what crates/test_calls has to print, and plays it the
+scripts of the calls for C, with hints of each kind.
 
 PROGRAM is crates/test_calls as the gate has built it. It uses no code of the library: session.py
 has lists of points and constraints, edges are found by trying all circles, and numbers are exact.

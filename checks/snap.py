@@ -1,6 +1,6 @@
 #!/usr/bin/env python3
-"""checks/snap.py PROGRAM: has test_snap join random lists of segments that cross, and looks that none
-crosses afterwards, that a path of constraints joins the ends of each, and how far paths go.
+"""checks/snap.py PROGRAM: has test_snap join random lists of segments that cross, and looks that
+none crosses afterwards, that a path of constraints joins the ends of each, and how far paths go.
 
 Points are whole numbers on small grids, so that many segments cross, touch, overlap and repeat.
 What comes out is judged by brute force over all pairs of constraints, in whole numbers.

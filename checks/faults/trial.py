@@ -1,9 +1,10 @@
-"""Runs of a program some of whose growths are refused, and the one sweep over the growths of a call.
+"""Runs of a program some of whose growths are refused, and the one sweep over the growths of a
+call.
 
-A growth is a call of `malloc` or `realloc` (faults/refusing.py). A call is made again and again, each
-time in a run of its own that begins with the lines before it: with its first growth refused, with its
-second, up to its last. Each time the reply has to be a refusal and the state that of before; made
-again, the call has to give what it gives where nothing was refused.
+A growth is a call of `malloc` or `realloc` (faults/refusing.py). A call is made again and again,
+each time in a run of its own that begins with the lines before it: with its first growth refused,
+with its second, up to its last. Each time the reply has to be a refusal and the state that of
+before; made again, the call has to give what it gives where nothing was refused.
 """
 import re
 import sys

@@ -210,9 +210,9 @@ def tiles(given: Any) -> None:
 
         connect: Any = Client
         needs = {"memory": given.memory} if given.memory else None
-        dask = {"progress": not given.quiet, "resources": needs}
+        settings.update(progress=not given.quiet, resources=needs)
         with connect(given.scheduler) as client:
-            found = triangulate_tiles(*words, client, out, **dask, **settings)
+            found = triangulate_tiles(*words, client, out, **settings)
     elif given.workers == 1:
         found = triangulate_tiles(*words, None, out, **settings)
     else:

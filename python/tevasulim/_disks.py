@@ -66,7 +66,8 @@ class Disks:
     @cached_property
     def corners(self) -> NDArray[Any]:
         """The corners of their faces, of shape (3, f, 2)."""
-        return self.points[self.rows]
+        given: NDArray[Any] = self.points[self.rows]
+        return given
 
     def ranks(self, rows: NDArray[Any], bounds: NDArray[Any]) -> NDArray[Any]:
         """For some of them and each box: below 0 where something of the box may be in the disk and

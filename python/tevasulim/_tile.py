@@ -24,7 +24,7 @@ from .errors import CrossingError
 
 # How wide a halo is at first, in mean distances of the tile's points, and about how many points it
 # has at most on each side, by the square root of theirs.
-HALO, AT_SIDE = 6.0, 100
+HALO, AT_SIDE = 6.0, 400
 # Where more faces than this part of a tile's points may have more in their disks than the tile
 # knows, it takes whole blocks: so often, and with at most so many times its own points, or so many
 # where these are few. Where they are more than a larger part, it first takes some of each block.

@@ -412,7 +412,8 @@ class Neighbour:
         """Which blocks have at most as many points as is said of the first ones."""
         sizes = np.full(len(self.boxes()), BLOCK)
         sizes[-1:] = len(self._points) - BLOCK * (len(sizes) - 1)
-        given: NDArray[Any] = np.append(counts, np.zeros(len(sizes), np.intp))[: len(sizes)] >= sizes
+        of_all = np.append(counts, np.zeros(len(sizes), np.intp))[: len(sizes)]
+        given: NDArray[Any] = of_all >= sizes
         return given
 
     def firsts(self, blocks: NDArray[Any]) -> Tuple[NDArray[Any], NDArray[Any]]:

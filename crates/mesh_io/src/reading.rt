@@ -1,8 +1,10 @@
 //! What is read: a drawing, and points that are asked about, all on one scale.
 use crate::progress::ToldReader;
 use crate::separating::Separated;
-use crate::sniffing::{TableForm, foreign_kind, source_of, table_form, without_mark};
-use crate::tasks::{Question, Source, Task, Way};
+use crate::sniffing::{
+    TableForm, foreign_ending, foreign_kind, source_of, table_form, without_mark,
+};
+use crate::tasks::{Question, Source, Task, Way, suffix};
 use anyhow::{Context, anyhow, bail};
 use mesh_files::{
     Asked, ColumnNames, Drawing, FileFault, Moves, Rounding, Scaled, asked_points, most_digits,
@@ -92,6 +94,15 @@ fn read_head<R: Read>(reader: &mut R, alloc: Global) -> io::Result<Vec<u8>> {
     Ok(head)
 }
 
+/// What another program's file is, by its first bytes, or by what its name ends in where it is not
+/// given what the file is.
+fn foreign(given: Option<Source>, name: &str, head: &[u8]) -> Option<&'static str> {
+    match foreign_kind(head) {
+        None if given.is_none() => foreign_ending(suffix(Some(name))),
+        kind => kind,
+    }
+}
+
 /// Reads a text; `name` is that of its file.
 fn read_text<R: Read + Drop>(
     names: ColumnNames<'_>,
@@ -102,7 +113,7 @@ fn read_text<R: Read + Drop>(
 ) -> anyhow::Result<Drawing> {
     let head = read_head(&mut reader, alloc).context(format_args!("{name}"))?;
     let begun = Begun::of(given, head.as_slice());
-    if let Some(kind) = foreign_kind(head.as_slice()) {
+    if let Some(kind) = foreign(given, name, head.as_slice()) {
         bail!("{name}: this is {kind}; GDAL or the Python package makes GeoJSON of it");
     }
     let mark = head

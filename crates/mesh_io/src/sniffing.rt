@@ -44,6 +44,36 @@ pub fn foreign_kind(bytes: &[u8]) -> Option<&'static str> {
     None
 }
 
+/// What names of files end in that others make, and what such a file is.
+static FOREIGN_ENDINGS: [(&str, &str); 16] = [
+    ("shp", "a Shapefile"),
+    ("gpkg", "a GeoPackage"),
+    ("fgb", "a FlatGeobuf file"),
+    ("dxf", "a DXF file"),
+    ("dwg", "a DWG file"),
+    ("las", "a LAS file"),
+    ("laz", "a LAZ file"),
+    ("tif", "a GeoTIFF or another TIFF image"),
+    ("tiff", "a GeoTIFF or another TIFF image"),
+    ("kml", "a KML file"),
+    ("kmz", "a KMZ file"),
+    ("gpx", "a GPX file"),
+    ("gml", "a GML file"),
+    ("nc", "a NetCDF file"),
+    ("parquet", "a Parquet file"),
+    ("gz", "a compressed file, which gunzip opens"),
+];
+
+/// What another program's file is, by what its name ends in.
+pub fn foreign_ending(ending: &str) -> Option<&'static str> {
+    for (known, kind) in &FOREIGN_ENDINGS {
+        if ending.eq_ignore_ascii_case(known) {
+            return Some(*kind);
+        }
+    }
+    None
+}
+
 /// Whether the second line of a text is the word of DXF.
 fn has_section(bytes: &[u8]) -> bool {
     let line = first_line(bytes);

@@ -266,7 +266,7 @@ pub fn command<'a>(alloc: Global) -> Result<Command<'a>, AllocError> {
 }
 
 /// What a file's name ends in, behind its last point. Its folders do not count.
-fn suffix(path: Option<&str>) -> &str {
+pub fn suffix(path: Option<&str>) -> &str {
     let Some(path) = path else {
         return "";
     };
