@@ -12,7 +12,7 @@ import numpy as np
 from . import __version__
 from . import _library as library
 from ._tables import TABLES, read_segments, read_table, write_table
-from .errors import TevasulimError
+from .errors import CrossingError, NoSuchPointError, TevasulimError
 from .geo import MESHES, Surface, ending, triangulate
 from .triangulation import Triangulation
 
@@ -108,7 +108,16 @@ def add_contours(part: argparse.ArgumentParser) -> None:
 
 
 def surface(given: Any) -> Surface:
-    """The triangulation of the file that is named."""
+    """The triangulation of the file that is named. A refusal names the file that is at fault."""
+    try:
+        return read(given)
+    except TevasulimError as error:
+        is_of_segments = isinstance(error, (CrossingError, NoSuchPointError)) and given.segments
+        name = given.segments if is_of_segments else given.input
+        raise type(error)(f"{name}: {error}", error.index) from None
+
+
+def read(given: Any) -> Surface:
     name, settings = given.input, {"scale": given.scale, "exact": given.exact}
     if ending(name) == ".npz":
         tri = Triangulation.load(name)
@@ -267,7 +276,10 @@ def main(words: Optional[List[str]] = None) -> int:
     except Exception as error:
         if not is_told(error):
             raise
-        print(f"tevasulim {given.command}: {error}", file=sys.stderr)
+        said = str(error)
+        if isinstance(error, OSError) and error.filename and error.strerror:
+            said = f"{error.filename}: {error.strerror}"
+        print(f"tevasulim {given.command}: {said}", file=sys.stderr)
         return 1
     return 0
 

@@ -26,6 +26,7 @@ from .errors import (
     ClosedError,
     CrossingError,
     IsConstrainedError,
+    IsPlainError,
     NoConstraintError,
     NoSuchVertexError,
     OutOfIndexesError,
@@ -350,9 +351,9 @@ class Kept:
             self._made = {}
             try:
                 self._call("release", *words)
-            except NoConstraintError:
+            except (NoConstraintError, IsPlainError) as error:
                 ends = [self._point_text(it) for it in (start, end)]
-                raise NoConstraintError(f"no constraint joins {ends[0]} and {ends[1]}") from None
+                raise type(error)(f"no constraint joins {ends[0]} and {ends[1]}") from None
             self._edit = None
 
     def _change(self, name: str, *words: Any) -> None:

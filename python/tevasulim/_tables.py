@@ -49,7 +49,7 @@ def read_table(
     except (ValueError, IndexError) as error:
         # An index error is how numpy before 1.23 tells that a row lacks a column.
         hint = "" if has_header else ". If its first row has names, say so with --header"
-        raise ValueError(f"{name}: {error}{hint}") from None
+        raise ValueError(f"{name}: {str(error).rstrip('.')}{hint}") from None
     return found if found.size else np.empty((0, len(places)))
 
 

@@ -99,8 +99,8 @@ class Surface(NamedTuple):
         wrong = used[np.isnan(self.heights[used])]
         if len(wrong):
             raise ValueError(
-                f"{self.triangulation._point_text(int(wrong[0]))} has no height: give it a Z "
-                "coordinate, or name the column of heights with height="
+                f"{self.triangulation._point_text(int(wrong[0]))} has no height: heights are Z "
+                "coordinates, the third column of a table, or the column that height= names"
             )
         return self.heights
 
