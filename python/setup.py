@@ -29,16 +29,16 @@ HERE = os.path.dirname(os.path.realpath(__file__))
 TOOLS = os.path.join(HERE, "..", "tools")
 NAME = "libtevasulim.so"
 BESIDE = os.path.join(HERE, "tevasulim", NAME)
-HOW = """no {}: looked for {}. In a clone of the repository three commands give one:
+HOW = """{} was not found as {}. In a clone of the repository three commands make one:
     cd c && make        # proves and builds it; the Rattle kit (`rt`) is needed
     cd ../python
     pip install .
-or TEVASULIM_LIBRARY names one that is elsewhere. A pip before 21.3 builds in a copy of these
-sources, from where it finds none: name it so there."""
-OLD = """{} was made of other sources than this clone has. There, one of these makes a new one:
+Or set TEVASULIM_LIBRARY to the name of one that is elsewhere. A pip before 21.3 builds in a copy of
+these sources and finds no library beside it, so it needs TEVASULIM_LIBRARY."""
+OLD = """{} was made of other sources than this clone has. Make a new one in this clone, by
     make -C c           # proves and builds c/libtevasulim.so; the Rattle kit (`rt`) is needed
-    make -C c trial     # builds c/trial/libtevasulim.so with no proof, in two minutes
-TEVASULIM_LIBRARY names the one that the package takes, where it is not c/libtevasulim.so."""
+    make -C c trial     # or builds c/trial/libtevasulim.so with no proof, in two minutes
+If the library is not c/libtevasulim.so, set TEVASULIM_LIBRARY to its name."""
 
 
 def library():

@@ -178,6 +178,35 @@ class Statuses(unittest.TestCase):
             self.assertEqual(error.index, 1)
             self.assertEqual(sorted(map(sorted, tri.constraints.tolist())), [[0, 1], [0, 2]])
 
+    def test_what_messages_say(self):
+        """What was wrong, and where, with coordinates as they were handed in."""
+        with Triangulation([(0, 0), (2.5, 0), (3, 3), (0, 2.25)], [(0, 2)]) as tri:
+            crossing = "from point 1 at (2.5, 0) to point 3 at (0, 2.25) crosses the constraint"
+            joined = "no constraint joins point 0 at (0, 0) and point 3 at (0, 2.25)"
+            tri.insert((5, 5))
+            tri.remove(4)
+            for call, words, wanted in (
+                (tri.add_constraint, [1, 3], f"the segment {crossing} between point"),
+                (tri.add_chain, [[0, 1, 3]], f"segment 1 {crossing} between point"),
+                (tri.add_segments, [[(0, 1), (1, 3)]], f"segment 1 {crossing} between point"),
+                (tri.release, [0, 3], joined),
+                (tri.remove, [7], "there is no point 7: points are numbered from 0 to 4"),
+                (tri.remove, [4], "point 4 was removed"),
+                (tri.add_segments, [[(0, 1), (2, 9)]], "the number at [1, 1] is wrong: there"),
+                (tri.add_chain, [[0, 2**80]], "the number at [1] is wrong: it is no number"),
+                (tri.insert_all, [[(1, 1), (np.inf, 0)]], "the coordinate [1, 0] is inf, but has"),
+                (tri.within, [(0, 0), -2], "the radius is -2, but must not be negative"),
+                (tri.in_circle, [(0, 0), -2], "the squared radius is -2, but must not be"),
+                (tri.interpolate, [[1, 2], (1, 1)], "values have the shape (2,), but need one row"),
+            ):
+                with self.assertRaises(Exception) as caught:
+                    call(*words)
+                self.assertIn(wanted, str(caught.exception))
+        with self.assertRaises(errors.TooLargeError) as caught:
+            Triangulation([(0, 0), (2**24, 1)], scale=100)
+        wanted = "the coordinate [1, 0] is 16777216, but has to be from -2**29 / 100 to 2**29 / 100"
+        self.assertIn(wanted, str(caught.exception))
+
     def test_no_constraint(self):
         with Triangulation(SQUARE, [(0, 2)]) as tri:
             self.unchanged(tri, errors.NoConstraintError, tri.release, 0, 1)

@@ -112,8 +112,8 @@ class Loading(unittest.TestCase):
             for other in library.VERSION - 1, library.VERSION + 10000:
                 # One of another version may lack calls, too.
                 said = self.load(stub_library.make(room, other, ["in_sight"]))
-                self.assertIn(f"tevasulim {own} needs a library of version {own}", said)
-                self.assertIn(f"is of version {library.in_words(other)}", said)
+                self.assertIn(f"tevasulim {own} needs version {own}", said)
+                self.assertIn(f"has version {library.in_words(other)}", said)
             said = self.load(stub_library.make(room, lacks=["in_sight"]))
             self.assertIn("tevasulim_in_sight", said)
 

@@ -117,7 +117,10 @@ def surface(given: Any) -> Surface:
         return triangulate(name, height=given.height, layer=given.layer, **settings)
     table = read_table(name, given.columns, given.header)
     if len(table) and table.shape[1] < 2:
-        raise ValueError(f"{name}: two columns are needed, x and y")
+        raise ValueError(
+            f"{name} has one column, but x and y are two: a .csv has commas between columns, a "
+            ".tsv tabs, another table blanks"
+        )
     segments = read_segments(given.segments, False) if given.segments else None
     tri = Triangulation(table[:, :2], segments, **settings)
     heights = table[:, 2] if table.shape[1] > 2 else np.full(len(table), np.nan)
@@ -199,9 +202,9 @@ def tiles(given: Any) -> None:
     out = needs_out(given)
     os.makedirs(out, exist_ok=True)
     if given.workers < 1:
-        raise ValueError(f"--workers is to be 1 or more, not {given.workers}")
+        raise ValueError(f"--workers is {given.workers}, but has to be 1 or more")
     if given.memory and not given.scheduler:
-        raise ValueError("--memory is for the workers of a --scheduler")
+        raise ValueError("--memory needs --scheduler: only Dask's workers have this resource")
     words = given.inputs, given.tile_size
     names = "segments", "scale", "columns", "header", "layer"
     settings = {it: getattr(given, it) for it in names}
@@ -224,7 +227,7 @@ def tiles(given: Any) -> None:
 
 def needs_out(given: Any) -> str:
     if not given.out:
-        raise ValueError("-o says what is written")
+        raise ValueError("the name of the output is missing: give it with -o")
     return str(given.out)
 
 

@@ -12,7 +12,7 @@ import numpy as np
 from ._library import MOST
 from ._numbers import coordinates, finite, in_range, index_text, number, row_of
 from ._types import NDArray
-from .errors import NotWholeError, TooLargeError
+from .errors import NegativeError, NotWholeError, TooLargeError
 
 # Floats up to here are multiplied by a power of ten and divided again without loss.
 SURE = 2.0**52
@@ -91,9 +91,12 @@ class Grid(NamedTuple):
         if len(wrong):
             value, where = array.ravel()[wrong[0]], index_text(array, int(wrong[0]))
             low, high = self.floats(np.array([[-MOST] * 2, [MOST] * 2])).tolist()
-            message = f"the coordinate [{where}], {value}, is out of the range from {low} to {high}"
-            hint = "make the triangulation with bounds= of all points to come"
-            raise TooLargeError(f"{message}: {hint}", row_of(array, int(wrong[0])))
+            message = (
+                f"the coordinate [{where}] is {value}, but the grid that the first points chose "
+                f"goes from {low} to {high}: make the triangulation with bounds= around all points "
+                "to come"
+            )
+            raise TooLargeError(message, row_of(array, int(wrong[0])))
 
     def asked(self, array: NDArray[Any]) -> Asked:
         """Points that are asked about. They may be off the grid, out of range or not finite."""
@@ -119,7 +122,9 @@ class Grid(NamedTuple):
 
     def squared(self, radius_2: Any) -> float:
         """A squared radius in square steps."""
-        value = number(radius_2, "a squared radius")
+        value = number(radius_2, "the squared radius")
+        if value < 0:
+            raise NegativeError(f"the squared radius is {value}, but must not be negative")
         if isinstance(value, int) and float(self.scale).is_integer():
             return value * int(self.scale) ** 2
         return float(value) * self.scale * self.scale
@@ -130,7 +135,10 @@ def whole_numbers(array: NDArray[Any]) -> NDArray[np.int64]:
     wrong = np.flatnonzero(((array < -(2**53)) | (array > 2**53)).ravel())
     if len(wrong):
         value, where = array.ravel()[wrong[0]], index_text(array, int(wrong[0]))
-        message = f"the coordinate [{where}], {value}, is not from -2**53 to 2**53"
+        message = (
+            f"the coordinate [{where}] is {value}, but whole numbers go from -2**53 to 2**53 here: "
+            "subtract an offset from all points, or make them floats"
+        )
         raise TooLargeError(message, row_of(array, int(wrong[0])))
     return array.astype(np.int64)
 
@@ -140,10 +148,15 @@ def off_grid(array: NDArray[Any], back: NDArray[np.float64], grid: Grid) -> NotW
     wrong = int(np.flatnonzero((back != array).ravel())[0])
     value, where = array.ravel()[wrong], index_text(array, wrong)
     if grid.is_whole:
-        message = f"the coordinate [{where}], {value}, is no whole number, as those before it are"
-        message += ": make the triangulation with floats, or with scale="
+        message = (
+            f"the coordinate [{where}] is {value}, but the points before it are whole numbers: "
+            "make the triangulation with floats, or with scale="
+        )
     else:
-        message = f"the coordinate [{where}], {value}, would be rounded to {back.ravel()[wrong]}"
+        message = (
+            f"the coordinate [{where}] is {value} and would be rounded to {back.ravel()[wrong]}, "
+            "which exact=True refuses: round the points first, or leave exact out"
+        )
     return NotWholeError(message, row_of(array, wrong))
 
 
@@ -156,10 +169,12 @@ def checked_bounds(bounds: Any) -> Optional[NDArray[np.float64]]:
         return None
     array = np.asarray(bounds, np.float64)
     if array.shape not in ((4,), (2, 2)):
-        raise ValueError(f"bounds are x and y from, x and y to, not of the shape {array.shape}")
+        raise ValueError(f"bounds have the shape {array.shape}, but are x and y from, x and y to")
     array = array.reshape(2, 2)
     if not np.isfinite(array).all() or (array[0] > array[1]).any():
-        raise ValueError("bounds are to be finite, and none is to begin beyond its end")
+        raise ValueError(
+            f"bounds are {array.tolist()}, but have to be finite, with the least x and y first"
+        )
     return array
 
 

@@ -24,9 +24,12 @@ from ._order import near_order
 from ._types import NDArray
 from .errors import (
     ClosedError,
+    CrossingError,
     IsConstrainedError,
+    NoConstraintError,
     NoSuchVertexError,
     OutOfIndexesError,
+    OutOfMemoryError,
     TevasulimError,
 )
 
@@ -104,7 +107,7 @@ class Kept:
         >>> tri.insert((1, 2))
         Traceback (most recent call last):
         ...
-        tevasulim.errors.ClosedError: the triangulation is closed
+        tevasulim.errors.ClosedError: the triangulation is closed: make a new one
         """
         with self._lock:
             library.LIBRARY.tevasulim_close(byref(self._mesh))
@@ -124,7 +127,7 @@ class Kept:
         """Each method begins with this: a closed triangulation is refused, and what an exception
         broke off is brought in order."""
         if not self._mesh.is_open:
-            raise ClosedError("the triangulation is closed")
+            raise ClosedError("the triangulation is closed: make a new one")
         if self._edit is not None:
             self._settle(self._edit)
             self._edit = None
@@ -223,7 +226,10 @@ class Kept:
         """Makes room for so many points more."""
         room = self._size + count
         if room > MANY:
-            raise OutOfIndexesError(f"at most {MANY} points are numbered, not {room}")
+            raise OutOfIndexesError(
+                f"there would be {room} points, but a triangulation numbers at most {MANY}: "
+                "tevasulim.tiles takes more"
+            )
         for name in "_points", "_firsts", "_vertices", "_numbers":
             old = getattr(self, name)
             if room > len(old):
@@ -308,20 +314,25 @@ class Kept:
         """Makes constraints of the edges along the segment between two points. A point strictly
         within it stays one, between two constraints. Of a point and itself it makes none.
 
-        Raises `CrossingError` where a constraint crosses the segment: `conflicts` says which.
+        Raises `CrossingError` where a constraint crosses the segment, and names the first one;
+        `conflicts` gives all.
 
         >>> import tevasulim
         >>> tri = tevasulim.Triangulation([(0, 0), (4, 0), (5, 5), (0, 4)])
         >>> tri.add_constraint(0, 2)
-        >>> tri.add_constraint(1, 3)
+        >>> tri.add_constraint(1, 3)  # doctest: +NORMALIZE_WHITESPACE
         Traceback (most recent call last):
         ...
-        tevasulim.errors.CrossingError: a constraint crosses the segment
+        tevasulim.errors.CrossingError: the segment from point 1 at (4, 0) to point 3 at (0, 4)
+        crosses the constraint between point 0 at (0, 0) and point 2 at (5, 5)
         """
         with self._lock:
             self._ready()
             words = self._vertex(start), self._vertex(end)
-            self._change("constrain", *words)
+            try:
+                self._change("constrain", *words)
+            except CrossingError:
+                raise self._crossing(*words) from None
 
     def release(self, start: int, end: int) -> None:
         """Takes from the edge between two points that it is a constraint.
@@ -337,7 +348,11 @@ class Kept:
             words = self._vertex(start), self._vertex(end)
             self._edit = Change("release")
             self._made = {}
-            self._call("release", *words)
+            try:
+                self._call("release", *words)
+            except NoConstraintError:
+                ends = [self._point_text(it) for it in (start, end)]
+                raise NoConstraintError(f"no constraint joins {ends[0]} and {ends[1]}") from None
             self._edit = None
 
     def _change(self, name: str, *words: Any) -> None:
@@ -357,9 +372,11 @@ class Kept:
         try:
             self._change("constrain_chain", *library.rows(array), closed, byref(made))
         except TevasulimError as error:
-            if error.status in (11, 15):
-                assert error.status is not None
-                raise library.error_of(error.status, begin + made.value) from None
+            if isinstance(error, CrossingError):
+                ends = vertices[made.value], vertices[(made.value + 1) % len(vertices)]
+                raise self._crossing(*ends, begin + made.value) from None
+            if isinstance(error, OutOfMemoryError):
+                raise library.error_of(15, begin + made.value) from None
             raise
 
     # Numbers and vertices.
@@ -369,8 +386,37 @@ class Kept:
         number = operator.index(number)
         vertex = self._vertices[self._firsts[number]] if 0 <= number < self._size else -1
         if vertex < 0:
-            raise NoSuchVertexError(f"no point has the number {number}")
+            raise NoSuchVertexError(self._absence(number))
         return int(vertex)
+
+    def _absence(self, number: int) -> str:
+        """Why there is no point of a number."""
+        if 0 <= number < self._size:
+            return f"point {number} was removed"
+        if not self._size:
+            return f"there is no point {number}: the triangulation has no points"
+        return f"there is no point {number}: points are numbered from 0 to {self._size - 1}"
+
+    def _point_text(self, number: int) -> str:
+        """A point with its coordinates."""
+        x, y = self._grid_now().points(self._points[number : number + 1])[0].tolist()
+        return f"point {number} at ({x:.15g}, {y:.15g})"
+
+    def _grid_now(self) -> Grid:
+        return WHOLE if self._grid is None else self._grid
+
+    def _crossing(self, start: int, end: int, index: Optional[int] = None) -> CrossingError:
+        """The exception for a segment between two vertices that a constraint crosses, with the
+        first such constraint; `index` is that of the segment in a list."""
+        self._ready()
+        numbers = [int(self._numbers[it]) for it in (start, end)]
+        words = [byref(library.POINT(*self._points[it].tolist())) for it in numbers]
+        ask = lambda *out: self._call("conflicts", *words, *out)  # noqa: E731
+        numbers += self._named(library.found(2, ask))[0].tolist()
+        here, there, first, second = map(self._point_text, numbers)
+        which = "the segment" if index is None else f"segment {index}"
+        crossed = f"crosses the constraint between {first} and {second}"
+        return CrossingError(f"{which} from {here} to {there} {crossed}", index)
 
     def _vertices_of(
         self, numbers: NDArray[np.int64], error: Type[TevasulimError]
@@ -381,8 +427,11 @@ class Kept:
         vertices[is_known] = self._vertices[self._firsts[numbers[is_known]]]
         wrong = np.argwhere(vertices < 0)
         if len(wrong):
+            value = int(numbers[tuple(wrong[0])])
+            # A number that an `int64` does not hold came as -1.
+            why = "it is no number of a point" if value < 0 else self._absence(value)
             place = ", ".join(map(str, wrong[0]))
-            raise error(f"no point has the number at [{place}]", int(wrong[0][0]))
+            raise error(f"the number at [{place}] is wrong: {why}", int(wrong[0][0]))
         return vertices
 
     def _named(self, vertices: NDArray[np.uint32]) -> Ints:

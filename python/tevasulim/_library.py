@@ -97,11 +97,11 @@ CALLS = {
 
 
 # What gives a library to a user who has none.
-HOW = """In a clone of the repository three commands give one:
+HOW = """In a clone of the repository three commands make one:
     cd c && make                # proves and builds the library; the Rattle kit (`rt`) is needed
     cd ../python && pip install .
     python3 -m tevasulim --version
-or TEVASULIM_LIBRARY names one that is elsewhere"""
+Or set TEVASULIM_LIBRARY to the name of one that is elsewhere"""
 
 
 def places() -> Tuple[str, ...]:
@@ -126,7 +126,7 @@ def load() -> ctypes.CDLL:
     found = [place for place in places() if os.path.exists(place)]
     if not found:
         looked = " or ".join(os.path.normpath(place) for place in places())
-        raise NoLibraryError(f"no {NAME}: looked for {looked}. {HOW}")
+        raise NoLibraryError(f"{NAME} was not found as {looked}. {HOW}")
     try:
         library = ctypes.CDLL(found[0])
         refuse_other(found[0], library.tevasulim_version())
@@ -135,7 +135,7 @@ def load() -> ctypes.CDLL:
             call.argtypes, call.restype = types, c_uint32
         library.tevasulim_close.restype = None
     except (OSError, AttributeError) as error:
-        raise NoLibraryError(f"{found[0]} is not the library: {error}") from error
+        raise NoLibraryError(f"{found[0]} cannot be used as the library: {error}") from error
     return library
 
 
@@ -143,8 +143,9 @@ def refuse_other(place: str, version: int) -> None:
     """Raises `NoLibraryError` where the library has a version that this package does not know."""
     if version // 10000 != VERSION // 10000 or version < VERSION:
         raise NoLibraryError(
-            f"tevasulim {in_words(VERSION)} needs a library of version {in_words(VERSION)}, or a "
-            f"later one of the same first number; {place} is of version {in_words(version)}"
+            f"{place} has version {in_words(version)}, but tevasulim {in_words(VERSION)} needs "
+            f"version {in_words(VERSION)} or a later one with the same first number: make the "
+            "library and the package from the same clone"
         )
 
 
@@ -174,8 +175,8 @@ def error_of(status: int, index: Optional[int] = None) -> TevasulimError:
     """The exception that stands for a status; `index` is that of a point or segment in a list."""
     of_class = OF_STATUS.get(status)
     if of_class is None:
-        return TevasulimError(f"the library gave the unknown status {status}")
-    where = "" if index is None else f", at index {index}"
+        return TevasulimError(f"the library gave status {status}, which this package does not know")
+    where = "" if index is None else f", at segment {index} of the list"
     return of_class(f"{words_of(status)[0]}{where}", index)
 
 

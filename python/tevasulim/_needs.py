@@ -13,7 +13,7 @@ def needed(name: str) -> Any:
     except ImportError as error:
         package = name.split(".")[0]
         raise ImportError(
-            f"this needs {package}, which is not installed: pip install {package}, or Debian's "
-            f"python3-{package} ({error})",
+            f"{package} is needed here and cannot be imported ({error}): install it with `pip "
+            f"install {package}` or `apt-get install python3-{package}`",
             name=package,
         ) from error

@@ -20,7 +20,7 @@ def unmasked(array: Any, name: str) -> NDArray[Any]:
         hidden = np.flatnonzero(np.broadcast_to(array.mask, array.shape).ravel())
         if len(hidden):
             where = index_text(array, int(hidden[0]))
-            raise ValueError(f"{name} [{where}] is masked: drop the rows with a mask first")
+            raise ValueError(f"{name} [{where}] is masked: leave out rows with masked numbers")
         return np.asarray(array.data)
     return np.asarray(array)
 
@@ -30,10 +30,10 @@ def checked_scale(scale: Any) -> Optional[int]:
     if scale is None:
         return None
     if isinstance(scale, (bool, np.bool_)):
-        raise TypeError("scale is to be a whole number, not a bool")
+        raise TypeError("scale is a bool, but has to be a whole number")
     number = operator.index(scale)
     if not 1 <= number <= MOST:
-        raise ValueError(f"scale is to be from 1 to 2**29, not {number}")
+        raise ValueError(f"scale is {number}, but has to be from 1 to 2**29")
     return number
 
 
@@ -57,21 +57,33 @@ def whole(array: NDArray[Any], scale: int) -> NDArray[np.float64]:
     if len(wrong):
         value, where = array.ravel()[wrong[0]], index_text(array, wrong[0])
         if np.isfinite(value) and abs(float(value)) * scale > MOST:
-            message = f"the coordinate [{where}], {value}, is beyond 2**29 / {scale}"
-            raise TooLargeError(message, row_of(array, wrong[0]))
-        message = f"the coordinate [{where}], {value}, is no whole number of 1 / {scale}"
+            raise too_large(where, value, scale, row_of(array, wrong[0]))
+        message = (
+            f"the coordinate [{where}] is {value}, which is no multiple of 1/{scale}: take a "
+            "larger scale, or round the points first"
+        )
         raise NotWholeError(message, row_of(array, wrong[0]))
     given: NDArray[np.float64] = wholes
     return given
 
 
-def in_range(array: NDArray[Any]) -> NDArray[np.int32]:
-    """The same whole numbers as `int32`; each is to be from -2**29 to 2**29."""
+def too_large(where: str, value: Any, scale: int, row: int) -> TooLargeError:
+    """The exception for a coordinate that is out of range, at so many parts a unit."""
+    most, hint = "2**29", "subtract an offset from all points, or divide them"
+    if scale > 1:
+        most, hint = f"2**29 / {scale}", "take a smaller scale, or subtract an offset"
+    message = f"the coordinate [{where}] is {value}, but has to be from -{most} to {most}: {hint}"
+    return TooLargeError(message, row)
+
+
+def in_range(array: NDArray[Any], scale: int = 1) -> NDArray[np.int32]:
+    """The same whole numbers, which have so many parts a unit, as `int32`; each is to be from
+    -2**29 to 2**29."""
     wrong = np.flatnonzero(((array < -MOST) | (array > MOST)).ravel())
     if len(wrong):
         value, where = array.ravel()[wrong[0]], index_text(array, wrong[0])
-        message = f"the coordinate [{where}], {value}, is not from -2**29 to 2**29"
-        raise TooLargeError(message, row_of(array, wrong[0]))
+        value = value // scale if scale > 1 else value
+        raise too_large(where, value, scale, row_of(array, wrong[0]))
     return np.ascontiguousarray(array, np.int32)
 
 
@@ -82,7 +94,7 @@ def numbers_of(points: Any) -> NDArray[Any]:
     if array.shape == (0,):
         return np.empty((0, 2), np.int32)
     if array.ndim < 1 or array.shape[-1] != 2:
-        raise ValueError(f"points are to be of the shape (.., 2), not {array.shape}")
+        raise ValueError(f"points have the shape {array.shape}, but need (.., 2): x and y each")
     if array.dtype == object and all(type(it) is int for it in array.flat):
         return array
     if array.dtype.kind == "f":
@@ -93,7 +105,7 @@ def numbers_of(points: Any) -> NDArray[Any]:
                 return objects
         return array if array.dtype == np.longdouble else array.astype(np.float64, copy=False)
     if array.dtype.kind not in "iu":
-        raise TypeError(f"coordinates are to be numbers, not {array.dtype}")
+        raise TypeError(f"coordinates are {array.dtype}, but have to be numbers")
     return array
 
 
@@ -103,8 +115,8 @@ def finite(array: NDArray[Any]) -> NDArray[np.float64]:
         floats = array.astype(np.float64, copy=False)
     if not np.isfinite(floats).all():
         wrong = int(np.flatnonzero(~np.isfinite(floats).ravel())[0])
-        message = f"the coordinate [{index_text(array, wrong)}], {array.ravel()[wrong]}, is not"
-        raise NotFiniteError(f"{message} finite", row_of(array, wrong))
+        message = f"the coordinate [{index_text(array, wrong)}] is {array.ravel()[wrong]}, but has "
+        raise NotFiniteError(f"{message}to be finite: leave that point out", row_of(array, wrong))
     return floats
 
 
@@ -113,27 +125,30 @@ def coordinates(points: Any, scale: Optional[int]) -> NDArray[np.int32]:
     array = numbers_of(points)
     if array.dtype.kind == "f":
         if scale is None:
-            raise NotWholeError(f"coordinates are to be whole numbers here, not {array.dtype}")
+            raise NotWholeError(
+                f"coordinates are {array.dtype}, but have to be whole numbers here: say with "
+                "scale= how many parts a unit has, as 100 for two decimals"
+            )
         return in_range(whole(array, scale))
     if array.dtype == object:
-        return in_range(array if scale is None else array * scale)
+        return in_range(array if scale is None else array * scale, scale or 1)
     if scale is not None and scale > 1:
         # So that no product wraps.
-        return in_range(in_range(array).astype(np.int64) * scale)
+        return in_range(in_range(array).astype(np.int64) * scale, scale)
     return in_range(array)
 
 
 def listed(array: NDArray[Any]) -> NDArray[Any]:
     """The same points, which are to be of the shape (n, 2)."""
     if array.ndim != 2:
-        raise ValueError(f"points are to be of the shape (n, 2), not {array.shape}")
+        raise ValueError(f"points have the shape {array.shape}, but a list of them has (n, 2)")
     return array
 
 
 def single(array: NDArray[Any]) -> NDArray[Any]:
     """The same point, which is to be of the shape (2,)."""
     if array.shape != (2,):
-        raise ValueError(f"a point is to be of the shape (2,), not {array.shape}")
+        raise ValueError(f"a point has the shape (2,), but this one has {array.shape}")
     return array
 
 
@@ -153,7 +168,7 @@ def index_array(numbers: Any, name: str) -> NDArray[np.int64]:
     if array.dtype == object and all(type(it) is int for it in array.flat):
         return np.where((array < 0) | (array > 2**62), -1, array).astype(np.int64)
     if array.dtype.kind != "i":
-        raise TypeError(f"{name} are to be numbers of points, not {array.dtype}")
+        raise TypeError(f"{name} are {array.dtype}, but have to be whole numbers, those of points")
     return array.astype(np.int64)
 
 
@@ -161,8 +176,8 @@ def number(value: Any, name: str) -> float:
     """One number that is handed in, as it is; a bool or a text is refused."""
     if isinstance(value, (float, np.floating)):
         if np.isnan(value):
-            raise ValueError(f"{name} is to be a number, not {value}")
+            raise ValueError(f"{name} is {value}, but has to be a number")
         return float(value)
     if isinstance(value, (bool, np.bool_)):
-        raise TypeError(f"{name} is to be a number, not a bool")
+        raise TypeError(f"{name} is a bool, but has to be a number")
     return operator.index(value)

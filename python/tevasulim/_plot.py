@@ -79,8 +79,10 @@ class Pictures(Values):
         elif values.shape == (self._size,):
             shades = values[self.simplices].mean(1)
         else:
-            message = f"values are to be one for each of {faces} faces or {self._size} points"
-            raise ValueError(f"{message}, not {values.shape}")
+            raise ValueError(
+                f"values have the shape {values.shape}, but need one number for each of the "
+                f"{faces} faces or the {self._size} points"
+            )
         ax.tripcolor(self.to_matplotlib(), facecolors=shades, cmap=cmap)
 
     def _repr_svg_(self) -> Optional[str]:

@@ -11,11 +11,12 @@ import numpy as np
 from . import _library as library
 from ._arrays import Arrays, Floats
 from ._faces import faces_of_edges, keys_of
-from ._grid import WHOLE, Asked, Grid
+from ._grid import WHOLE, Asked
 from ._kept import Ints, Kept
 from ._numbers import numbers_of, single
 from ._types import NDArray
 from ._walk import distances_to_segments_2, meets_box, nearer, turns, walk
+from .errors import NegativeError
 
 MOST = library.MOST
 
@@ -59,9 +60,6 @@ class Meeting(NamedTuple):
 
 class Queries(Arrays):
     """Questions. Points that are asked about may be off the grid, and anywhere."""
-
-    def _grid_now(self) -> Grid:
-        return WHOLE if self._grid is None else self._grid
 
     def _asked(self, array: NDArray[Any]) -> Asked:
         return self._grid_now().asked(array.reshape(-1, 2))
@@ -288,7 +286,7 @@ class Queries(Arrays):
         """
         array = numbers_of(xi)
         if k < 1:
-            raise ValueError(f"k is to be 1 or more, not {k}")
+            raise ValueError(f"k is {k}, but has to be 1 or more")
         with self._lock:
             self._ready()
             asked = self._asked(array)
@@ -385,7 +383,7 @@ class Queries(Arrays):
         [0, 1, 3]
         """
         if radius < 0:
-            raise library.error_of(8)
+            raise NegativeError(f"the radius is {radius}, but must not be negative")
         return self.in_circle(center, radius * radius)
 
     def edges_in_circle(self, center: Any, radius_2: Any) -> Ints:
@@ -434,7 +432,7 @@ class Queries(Arrays):
         grid = self._grid_now()
         corners = np.stack([single(numbers_of(it)).astype(np.float64) for it in (lower, upper)])
         if np.isnan(corners).any():
-            raise ValueError("the corners of a rectangle are to be numbers, not nan")
+            raise ValueError(f"the corners are {corners.tolist()}, but have to be numbers")
         asked = grid.asked(corners)
         exact = asked.steps + (np.zeros((2, 2)) if asked.rest is None else asked.rest)
         return exact[0], exact[1]

@@ -82,7 +82,10 @@ class Regions(Queries):
             count = self._counts().faces
             mask = np.ones(count, bool) if free is None else unmasked(free, "the face")
             if mask.dtype != bool or mask.shape != (count,):
-                raise ValueError(f"free is to be of {count} bools, not {mask.dtype} {mask.shape}")
+                raise ValueError(
+                    f"free has the type {mask.dtype} and the shape {mask.shape}, but needs one "
+                    f"bool for each of the {count} faces: make it anew after each edit"
+                )
             asked = self._grid_now().asked(ends)
             if asked.is_far is not None:
                 return False
@@ -120,7 +123,7 @@ def rings_of(polygons: Any) -> Iterator[Floats]:
             for it in polygons.geoms:
                 yield from rings_of(it)
         else:
-            raise TypeError(f"a {polygons.geom_type} encloses nothing")
+            raise TypeError(f"a {polygons.geom_type} encloses nothing: hand in polygons or rings")
         return
     parts: List[Any] = list(polygons)
     if parts and not hasattr(parts[0], "geom_type") and np.ndim(parts[0]) == 1:

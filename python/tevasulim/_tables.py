@@ -27,7 +27,7 @@ def read_table(
     if name.endswith(".npy"):
         array = np.load(name, allow_pickle=False)
         if array.ndim != 2:
-            raise ValueError(f"{name}: an array of the shape (n, 2) is needed, not {array.shape}")
+            raise ValueError(f"{name} has the shape {array.shape}, but needs (n, 2) or (n, 3)")
         return np.asarray(array[:, picked(columns, None, name) or slice(at_most)], np.float64)
     comma = {".csv": ",", ".tsv": "\t"}.get(name[name.rfind(".") :].lower())
     names = first_row(name, comma)
@@ -48,7 +48,7 @@ def read_table(
                 found: NDArray[np.float64] = np.loadtxt(rows, **words)
     except (ValueError, IndexError) as error:
         # An index error is how numpy before 1.23 tells that a row lacks a column.
-        hint = "" if has_header else "; --header says that the first row has names"
+        hint = "" if has_header else ". If its first row has names, say so with --header"
         raise ValueError(f"{name}: {error}{hint}") from None
     return found if found.size else np.empty((0, len(places)))
 
@@ -76,7 +76,7 @@ def picked(columns: Optional[str], names: Optional[List[str]], name: str) -> Opt
         return [int(it) for it in words]
     wrong = [it for it in words if it not in (names or [])]
     if wrong:
-        raise ValueError(f"{name}: there is no column {wrong[0]!r}, but {', '.join(names or [])}")
+        raise ValueError(f"{name} has no column {wrong[0]!r}: it has {', '.join(names or [])}")
     assert names is not None
     return [names.index(str(it)) for it in words]
 
@@ -87,7 +87,11 @@ def read_segments(name: str, has_header: bool) -> NDArray[np.int64]:
     wholes = floats.astype(np.int64)
     wrong = np.flatnonzero((wholes != floats).any(1))
     if len(wrong):
-        raise ValueError(f"{name}: row {wrong[0]} has no whole numbers")
+        row = int(wrong[0])
+        raise ValueError(
+            f"{name}: row {row} has {floats[row].tolist()}, but a segment is two whole numbers, "
+            "the rows of two points counted from 0"
+        )
     return wholes
 
 

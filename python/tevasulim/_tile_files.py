@@ -214,13 +214,15 @@ def segment_list(part: str, count: int) -> NDArray[Any]:
     if array.shape == (0,):
         array = array.reshape(0, 2).astype(np.int64)
     if array.ndim != 2 or array.shape[1] != 2:
-        raise ValueError(f"{part}: segments are to be of the shape (m, 2), not {array.shape}")
+        raise ValueError(f"{part}: segments have the shape {array.shape}, but need (m, 2)")
     if array.dtype.kind not in "iu":
-        raise TypeError(f"{part}: segments are to be numbers of points, not {array.dtype}")
+        raise TypeError(f"{part}: segments are {array.dtype}, but have to be numbers of points")
     wrong = np.flatnonzero(((array < 0) | (array >= count)).any(1))
     if len(wrong):
         row = int(wrong[0])
-        raise NoSuchPointError(f"{part}: segment {row} names no point of {count}", row)
+        message = f"{part}: segment {row} is {array[row].tolist()}, but "
+        message += f"points are numbered from 0 to {count - 1}" if count else "there are no points"
+        raise NoSuchPointError(message, row)
     return array.astype(np.int64)
 
 

@@ -94,7 +94,10 @@ def parquet(name: str) -> Any:
 def of_geometry(frame: Any) -> NDArray[np.float64]:
     """The places of a frame of points, row by row."""
     if set(frame.geom_type) - {"Point", "MultiPoint"}:
-        raise ValueError("only points are read here: lines and polygons are handed in as segments")
+        raise ValueError(
+            f"there are geometries of the types {', '.join(sorted(set(frame.geom_type)))}, but "
+            "only points are read here: hand in lines and borders with segments="
+        )
     points = frame.geometry
     if (frame.geom_type == "MultiPoint").any():
         points = points.explode(index_parts=False)
@@ -110,7 +113,7 @@ def picked(names: List[str], wanted: Optional[str]) -> List[str]:
     else:
         chosen = [it for pair in ("xy", "XY") if set(pair) <= set(names) for it in pair][:2]
     if len(chosen) != 2 or set(chosen) - set(names):
-        raise ValueError(f"no columns {wanted or 'x,y'} among {', '.join(names)}")
+        raise ValueError(f"there are no columns {wanted or 'x,y'}: there are {', '.join(names)}")
     return chosen
 
 

@@ -40,8 +40,10 @@ class Values(Queries):
     def _checked(self, values: Any) -> Floats:
         array = unmasked(values, "the value").astype(np.float64)
         if array.ndim < 1 or len(array) != self.npoints:
-            shape = array.shape
-            raise ValueError(f"values are to be one for each of {self.npoints} points, not {shape}")
+            raise ValueError(
+                f"values have the shape {array.shape}, but need one row for each of the "
+                f"{self.npoints} points"
+            )
         return array
 
     def interpolate(self, values: Any, xi: Any, method: str = "linear") -> Any:
@@ -70,7 +72,7 @@ class Values(Queries):
         [16.25, nan]
         """
         if method not in METHODS:
-            raise ValueError(f"method is to be one of {', '.join(METHODS)}, not {method!r}")
+            raise ValueError(f"method is {method!r}, but has to be one of {', '.join(METHODS)}")
         array = numbers_of(xi)
         with self._lock:
             self._ready()
@@ -125,7 +127,7 @@ class Values(Queries):
         with self._lock:
             heights = self._checked(values)
             if heights.ndim != 1:
-                raise ValueError(f"values are to be of the shape (n,), not {heights.shape}")
+                raise ValueError(f"values have the shape {heights.shape}, but need (n,)")
             z = heights[self.simplices]
             rise = z[:, :2] - z[:, 2:]
             given: Floats = np.einsum("fi,fij->fj", rise, self.transform[:, :2])
@@ -154,7 +156,7 @@ class Values(Queries):
         [[0.0, 2.0, 4.0], [0.0, 2.0, 4.0], [0.0, 2.0, 4.0]]
         """
         if not step > 0:
-            raise ValueError(f"step is to be above 0, not {step}")
+            raise ValueError(f"step is {step}, but has to be above 0")
         with self._lock:
             if bounds is None:
                 if not self.num_vertices:

@@ -123,7 +123,7 @@ class VoronoiCells(Queries):
         with self._lock:
             self._ready()
             if not len(self._plain()):
-                raise ValueError("there are no cells without a face: all points are on one line")
+                raise ValueError("there are no cells: fewer than three points, or all on one line")
             low, high = self.min_bound.astype(float), self.max_bound.astype(float)
             if within is None:
                 more = 0.1 * float((high - low).max())

@@ -26,7 +26,7 @@ class Delaunay:
         qhull_options: Optional[str] = None,
     ) -> None:  # fmt: skip
         if furthest_site:
-            raise NotImplementedError("the triangulation of furthest sites is not made")
+            raise NotImplementedError("furthest_site=True is not supported: leave it out")
         self.ndim, self.furthest_site = 2, False
         self._make(points)
 
@@ -34,7 +34,7 @@ class Delaunay:
         self._tri = tri = Triangulation(np.asanyarray(points, np.float64))
         if not len(tri):
             refusal = RuntimeError if tri.num_vertices > 2 else ValueError
-            raise refusal("no face: there are fewer than three points, or all are on one line")
+            raise refusal("there is no face: fewer than three points, or all on one line")
         self.points, self.npoints, self.nsimplex = np.array(points, float), tri.npoints, len(tri)
         self.simplices, self.neighbors = tri.simplices.copy(), tri.neighbors.copy()
         self.coplanar = tri.coplanar.copy()

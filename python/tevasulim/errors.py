@@ -28,14 +28,14 @@ __all__ = [
 
 
 class TevasulimError(Exception):
-    """What each of the others is.
+    """The base class of all exceptions here.
 
     Attributes
     ----------
     status : int or None
-        The status of the library, where one stands for this class.
+        The status of the library that this class stands for, if there is one.
     index : int or None
-        Which point or segment of a list it was, where one was at fault.
+        The row of the point or segment that is at fault, if the call took a list.
     """
 
     status: Optional[int] = None
@@ -52,61 +52,61 @@ class ClosedError(TevasulimError, ValueError):
 
 
 class AlreadyOpenError(TevasulimError, ValueError):
-    """The triangulation is open, and was to be opened."""
+    """The triangulation is already open. No method of `Triangulation` raises it."""
 
     status = 2
 
 
 class NoSuchKindError(TevasulimError, ValueError):
-    """A triangulation is to be of a kind that there is not."""
+    """There is no such kind of triangulation. No method of `Triangulation` raises it."""
 
     status = 3
 
 
 class IsPlainError(TevasulimError, ValueError):
-    """The call is for triangulations that may have constraints."""
+    """The call needs a triangulation that may have constraints: add one first."""
 
     status = 4
 
 
 class IsConstrainedError(TevasulimError, ValueError):
-    """The call is for triangulations that have no constraints."""
+    """The call needs a triangulation without constraints."""
 
     status = 5
 
 
 class UnequalLengthsError(TevasulimError, ValueError):
-    """Two lists that go together have not one length."""
+    """Two lists that belong together differ in length."""
 
     status = 6
 
 
 class TooLargeError(TevasulimError, ValueError):
-    """A coordinate is out of the grid's range."""
+    """A coordinate is out of the range of the grid."""
 
     status = 7
 
 
 class NegativeError(TevasulimError, ValueError):
-    """A squared radius is negative."""
+    """A radius or squared radius is negative."""
 
     status = 8
 
 
 class NoSuchVertexError(TevasulimError, IndexError):
-    """No point has this number, or it was removed."""
+    """No point has this number, or the point was removed."""
 
     status = 9
 
 
 class NoSuchPointError(TevasulimError, IndexError):
-    """A segment names no point of the list."""
+    """A segment has the number of no point."""
 
     status = 10
 
 
 class CrossingError(TevasulimError, ValueError):
-    """A constraint crosses the segment."""
+    """A constraint crosses the segment. The message names the first one, with coordinates."""
 
     status = 11
 
@@ -118,31 +118,31 @@ class NoConstraintError(TevasulimError, ValueError):
 
 
 class TooShortError(TevasulimError, ValueError):
-    """A list has too little room. No method of `Triangulation` raises it."""
+    """A list for the answer is too short. No method of `Triangulation` raises it."""
 
     status = 13
 
 
 class OutOfIndexesError(TevasulimError, MemoryError):
-    """There would be more vertices than the library counts."""
+    """There would be more vertices than the library has indexes for."""
 
     status = 14
 
 
 class OutOfMemoryError(TevasulimError, MemoryError):
-    """The library was refused memory."""
+    """There is too little memory."""
 
     status = 15
 
 
 class NoSuchStatusError(TevasulimError, ValueError):
-    """A number is no status, of this version at least."""
+    """The library has no such status in this version."""
 
     status = 16
 
 
 class NotWholeError(TevasulimError, ValueError):
-    """A coordinate is none of the grid's, and was not to be rounded."""
+    """A coordinate is not on the grid, and must not be rounded."""
 
 
 class NotFiniteError(TevasulimError, ValueError):
@@ -150,7 +150,7 @@ class NotFiniteError(TevasulimError, ValueError):
 
 
 class NoLibraryError(TevasulimError, ImportError):
-    """The shared library is not there, or is another version."""
+    """The shared library is missing, or has another version."""
 
 
 OF_STATUS = {it.status: it for it in TevasulimError.__subclasses__() if it.status is not None}

@@ -99,7 +99,8 @@ class Surface(NamedTuple):
         wrong = used[np.isnan(self.heights[used])]
         if len(wrong):
             raise ValueError(
-                f"the point {wrong[0]} has no height: heights are Z coordinates or a column"
+                f"{self.triangulation._point_text(int(wrong[0]))} has no height: give it a Z "
+                "coordinate, or name the column of heights with height="
             )
         return self.heights
 
@@ -183,7 +184,7 @@ def triangulate(
             tri.add_chain(line)
         except CrossingError as error:
             name = source.index[row]
-            message = f"the feature {name!r} (row {row}) crosses a line or border of one before it"
+            message = f"the feature {name!r} (row {row}) crosses an earlier one: {error}"
             raise CrossingError(message, row) from error
     is_polygon = source.geometry.geom_type.isin(["Polygon", "MultiPolygon"])
     polygons = source[is_polygon].reset_index(drop=True) if is_polygon.any() else None

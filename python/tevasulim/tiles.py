@@ -182,7 +182,8 @@ def stop_where_crossed(reports: List[TileReport]) -> None:
     crossed = [it.crossing for it in reports if it.crossing]
     if crossed:
         row, other = min(crossed)
-        raise CrossingError(f"segment {row} crosses segment {other}", row)
+        message = f"segment {row} crosses segment {other} of all parts: segments may only meet at "
+        raise CrossingError(f"{message}points, so leave out one or add a point of both", row)
 
 
 def triangulate_tiles(
@@ -263,7 +264,7 @@ def triangulate_tiles(
     """
     tile_size = operator.index(tile_size)
     if tile_size < 1:
-        raise ValueError(f"a tile is to have at least one point, not {tile_size}")
+        raise ValueError(f"tile_size is {tile_size}, but a tile needs at least one point")
     room = tempfile.mkdtemp(prefix="tiles-", dir=folder)
     runner = Runner(client, resources, progress)
     try:

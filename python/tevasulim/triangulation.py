@@ -198,7 +198,7 @@ class Triangulation(Pictures, Regions, VoronoiCells):
         """
         with np.load(file, allow_pickle=False) as state:
             if not hasattr(state, "files") or "tevasulim" not in state.files:
-                raise ValueError(f"{file} has no triangulation")
+                raise ValueError(f"{file} was not written by Triangulation.save")
             return restored(cls, dict(state))
 
     # Edits.
@@ -254,7 +254,7 @@ class Triangulation(Pictures, Regions, VoronoiCells):
         """
         array = index_array(numbers, "the numbers of a chain")
         if array.ndim != 1:
-            raise ValueError(f"a chain is to be of the shape (n,), not {array.shape}")
+            raise ValueError(f"a chain has the shape {array.shape}, but is a list of points, (n,)")
         with self._lock:
             self._ready()
             vertices = self._vertices_of(array, NoSuchVertexError)
@@ -281,7 +281,7 @@ class Triangulation(Pictures, Regions, VoronoiCells):
         if array.shape == (0,):
             return
         if array.ndim != 2 or array.shape[1] != 2:
-            raise ValueError(f"segments are to be of the shape (m, 2), not {array.shape}")
+            raise ValueError(f"segments have the shape {array.shape}, but are pairs, (m, 2)")
         vertices = self._vertices_of(array, NoSuchPointError)
         begins = np.flatnonzero(vertices[1:, 0] != vertices[:-1, 1]) + 1
         for part, begin in zip(np.split(vertices, begins), [0, *begins.tolist()]):
