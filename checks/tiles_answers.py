@@ -191,7 +191,8 @@ def check(points, tiles, client, folder, wanted, segments=NO_SEGMENTS):
     parts[1] = f"{folder}/part.npy"
     words = parts, -(-len(points) // tiles), client, folder
     found = triangulate_tiles(*words, segments=np.array_split(segments, 2))
-    assert len(found.cells) == len(found.reports) == tiles
+    # Where a worker has few tiles, the number is rounded up to a multiple of the workers there are.
+    assert tiles <= len(found.cells) == len(found.reports) < tiles + WORKERS
     rows = np.concatenate([np.load(name) for name in found.cells])
     assert np.array_equal(rows_in_order(rows), wanted)
     if len(rows) < 5000:

@@ -1,0 +1,4 @@
+pub mod Exits
+pub mod Together
+pub mod Reached
+pub mod Trails
