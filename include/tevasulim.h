@@ -6,27 +6,26 @@
  *
  * Coordinates are whole numbers from -TEVASULIM_MOST to TEVASULIM_MOST. A triangulation is plain,
  * or it is constrained: then some of its edges may be constraints. Vertices, edges and faces have
- * indexes from 0 on. An edit may change the indexes of edges and faces. The indexes of vertices
- * stay, but for `tevasulim_remove`.
+ * indexes from 0 on. An edit may change the indexes of edges and faces. Only `tevasulim_remove`
+ * changes the indexes of vertices.
  *
  * Statuses. Most calls give a `tevasulim_status`, which is TEVASULIM_OK where all went well.
  * `tevasulim_status_string` says any status in words. After any status but TEVASULIM_OK the
- * triangulation is as it was before the call, unless the call says what has changed. What the
- * call then left in its out lists and out numbers is not told, with two exceptions: `*length` is
- * right where the status is TEVASULIM_TOO_SHORT, and the lists of all elements,
- * `tevasulim_locate` and `tevasulim_nearest` leave theirs as they were. Where several statuses
- * apply, the call gives one of them. Each call that takes a triangulation gives TEVASULIM_CLOSED
- * where that is not open, but for `tevasulim_open` and `tevasulim_close`; below this is not said
- * again.
+ * triangulation is as it was before the call, unless the call says what has changed. The out lists
+ * and out numbers of the call may then have anything, with two exceptions: `*length` is right if
+ * the status is TEVASULIM_TOO_SHORT, and the lists of all elements, `tevasulim_locate` and
+ * `tevasulim_nearest` leave theirs as they were. Where several statuses apply, the call gives one
+ * of them. Each call that takes a triangulation, except `tevasulim_open` and `tevasulim_close`,
+ * gives TEVASULIM_CLOSED where that is not open; the comments below do not repeat this.
  *
  * Lists. A list is a pointer and a number of elements: how many there are, or, where the call
  * writes the list, how many it has room for (`room`). A call that finds as many elements as there
  * happen to be writes their number to `*length`. Where this is more than `room`, the status is
  * TEVASULIM_TOO_SHORT, and `*length` is the room that is needed.
  *
- * What is trusted. Nothing checks a C program, so these are its part:
+ * What is trusted. Nothing checks a C program, so it has to keep these rules itself:
  *   - Each pointer is to as many elements as the call says. It is not NULL unless the call allows
- *     that, also where there are no elements: then it is not followed.
+ *     that, also where there are no elements: then the call does not follow it.
  *   - No list, number or triangulation that a call writes overlaps another argument.
  *   - A `tevasulim_triangulation` is {0} at first, and from then on only calls write it. It is not
  *     copied as a struct, since a call that closes one of two such copies frees what the other one
