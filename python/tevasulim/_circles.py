@@ -184,8 +184,8 @@ def joined(faces_of: Faces) -> Joined:
             # The corner of the other face that is none of this one.
             far = sums.take(others) - own[1] - own[2]
             far_x, far_y = x.take(far), y.take(far)
-            ways = [way for it in own for way in (x.take(it) - far_x, y.take(it) - far_y)]
-            is_on = are_on_circle(ways)
+            vectors = [vector for it in own for vector in (x.take(it) - far_x, y.take(it) - far_y)]
+            is_on = are_on_circle(vectors)
             faces, others = faces.compress(is_on), others.compress(is_on)
             found[k].append(faces)
             for back, across in enumerate(faces_of.neighbors):

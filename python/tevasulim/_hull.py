@@ -43,8 +43,8 @@ def without_dents(points: NDArray[Any], rows: NDArray[Any]) -> NDArray[Any]:
     not on the right of the line from the one before to the one behind: these are no corners of the
     chain."""
     while len(rows) > FEW:
-        ways = points[rows[1:]] - points[rows[:-1]]
-        (ax, ay), (bx, by) = ways[:-1].T, ways[1:].T
+        vectors = points[rows[1:]] - points[rows[:-1]]
+        (ax, ay), (bx, by) = vectors[:-1].T, vectors[1:].T
         is_corner = np.ones(len(rows), bool)
         np.greater(ax * by, ay * bx, out=is_corner[1:-1])
         count, rows = len(rows), rows[is_corner]

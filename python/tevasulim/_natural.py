@@ -25,7 +25,9 @@ class Weights(NamedTuple):
     is_sure: NDArray[np.bool_]
 
 
-def ways(points: Ints, simplices: Ints, steps: Ints, rest: Floats, pairs: Ints, at: Ints) -> Floats:
+def vectors(
+    points: Ints, simplices: Ints, steps: Ints, rest: Floats, pairs: Ints, at: Ints
+) -> Floats:
     """The corners of faces `at` as seen from the points `pairs`: of shape (m, 3, 2)."""
     corners = points[simplices[at]] - steps[pairs][:, None]
     found: Floats = corners - rest[pairs][:, None]
@@ -47,7 +49,7 @@ def changed(
         keys = (rows * count)[:, None] + near
         # A face beside one of this wave is in it, or in the wave before or after it.
         keys = np.setdiff1d(keys[near >= 0], before)
-        seen = ways(points, simplices, steps, rest, *np.divmod(keys, count))
+        seen = vectors(points, simplices, steps, rest, *np.divmod(keys, count))
         columns = [seen[:, k, axis] for k in range(3) for axis in (0, 1)]
         before = np.union1d(wave, keys)
         wave = keys[determinant(columns) > ERROR * size_of(columns)]
@@ -114,7 +116,7 @@ def natural(
     near = np.where(near < 0, -1, rows[:, None] * count + near)
     # Of a vertex, and on the hull, a centre is nowhere.
     with np.errstate(all="ignore"):
-        seen = ways(points, simplices, steps, rest, rows, at)
+        seen = vectors(points, simplices, steps, rest, rows, at)
         of_both, areas, broken = lost(seen, near, keys, rows[:, None] * size + simplices[at])
         row, vertices = np.divmod(of_both, size)
         weights = areas / np.bincount(row, areas, len(steps))[row]

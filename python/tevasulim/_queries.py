@@ -142,8 +142,8 @@ class Queries(Arrays):
         ends = self._points[sides].astype(np.float64)
         for row, point in enumerate(steps + rest):
             a, b = ends[:, 0], ends[:, 1]
-            way, to = b - a, point - a
-            seen[row] = np.argmin(way[:, 0] * to[:, 1] - way[:, 1] * to[:, 0])
+            vector, to = b - a, point - a
+            seen[row] = np.argmin(vector[:, 0] * to[:, 1] - vector[:, 1] * to[:, 0])
         return self._rows_of_edges(sides[seen, 0], sides[seen, 1])
 
     def _rows_of_edges(self, starts: Ints, ends: Ints) -> Ints:
@@ -371,8 +371,8 @@ class Queries(Arrays):
             asked, square = self._asked(point), self._grid_now().squared(radius_2)
             found = self._named(self._in_shape("vertices", circle(asked, square)))
             if asked.rest is not None:
-                way = self._points[found] - asked.steps[0] - asked.rest[0]
-                found = found[(way * way).sum(1) <= square]
+                vector = self._points[found] - asked.steps[0] - asked.rest[0]
+                found = found[(vector * vector).sum(1) <= square]
         return np.sort(found)
 
     def within(self, center: Any, radius: float) -> Ints:
@@ -475,12 +475,12 @@ def clip(ends: Floats) -> Optional[Floats]:
     if not np.isfinite(ends).all():
         return None
     for k in (0, 1):
-        start, way = float(ends[0, k]), float(ends[1, k] - ends[0, k])
-        if way == 0:
+        start, extent = float(ends[0, k]), float(ends[1, k] - ends[0, k])
+        if extent == 0:
             if abs(start) > MOST:
                 return None
             continue
-        at = sorted(((-MOST - start) / way, (MOST - start) / way))
+        at = sorted(((-MOST - start) / extent, (MOST - start) / extent))
         begin, stop = max(begin, at[0]), min(stop, at[1])
     if begin > stop:
         return None

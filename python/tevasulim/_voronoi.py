@@ -151,15 +151,16 @@ class VoronoiCells(Queries):
                 continue
             if number in after:
                 here = points[number]
-                ways = [outward(points[before[number]], here), outward(here, points[after[number]])]
-                middle = ways[0] + ways[1]
+                last, first = points[before[number]], points[after[number]]
+                vectors = [outward(last, here), outward(here, first)]
+                middle = vectors[0] + vectors[1]
                 if np.hypot(*middle) < 1e-9:
-                    middle = np.array((-ways[0][1], ways[0][0]))
+                    middle = np.array((-vectors[0][1], vectors[0][0]))
                 reach = far + np.abs(corners - here).max()
                 beyond = [
-                    corners[-1] + ways[0] * reach,
+                    corners[-1] + vectors[0] * reach,
                     here + middle / np.hypot(*middle) * 4 * reach,
-                    corners[0] + ways[1] * reach,
+                    corners[0] + vectors[1] * reach,
                 ]
                 corners = np.vstack([corners, *beyond])
             outlines[names[number]] = corners
@@ -168,9 +169,9 @@ class VoronoiCells(Queries):
 
 def outward(start: Floats, end: Floats) -> Floats:
     """The direction away from a side of the hull, which has all points on its left."""
-    way = end - start
-    length = float(np.hypot(*way)) or 1.0
-    found: Floats = np.array((way[1], -way[0])) / length
+    vector = end - start
+    length = float(np.hypot(*vector)) or 1.0
+    found: Floats = np.array((vector[1], -vector[0])) / length
     return found
 
 
@@ -182,8 +183,8 @@ def cells_in_order(
     one."""
     faces = plain.simplices
     pairs = np.unique(np.stack([faces.ravel(), np.repeat(corner, 3)], 1), axis=0)
-    way = centers[pairs[:, 1]] - points[pairs[:, 0]]
-    order = np.lexsort((np.arctan2(way[:, 1], way[:, 0]), pairs[:, 0]))
+    vector = centers[pairs[:, 1]] - points[pairs[:, 0]]
+    order = np.lexsort((np.arctan2(vector[:, 1], vector[:, 0]), pairs[:, 0]))
     pairs = pairs[order]
     begins = np.searchsorted(pairs[:, 0], np.arange(len(points) + 1))
     lists = [pairs[a:b, 1].tolist() for a, b in zip(begins, begins[1:])]

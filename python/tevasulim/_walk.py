@@ -28,8 +28,8 @@ def turns(corners: Wide, steps: Ints, rest: Optional[Floats]) -> Floats:
         a, b = to[:, (k + 1) % 3], to[:, (k + 2) % 3]
         found[:, k] = a[:, 0] * b[:, 1] - a[:, 1] * b[:, 0]
         if rest is not None:
-            way = (a - b).astype(np.float64)
-            found[:, k] -= way[:, 0] * rest[:, 1] - way[:, 1] * rest[:, 0]
+            vector = (a - b).astype(np.float64)
+            found[:, k] -= vector[:, 0] * rest[:, 1] - vector[:, 1] * rest[:, 0]
     return found
 
 
@@ -63,8 +63,8 @@ def walk(
 def distances_2(points: Ints, steps: Ints, rest: Floats) -> Tuple[Wide, Floats]:
     """Squared distances of points, in square steps but for the square of the rest: the whole part
     and what the rest makes of it."""
-    way = points.astype(np.int64) - steps
-    return (way * way).sum(1), -2 * (way * rest).sum(1)
+    vector = points.astype(np.int64) - steps
+    return (vector * vector).sum(1), -2 * (vector * rest).sum(1)
 
 
 def nearer(
@@ -101,9 +101,9 @@ def nearer(
 
 def distances_to_segments_2(a: Floats, b: Floats, p: Floats) -> Floats:
     """Squared distances of a point from segments."""
-    way, to = b - a, p - a
-    along = np.clip((way * to).sum(1) / np.maximum((way * way).sum(1), 1e-300), 0, 1)
-    rest = to - along[:, None] * way
+    vector, to = b - a, p - a
+    along = np.clip((vector * to).sum(1) / np.maximum((vector * vector).sum(1), 1e-300), 0, 1)
+    rest = to - along[:, None] * vector
     found: Floats = (rest * rest).sum(1)
     return found
 
@@ -112,10 +112,10 @@ def meets_box(a: Floats, b: Floats, low: Floats, high: Floats) -> NDArray[np.boo
     """Whether segments have a point in a closed box: their bounds do, and the box's corners are not
     all on one side."""
     is_beside = (np.maximum(a, b) < low).any(1) | (np.minimum(a, b) > high).any(1)
-    way = b - a
+    vector = b - a
     corners = [(x, y) for x in (low[0], high[0]) for y in (low[1], high[1])]
     sides = np.stack(
-        [way[:, 0] * (y - a[:, 1]) - way[:, 1] * (x - a[:, 0]) for x, y in corners], 1
+        [vector[:, 0] * (y - a[:, 1]) - vector[:, 1] * (x - a[:, 0]) for x, y in corners], 1
     )
     is_one_side: NDArray[np.bool_] = (sides > 0).all(1) | (sides < 0).all(1)
     given: NDArray[np.bool_] = ~is_beside & ~is_one_side
