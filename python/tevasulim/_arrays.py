@@ -45,9 +45,9 @@ class Arrays(Kept):
 
     @property
     def points(self) -> NDArray[Any]:
-        """array of shape (n, 2): each point that was handed in, by number, removed ones too, where
-        the triangulation has it: rounded to the grid, if that was needed. float64, or whole numbers
-        where they came so, and times `scale` where it was given."""
+        """array of shape (n, 2): all points by number, removed ones too, rounded to the grid if
+        that was needed. float64; or whole numbers, if the points were whole numbers; or whole
+        numbers of parts, if you gave a `scale`."""
 
         def make() -> NDArray[Any]:
             steps = self._points[: self._size]
@@ -57,8 +57,8 @@ class Arrays(Kept):
 
     @property
     def representatives(self) -> Ints:
-        """int32 array of shape (n,): for each point the number of the first that is equal, which
-        stands for it in all other arrays, or -1 where it was removed."""
+        """int32 array of shape (n,): for each point the number of the first point that is equal,
+        which stands for it in all other arrays; or -1 if it was removed."""
 
         def make() -> Ints:
             firsts = self._firsts[: self._size]
@@ -68,8 +68,9 @@ class Arrays(Kept):
 
     @property
     def coplanar(self) -> Ints:
-        """int32 array of shape (r, 3): each point that repeats an earlier one, a face there, or
-        -1, and the number of the first. (So are those that `scipy.spatial.Delaunay` leaves out.)"""
+        """int32 array of shape (r, 3), a row for each point that repeats an earlier one: its
+        number, a face at it or -1, and the number of the earlier one. `scipy.spatial.Delaunay` has
+        the points that it leaves out in this form."""
 
         def make() -> Ints:
             firsts = self.representatives
@@ -81,28 +82,28 @@ class Arrays(Kept):
 
     @property
     def scale(self) -> float:
-        """How many steps of the grid a unit has: 1 for whole numbers."""
+        """How many steps of the grid are in a unit: 1 for whole numbers."""
         with self._lock:
             self._ready()
             return 1 if self._grid is None else self._grid.scale
 
     @property
     def origin(self) -> Floats:
-        """float64 array of shape (2,): the point that the grid's steps are counted from."""
+        """float64 array of shape (2,): the point where the steps of the grid are 0."""
         with self._lock:
             self._ready()
             return np.zeros(2) if self._grid is None else self._grid.origin()
 
     @property
     def rounding(self) -> float:
-        """How far the point moved that moved most when it was inserted."""
+        """The largest distance between a point as you handed it in and the point on the grid."""
         with self._lock:
             self._ready()
             return self._rounding
 
     @property
     def is_exact(self) -> bool:
-        """Whether each point is where it was handed in: none was rounded."""
+        """Whether all points are exactly where you handed them in: none was rounded."""
         return self.rounding == 0
 
     def _places(self) -> NDArray[Any]:
@@ -166,8 +167,8 @@ class Arrays(Kept):
 
     @property
     def vertex_to_simplex(self) -> Ints:
-        """int32 array of shape (n,): a face with that corner for each point, or -1 where there is
-        none: as all are on one line, or it was removed."""
+        """int32 array of shape (n,): for each point a face that has it as a corner; -1 if the point
+        was removed or all points are on one line."""
 
         def make() -> Ints:
             firsts = self.representatives
@@ -200,7 +201,7 @@ class Arrays(Kept):
 
     @property
     def vertex_neighbor_vertices(self) -> Neighbors:
-        """The points that each point has an edge to, as two int32 arrays `indptr` and `indices`.
+        """The points that edges join to each point, as two int32 arrays `indptr` and `indices`.
 
         >>> import tevasulim
         >>> tri = tevasulim.Triangulation([(0, 0), (4, 0), (0, 4)])
@@ -266,7 +267,7 @@ class Arrays(Kept):
 
     @property
     def npoints(self) -> int:
-        """How many points were handed in: the rows of `points`."""
+        """How many points you handed in: the rows of `points`."""
         with self._lock:
             self._ready()
             return self._size
@@ -278,12 +279,12 @@ class Arrays(Kept):
 
     @property
     def ndim(self) -> int:
-        """2: points are of the plane."""
+        """The dimension, 2."""
         return 2
 
     @property
     def is_constrained(self) -> bool:
-        """Whether it may have constraints: it was made with segments, or got one."""
+        """Whether it may have constraints: it was made with segments, or has had a constraint."""
         with self._lock:
             self._ready()
             return self._is_constrained

@@ -100,7 +100,7 @@ class Kept:
             library.LIBRARY.tevasulim_close(byref(self._mesh))
 
     def close(self) -> None:
-        """Gives the memory back. Each later call but this raises `ClosedError`.
+        """Frees the memory. Every later call raises `ClosedError`, except another `close`.
 
         >>> import tevasulim
         >>> tri = tevasulim.Triangulation()
@@ -115,8 +115,8 @@ class Kept:
             self._forget()
 
     def clear(self) -> None:
-        """Removes each point and constraint. Numbers begin with 0 again, and the next points choose
-        a grid."""
+        """Removes all points and constraints. Numbers begin with 0 again, and the next points
+        choose a new grid."""
         with self._lock:
             self._ready()
             self._edit = Change("clear")
@@ -286,9 +286,9 @@ class Kept:
         return firsts
 
     def remove(self, number: int) -> None:
-        """Removes a point and those that are equal, with the constraints that end there. Where
-        exactly two end there, and the point is strictly between their other ends, one joins these
-        then.
+        """Removes a point and all points that are equal, with the constraints that end there. If
+        exactly two constraints end there, and the point is strictly between their other ends, one
+        constraint joins these ends afterwards.
 
         >>> import tevasulim
         >>> tri = tevasulim.Triangulation([(0, 0), (4, 0), (5, 5), (0, 4)])
@@ -312,11 +312,11 @@ class Kept:
             self._edit = None
 
     def add_constraint(self, start: int, end: int) -> None:
-        """Makes constraints of the edges along the segment between two points. A point strictly
-        within it stays one, between two constraints. Of a point and itself it makes none.
+        """Makes the edges along the segment between two points constraints. A point strictly within
+        the segment cuts it into two constraints. From a point to itself there is none.
 
-        Raises `CrossingError` where a constraint crosses the segment, and names the first one;
-        `conflicts` gives all.
+        Raises `CrossingError` if a constraint crosses the segment. The message names the first one,
+        and `conflicts` gives all.
 
         >>> import tevasulim
         >>> tri = tevasulim.Triangulation([(0, 0), (4, 0), (5, 5), (0, 4)])
@@ -336,7 +336,10 @@ class Kept:
                 raise self._crossing(*words) from None
 
     def release(self, start: int, end: int) -> None:
-        """Takes from the edge between two points that it is a constraint.
+        """Makes the constraint between two points a free edge.
+
+        Raises `NoConstraintError` if no constraint joins them, or `IsPlainError` if the
+        triangulation has never had a constraint.
 
         >>> import tevasulim
         >>> tri = tevasulim.Triangulation([(0, 0), (4, 0), (5, 5), (0, 4)], segments=[(0, 2)])

@@ -31,11 +31,11 @@ class Pictures(Values):
         Parameters
         ----------
         ax : matplotlib.axes.Axes, optional
-            Where it is drawn; without it, the current ones of `matplotlib.pyplot`.
+            The axes to draw on; without it, the current ones of `matplotlib.pyplot`.
         values : array_like of shape (f,) or (n,), optional
-            What faces are coloured by: a value for each face, or for each point.
+            A value for each face, or for each point, that colours the faces.
         points : bool
-            Whether vertices are marked.
+            Whether to mark the vertices.
         color, linewidth, constraint_color, cmap
             As of matplotlib.
 

@@ -59,7 +59,7 @@ class Meeting(NamedTuple):
 
 
 class Queries(Arrays):
-    """Questions. Points that are asked about may be off the grid, and anywhere."""
+    """Questions. The points that they are about may be off the grid, and anywhere."""
 
     def _asked(self, array: NDArray[Any]) -> Asked:
         return self._grid_now().asked(array.reshape(-1, 2))
@@ -67,9 +67,9 @@ class Queries(Arrays):
     # Where points are.
 
     def locate(self, xi: Any) -> Places:
-        """Where points of the shape (.., 2) are, as arrays of the shape (..). A point off the grid
-        is taken as it is where the triangulation's points are whole numbers, or have a `scale`;
-        else it is rounded as they are.
+        """What each point of an array of the shape (.., 2) lies on, as arrays of the shape (..). If
+        the triangulation's points are whole numbers, or have a `scale`, a point that you ask about
+        is taken as it is. Otherwise it is rounded to the grid as they were.
 
         >>> import tevasulim
         >>> tri = tevasulim.Triangulation([(0, 0), (4, 0), (0, 4)])
@@ -158,8 +158,8 @@ class Queries(Arrays):
         return order[np.searchsorted(keys, keys_of(starts, ends))].astype(np.int32)
 
     def find_simplex(self, xi: Any) -> Any:
-        """A face that each point of the shape (.., 2) is in, or on the border of; -1 where it is
-        outside. A point off the grid is not rounded.
+        """A face that each point of an array of the shape (.., 2) is in, or on the border of; -1 if
+        it is outside. Points that you ask about are not rounded to the grid.
 
         >>> import tevasulim
         >>> tri = tevasulim.Triangulation([(0, 0), (4, 0), (0, 4)])
@@ -275,9 +275,10 @@ class Queries(Arrays):
         return np.where(found < 0, np.int32(-1), self._numbers[np.maximum(found, 0)])
 
     def nearest(self, xi: Any, k: int = 1) -> Any:
-        """The numbers of the points nearest to each of the shape (.., 2): an array of the shape
-        (..), or (.., k) with `k` above 1, nearest first; -1 where there are no more. Of equally far
-        ones any may be first. A point off the grid is not rounded.
+        """The number of the nearest point, for each point of an array of the shape (.., 2): an
+        array of the shape (..). With `k` above 1 the numbers of the `k` nearest, of the shape
+        (.., k), nearest first, and -1 where there are no more. Of equally far points any may come
+        first. Points that you ask about are not rounded to the grid.
 
         >>> import tevasulim
         >>> tri = tevasulim.Triangulation([(0, 0), (4, 0), (0, 4)])
@@ -314,8 +315,8 @@ class Queries(Arrays):
     # Lines.
 
     def line(self, start: Any, end: Any) -> List[Meeting]:
-        """What the segment from one point to another meets, in the order along it. Ends off the
-        grid are rounded; what is out of range meets nothing.
+        """What the segment from one point to another meets, in order along it. Its ends are rounded
+        to the grid, and a part of it that is out of range meets nothing.
 
         >>> import tevasulim
         >>> square = [(0, 0), (4, 0), (5, 5), (0, 4)]
@@ -357,8 +358,8 @@ class Queries(Arrays):
     # Shapes.
 
     def in_circle(self, center: Any, radius_2: Any) -> Ints:
-        """The numbers of the vertices at most the root of `radius_2`, in square units, from a
-        point. Nothing is rounded.
+        """The numbers of the vertices in a closed circle, whose squared radius is `radius_2` square
+        units. Nothing is rounded.
 
         >>> import tevasulim
         >>> tri = tevasulim.Triangulation([(0, 0), (4, 0), (5, 5), (0, 4)])
@@ -376,7 +377,7 @@ class Queries(Arrays):
         return np.sort(found)
 
     def within(self, center: Any, radius: float) -> Ints:
-        """The numbers of the vertices at most `radius` units from a point.
+        """The numbers of the vertices that are at most `radius` units from a point.
 
         >>> import tevasulim
         >>> tevasulim.Triangulation([(0, 0), (4, 0), (5, 5), (0, 4)]).within((0, 0), 4.5).tolist()
@@ -387,7 +388,7 @@ class Queries(Arrays):
         return self.in_circle(center, radius * radius)
 
     def edges_in_circle(self, center: Any, radius_2: Any) -> Ints:
-        """The rows in `edges` of those with a point at most the root of `radius_2` from a point."""
+        """The rows in `edges` of the edges that a closed circle meets, given as for `in_circle`."""
         point = single(numbers_of(center))
         with self._lock:
             self._ready()
@@ -400,8 +401,8 @@ class Queries(Arrays):
         return np.sort(found)
 
     def in_rectangle(self, lower: Any, upper: Any) -> Ints:
-        """The numbers of the vertices in a closed rectangle: none where `upper` is left of `lower`
-        or below it.
+        """The numbers of the vertices in a closed rectangle; none if `upper` is left of `lower` or
+        below it.
 
         >>> import tevasulim
         >>> tri = tevasulim.Triangulation([(0, 0), (4, 0), (5, 5), (0, 4)])
@@ -415,7 +416,7 @@ class Queries(Arrays):
             return np.sort(self._named(self._in_shape("vertices", shape)))
 
     def edges_in_rectangle(self, lower: Any, upper: Any) -> Ints:
-        """The rows in `edges` of those with a point in a closed rectangle."""
+        """The rows in `edges` of the edges that a closed rectangle meets."""
         with self._lock:
             self._ready()
             low, high = self._box(lower, upper)

@@ -19,9 +19,9 @@ class Regions(Queries):
 
     @property
     def layers(self) -> Ints:
-        """int32 array of shape (f,): how many constraints at least are between each face and the
-        outside. So `tri.simplices[tri.layers % 2 == 1]` are the faces inside of closed chains that
-        may have holes.
+        """int32 array of shape (f,): the least number of constraints between each face and the
+        outside. `tri.simplices[tri.layers % 2 == 1]` are the faces inside closed chains, without
+        those in their holes.
 
         >>> import tevasulim
         >>> square = [(0, 0), (9, 0), (9, 9), (0, 9), (3, 3), (6, 3), (5, 6)]
@@ -36,14 +36,14 @@ class Regions(Queries):
         return self._once("layers", make)
 
     def faces_inside(self, polygons: Any) -> NDArray[np.bool_]:
-        """bool array of shape (f,): whether the middle of each face is inside of a polygon. Where
-        the polygons' rings are constraints, no face is partly inside.
+        """bool array of shape (f,): whether the middle of each face is inside a polygon. If the
+        rings of the polygons are constraints, each face is completely inside or outside.
 
         Parameters
         ----------
         polygons : array_like of shape (k, 2), a polygon of shapely, or a sequence of either
-            An array is a ring. Several rings count together: a point is inside where an odd number
-            of them enclose it, so that a ring in a ring is a hole.
+            An array is a ring. Several rings count together: a point is inside if an odd number of
+            them enclose it, so a ring inside a ring is a hole.
 
         Examples
         --------
@@ -59,15 +59,16 @@ class Regions(Queries):
         return odd_crossings(middles, rings)
 
     def is_in_sight(self, start: Any, end: Any, free: Any = None) -> bool:
-        """Whether the segment from one point to another stays in faces that are free: it may run
-        along their sides and through their corners.
+        """Whether the segment from one point to another stays in free faces. It may run along their
+        sides and through their corners.
 
         Parameters
         ----------
         start, end : array_like of shape (2,)
-            Points, rounded to the grid.
+            The ends, which are rounded to the grid.
         free : array_like of bool, of shape (f,), optional
-            Which faces are free; without it, all are, and only what leaves the hull is unseen.
+            Which faces are free. Without it all are, and only a segment that leaves the hull is
+            blocked.
 
         Examples
         --------
@@ -96,7 +97,7 @@ class Regions(Queries):
 
     def conflicts(self, start: int, end: int) -> Ints:
         """int32 array of shape (c, 2): the constraints that the segment between two points crosses,
-        in the order along it: those that `add_constraint` is refused for.
+        in order along it. `add_constraint` refuses the segment if there are any.
 
         >>> import tevasulim
         >>> tri = tevasulim.Triangulation([(0, 0), (4, 0), (4, 4), (0, 4)], [(0, 2)])

@@ -116,8 +116,8 @@ class Values(Queries):
             np.add.at(found, rows[of.rows], (of.weights * heights[of.vertices].T).T)
 
     def gradient(self, values: Any) -> Floats:
-        """float64 array of shape (f, 2): for each face how much the plane over its corners rises a
-        unit of x and a unit of y.
+        """float64 array of shape (f, 2): for each face the slope of the plane through its corners,
+        along x and along y.
 
         >>> import tevasulim
         >>> tri = tevasulim.Triangulation([(0, 0), (4, 0), (0, 4)])
@@ -143,10 +143,10 @@ class Values(Queries):
         values, method
             As for `interpolate`.
         step : float
-            How far nodes are apart, in both directions.
+            The distance between neighbouring nodes, in both directions.
         bounds : sequence of 4 floats, optional
-            x and y from, x and y to: the first node, and what the last one is not beyond. Without
-            it, those of all points.
+            x and y from, x and y to. The first node is at the first corner, and no node is beyond
+            the second. Without it, the bounds of all points.
 
         Examples
         --------
@@ -175,7 +175,7 @@ class Values(Queries):
         values : array_like of shape (n,)
             A value for each of `points`.
         levels : int or array_like of floats
-            The levels, or about how many: then they are round numbers.
+            The levels; or about how many there are to be, and then they are round numbers.
 
         Raises
         ------

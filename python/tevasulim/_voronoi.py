@@ -49,7 +49,7 @@ class VoronoiCells(Queries):
     """The cells of points that no other is nearer to."""
 
     def voronoi(self) -> Voronoi:
-        """The Voronoi diagram of the vertices; constraints do not matter.
+        """The Voronoi diagram of the vertices, whatever the constraints.
 
         >>> import tevasulim
         >>> tri = tevasulim.Triangulation([(0, 0), (4, 0), (0, 4), (4, 4), (2, 2)])
@@ -112,7 +112,8 @@ class VoronoiCells(Queries):
         Parameters
         ----------
         within : a polygon of shapely, or x and y from, x and y to, optional
-            What cells are clipped to; without it, the bounds of all points, and a tenth more.
+            The area to which cells are clipped. Without it, the bounds of all points and a tenth
+            more on each side.
 
         Raises
         ------

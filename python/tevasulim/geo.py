@@ -55,13 +55,13 @@ class Surface(NamedTuple):
         return found
 
     def faces(self, inside: bool = False) -> Any:
-        """A GeoDataFrame of all faces, a row for each of `simplices`, with the columns of the
-        polygon that it is in: of several, the first.
+        """A GeoDataFrame with a row for each face, in the order of `simplices`, and the columns of
+        the polygon that the face is in; of several polygons, the first.
 
         Parameters
         ----------
         inside : bool
-            Whether faces in no polygon are left out.
+            Whether to leave out the faces that are in no polygon.
         """
         frames, geometry = needed("geopandas"), needed("shapely.geometry")
         corners = self._corners()
@@ -123,8 +123,8 @@ class Surface(NamedTuple):
         return needed("meshio").Mesh(points, [("triangle", rows.reshape(-1, 3))])
 
     def write(self, path: Any) -> None:
-        """Writes the faces: a mesh by meshio, where the name's ending is one of a mesh, else a
-        frame by geopandas."""
+        """Writes the faces: as a mesh by meshio, if the ending of the name is that of a mesh, or
+        else as a layer by geopandas."""
         if ending(path) in MESHES:
             self.to_meshio().write(path)
         else:
@@ -146,10 +146,10 @@ def triangulate(
     Parameters
     ----------
     source : geopandas.GeoDataFrame, geopandas.GeoSeries, or name of a file
-        A file is one that `geopandas.read_file` reads: GeoPackage, Shapefile, GeoJSON, DXF, ..; or
-        a raster, whose cells become points, that `rasterio` reads.
+        A file that `geopandas.read_file` reads (GeoPackage, Shapefile, GeoJSON, DXF, ..), or a
+        raster that `rasterio` reads, whose cells become points.
     height : str, optional
-        The column that has heights; without it, Z coordinates are.
+        The column of heights; without it, the Z coordinates are the heights.
     layer : str or int, optional
         The layer of a file.
     **settings
@@ -162,7 +162,8 @@ def triangulate(
     Raises
     ------
     CrossingError
-        Where two lines cross; `index` is the row of the second.
+        If two lines or borders cross. `index` is the row of the later feature, and the message has
+        the coordinates of both segments.
     ImportError
         Where geopandas is not installed.
     """
@@ -192,8 +193,8 @@ def triangulate(
 
 
 def triangulate_raster(source: Any, band: int = 1, **settings: Any) -> Surface:
-    """Triangulates the centers of a raster's cells, with the cells' values as heights. Cells with
-    no data are left out. It is read by `rasterio`.
+    """Triangulates the centers of a raster's cells, with the cells' values as heights, and leaves
+    out cells without data. `rasterio` reads the raster.
 
     Parameters
     ----------

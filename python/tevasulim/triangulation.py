@@ -32,47 +32,46 @@ Self = TypeVar("Self", bound="Triangulation")
 
 
 class Triangulation(Pictures, Regions, VoronoiCells):
-    """A Delaunay triangulation of points of the plane, with constraints where they are wanted.
+    """A Delaunay triangulation of points of the plane, with constraints if you want them.
 
     Parameters
     ----------
     points : array_like of shape (n, 2), optional
-        Finite numbers of any size. Whole ones from -2**29 to 2**29 stay as they are.
+        Finite numbers of any size. Whole numbers from -2**29 to 2**29 are never changed.
     segments : array_like of shape (m, 2), optional
-        Pairs of numbers of points: each is a constraint, which stays an edge. They may not cross.
-        With `None` the triangulation is plain until its first constraint.
+        Pairs of numbers of points. Each pair becomes a constraint: an edge that stays. Segments
+        may not cross. With `None` the triangulation is plain until its first constraint.
     scale : int, optional
-        How many parts a unit has, from 1 to 2**29: a coordinate `c` becomes `c * scale`, and is to
-        be a whole number then. A float is to be the one nearest to `k / scale` for a whole number
-        `k`, so that `tri.points / tri.scale` gives the floats back. It holds for each later call
-        too.
+        How many parts a unit has, from 1 to 2**29. A coordinate `c` becomes `c * scale`, which has
+        to be a whole number. A float has to be the one nearest to `k / scale` for a whole number
+        `k`, so that `tri.points / tri.scale` gives the floats back. Later calls use the same scale.
     exact : bool
-        Whether a point that would be rounded is refused.
+        Whether points that would be rounded are an error.
     bounds : sequence of 4 floats, optional
-        x and y from, x and y to: where later points may be. Without it, floats have room as wide
-        again as the first points around them.
+        x and y from, x and y to: the box in which later points may be. Without it, floats have as
+        much room around the first points as these are wide.
 
     Notes
     -----
-    **The grid.** The library has whole numbers. Floats are mapped to a grid that the first points
-    choose: `rint((p - origin) * scale)`. Where they are decimals and the range allows it, the scale
-    is a power of ten, and no point moves (`is_exact`). Else it is the power of two that uses the
-    range: then a point moves by less than 2**-28 of the width of all (`rounding` says how much),
-    and points that become equal are repeated points. Whole numbers are never rounded. Points that
-    are asked about need not be on the grid, nor in its range.
+    **The grid.** The library computes with whole numbers. The first points choose a grid that maps
+    floats to them: `rint((p - origin) * scale)`. If all points are decimals and the range allows
+    it, the scale is a power of ten, and no point moves (`is_exact`). Otherwise it is the power of
+    two that uses the range. Then a point moves by less than 2**-28 of the width of all points
+    (`rounding` says how far), and points that become equal count as repeated points. Whole numbers
+    are never rounded. Points that you ask about may be off the grid and out of its range.
 
-    **Numbers.** A point is named by its row in `points`, as in `scipy.spatial.Delaunay`. Points
-    that are handed in later have the rows after these. A number stays what it is, whatever is
-    removed. Of equal points the first stands for all of them: `representatives` says which.
+    **Numbers.** The number of a point is its row in `points`, as in `scipy.spatial.Delaunay`. Later
+    points get the next rows. A number never changes, whatever you remove. Of equal points the first
+    stands for all of them: `representatives` says which.
 
-    **Arrays** that are properties (`simplices`, ..) are made when they are asked for first, and are
-    new ones after the next edit. They cannot be written to: `.copy()` can.
+    **Arrays** that are properties (`simplices`, ..) are made when you first ask for them, and made
+    anew after an edit. They are read-only; `.copy()` gives an array that you can write to.
 
-    **Errors.** An exception of a class of `tevasulim.errors` is raised before anything changes,
-    where the method does not say otherwise. After any exception, also `KeyboardInterrupt` and
-    `MemoryError` in the middle of an edit, the triangulation is as before that edit or as after it.
+    **Errors.** A method raises an exception of `tevasulim.errors` before it changes anything,
+    unless its text says otherwise. After any exception, also `KeyboardInterrupt` and `MemoryError`
+    in the middle of an edit, the triangulation is as it was before that edit or as it is after it.
 
-    **Threads** may share one triangulation: the calls wait for each other.
+    **Threads** may share one triangulation: their calls wait for each other.
 
     Examples
     --------
@@ -180,7 +179,7 @@ class Triangulation(Pictures, Regions, VoronoiCells):
             }
 
     def save(self, file: Any) -> None:
-        """Writes points, constraints and numbers to a .npz; `load` reads them.
+        """Writes points, constraints and numbers to a .npz, which `load` reads.
 
         Parameters
         ----------
@@ -191,10 +190,10 @@ class Triangulation(Pictures, Regions, VoronoiCells):
 
     @classmethod
     def load(cls: Type[Self], file: Any) -> Self:
-        """The triangulation that `save` wrote: it has the same points, numbers and constraints. Of
-        points on one circle other edges may be there.
+        """Reads what `save` wrote: a triangulation with the same points, numbers and constraints.
+        Four or more points on one circle may have other edges between them.
 
-        Raises `ValueError` where the file is none of `save`.
+        Raises `ValueError` if `save` did not write the file.
         """
         with np.load(file, allow_pickle=False) as state:
             if not hasattr(state, "files") or "tevasulim" not in state.files:
@@ -212,8 +211,7 @@ class Triangulation(Pictures, Regions, VoronoiCells):
         return steps, grid, rounding
 
     def insert(self, point: Any) -> int:
-        """Inserts a point, and gives the number of the first that is equal: its own, or an earlier
-        one.
+        """Inserts a point and gives its number, or the number of the first point that is equal.
 
         >>> tri = Triangulation([(0, 0), (4, 0)])
         >>> tri.insert((1, 3)), tri.insert((4, 0)), len(tri.points)
@@ -225,8 +223,8 @@ class Triangulation(Pictures, Regions, VoronoiCells):
             return self._insert_one(*self._mapped(array))
 
     def insert_all(self, points: Any) -> Ints:
-        """Inserts many points, which is faster than one by one, and gives for each the number of
-        the first that is equal.
+        """Inserts many points, faster than one by one. Gives for each its number, or the number of
+        the first point that is equal.
 
         >>> Triangulation().insert_all([(0, 0), (4, 0), (0, 0), (1, 3)]).tolist()
         [0, 1, 0, 3]
@@ -241,10 +239,10 @@ class Triangulation(Pictures, Regions, VoronoiCells):
     add_points = insert_all
 
     def add_chain(self, numbers: Any, closed: bool = False) -> None:
-        """Makes constraints from each point of a list to the next, and from the last to the first
+        """Adds a constraint from each point of a list to the next, and from the last to the first
         if `closed`.
 
-        At `CrossingError` and `OutOfMemoryError` the segments before the one with the error's
+        After `CrossingError` or `OutOfMemoryError` the segments before the one at the error's
         `index` stay.
 
         >>> tri = Triangulation([(0, 0), (4, 0), (5, 5), (0, 4), (2, 1)])
@@ -261,9 +259,9 @@ class Triangulation(Pictures, Regions, VoronoiCells):
             self._chain(vertices, bool(closed), 0)
 
     def add_segments(self, segments: Any) -> None:
-        """Makes a constraint of each pair of numbers, as `segments` of a new triangulation.
+        """Adds a constraint for each pair of numbers, as `segments` of a new triangulation.
 
-        At `CrossingError` and `OutOfMemoryError` the segments before the one with the error's
+        After `CrossingError` or `OutOfMemoryError` the segments before the one at the error's
         `index` stay.
 
         >>> tri = Triangulation([(0, 0), (4, 0), (5, 5), (0, 4)])
