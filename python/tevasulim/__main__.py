@@ -18,31 +18,32 @@ from .triangulation import Triangulation
 
 ABOUT = """Delaunay triangulations of the points, lines and polygons of a file.
 
-IN is a table (.csv, .tsv; .txt, .xyz: columns apart by spaces; .npy), a .npz of
-Triangulation.save, a raster that rasterio reads, or what geopandas reads: GeoPackage,
-Shapefile, GeoJSON, DXF, .. Lines and the borders of polygons stay edges. A table has x, y and,
-if there is a third column, heights."""
+IN is a table (.csv with commas, .tsv with tabs, .txt and .xyz with spaces, .npy), a .npz that
+Triangulation.save wrote, a raster that rasterio reads, or a file that geopandas reads: GeoPackage,
+Shapefile, GeoJSON, DXF, .. Lines and the borders of polygons stay edges. The columns of a table
+are x, y and, if there is a third one, heights."""
 STATUS = """Exit statuses: 0, all went well; 1, a file was refused or a package is missing, and
-standard error says why; 2, the words of the command are wrong; 130, it was interrupted."""
+standard error says why; 2, the command line is wrong; 130, the command was interrupted."""
+SCALE = "how many parts a unit has: a coordinate between two parts is refused"
 # What -o takes.
 LAYER = "a layer (.gpkg, .geojson, ..)"
-FACES = """.csv or .npy: the rows of each face's corners; .npz: Triangulation.load reads it; a mesh
-(.obj, .stl, .vtk, .msh, .ply, ..); or a layer (.gpkg, .shp, .geojson, ..). Without it, a CSV to
-standard output"""
+FACES = """.csv or .npy with the rows of each face's corners; .npz for Triangulation.load; a mesh
+(.obj, .stl, .vtk, .msh, .ply, ..); or a layer (.gpkg, .shp, .geojson, ..). Without it, standard
+output gets a CSV"""
 
 
 def add_input(it: argparse.ArgumentParser) -> None:
-    it.add_argument("input", metavar="IN", help="the file that is triangulated")
+    it.add_argument("input", metavar="IN", help="the file to triangulate")
     it.add_argument("--header", action="store_true", help="the first row of a table has names")
     it.add_argument(
         "--columns",
-        help="the columns of a table for x, y and heights: names, as x,y,z, or places, as 0,1,2",
+        help="the columns of a table for x, y and heights: their names, as x,y,z, or 0,1,2",
     )
-    it.add_argument("--segments", help="a table of constraints: pairs of rows of points, from 0 on")
-    it.add_argument("--height", help="the column of a layer that has heights, in place of Z")
+    it.add_argument("--segments", help="a table of constraints: two rows of points each, from 0 on")
+    it.add_argument("--height", help="the column of a layer with the heights, instead of Z")
     it.add_argument("--layer", help="the layer of a file with several")
-    it.add_argument("--scale", type=int, help="how many parts a unit has: others are refused")
-    it.add_argument("--exact", action="store_true", help="refuse what would be rounded")
+    it.add_argument("--scale", type=int, help=SCALE)
+    it.add_argument("--exact", action="store_true", help="refuse coordinates that would be rounded")
 
 
 def add_tiles(part: argparse.ArgumentParser) -> None:
@@ -50,14 +51,14 @@ def add_tiles(part: argparse.ArgumentParser) -> None:
     about = "a part of the points: a table, a .npy, a .parquet, or a layer that geopandas reads"
     part.add_argument("inputs", metavar="IN", nargs="+", help=about)
     part.add_argument("--header", action="store_true", help="the first row of a table has names")
-    part.add_argument("--columns", help="the columns for x and y: names, as x,y, or places, as 0,1")
+    part.add_argument("--columns", help="the columns for x and y: their names, as x,y, or 0,1")
     part.add_argument("--layer", help="the layer of a file with several")
-    part.add_argument("--scale", type=int, help="how many parts a unit has: others are refused")
-    part.add_argument("--tile-size", type=int, default=1_000_000, help="points a tile, about")
+    part.add_argument("--scale", type=int, help=SCALE)
+    part.add_argument("--tile-size", type=int, default=1_000_000, help="about how many points a tile has")
     part.add_argument("--workers", type=int, default=1, help="how many processes")
-    part.add_argument("--scheduler", help="the address of a Dask scheduler, in place of these")
-    about = "how many bytes of Dask's resource `memory` a task needs, of which workers were begun"
-    part.add_argument("--memory", type=float, help=f"{about} with so many")
+    part.add_argument("--scheduler", help="the address of a Dask scheduler, instead of processes")
+    about = "bytes that a task needs, of workers that were started with --resources memory=.."
+    part.add_argument("--memory", type=float, help=about)
     part.add_argument(
         "--segments", nargs="+", default=[], help="tables or .npy of pairs of numbers of points"
     )
@@ -85,7 +86,7 @@ def parser() -> argparse.ArgumentParser:
     add_mesh(command("mesh", mesh, "Writes the faces.", FACES))
     add_contours(command("contours", contours, "Writes contour lines.", LAYER))
     part = command("grid", grid, "Writes a raster of heights.", "a .tif or a .npy")
-    part.add_argument("--step", type=float, required=True, help="how wide a cell is")
+    part.add_argument("--step", type=float, required=True, help="the width of a cell")
     command("plot", plot, "Draws the triangulation.", "a picture: .png, .svg, .pdf")
     command("voronoi", voronoi, "Writes the Voronoi cells.", LAYER)
     about = "Triangulates more points than one process holds."
@@ -94,14 +95,14 @@ def parser() -> argparse.ArgumentParser:
 
 
 def add_mesh(part: argparse.ArgumentParser) -> None:
-    about = "three columns more: the face opposite each corner"
+    about = "add three columns: the face opposite each corner"
     part.add_argument("--neighbors", action="store_true", help=about)
-    part.add_argument("--inside", action="store_true", help="only faces in a polygon, of a layer")
+    part.add_argument("--inside", action="store_true", help="only faces inside of polygons")
 
 
 def add_contours(part: argparse.ArgumentParser) -> None:
-    part.add_argument("--interval", type=float, help="from level to level")
-    part.add_argument("--levels", help="levels with commas between, or about how many")
+    part.add_argument("--interval", type=float, help="the height from one line to the next")
+    part.add_argument("--levels", help="the levels, with commas between, or about how many")
 
 
 # What is read.
