@@ -54,7 +54,7 @@ def add_tiles(part: argparse.ArgumentParser) -> None:
     part.add_argument("--columns", help="the columns for x and y: their names, as x,y, or 0,1")
     part.add_argument("--layer", help="the layer of a file with several")
     part.add_argument("--scale", type=int, help=SCALE)
-    part.add_argument("--tile-size", type=int, default=1_000_000, help="about how many points a tile has")
+    part.add_argument("--tile-size", type=int, default=1_000_000, help="points in a tile, about")
     part.add_argument("--workers", type=int, default=1, help="how many processes")
     part.add_argument("--scheduler", help="the address of a Dask scheduler, instead of processes")
     about = "bytes that a task needs, of workers that were started with --resources memory=.."
