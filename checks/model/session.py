@@ -33,14 +33,16 @@ def along_curve(p):
 
 def order_keys(points):
     """The numbers by which a list of points is inserted: those along the curve where all are on one
-    line, and else about every eighth of them before the others, chosen by a hash."""
+    line, and else half of them below the number of a round, which a hash chooses: the last of eight
+    rounds has about seven in eight of all, the one before it as many of the others, and so on."""
     keys = [along_curve(p) for p in points]
     ways = [(p[0] - points[0][0], p[1] - points[0][1]) for p in points]
     far = next((way for way in ways if way != (0, 0)), (0, 0))
     if all(far[0] * y == far[1] * x for x, y in ways):
         return keys
-    is_first = lambda key: key * 0x9E37_79B9_7F4A_7C15 % 2**64 >> 61 == 0
-    return [key if is_first(key) else key | 1 << 63 for key in keys]
+    hashes = [key * 0x9E37_79B9_7F4A_7C15 % 2**64 for key in keys]
+    rounds = [7 - min((64 - it.bit_length()) // 3, 7) for it in hashes]
+    return [number << 61 | key >> 1 for number, key in zip(rounds, keys)]
 
 
 class Tagged(PlainState):

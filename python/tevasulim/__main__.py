@@ -57,7 +57,7 @@ def add_tiles(part: argparse.ArgumentParser) -> None:
     part.add_argument("--tile-size", type=int, default=1_000_000, help="points in a tile, about")
     part.add_argument("--workers", type=int, default=1, help="how many processes")
     part.add_argument("--scheduler", help="the address of a Dask scheduler, instead of processes")
-    about = "bytes that a task needs, of workers that were started with --resources memory=.."
+    about = "bytes that a task needs, of Dask workers that were started with the resource memory"
     part.add_argument("--memory", type=float, help=about)
     part.add_argument(
         "--segments", nargs="+", default=[], help="tables or .npy of pairs of numbers of points"
