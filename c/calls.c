@@ -41,7 +41,7 @@ const char *tevasulim_status_string(uint32_t status)
     case 2:
         return "the triangulation is already open: close it first";
     case 3:
-        return "there is no such kind of triangulation or shape";
+        return "there is no such kind: 0 is plain or a circle, 1 is constrained or a rectangle";
     case 4:
         return "the triangulation is plain: this call is for constrained ones";
     case 5:
@@ -51,19 +51,19 @@ const char *tevasulim_status_string(uint32_t status)
     case 7:
         return "a coordinate is out of range: it is more than 2^29 or less than -2^29";
     case 8:
-        return "a squared radius is negative";
+        return "a squared radius is negative: it has to be 0 or more";
     case 9:
-        return "there is no vertex with this index";
+        return "there is no vertex with this index: the last is the number of vertices less 1";
     case 10:
-        return "a segment names a point that is not in the list";
+        return "a segment names a point that is not in the list: indexes of points start at 0";
     case 11:
-        return "a constraint crosses the segment";
+        return "a constraint crosses the segment: leave one out, or cut both where they meet";
     case 12:
-        return "no constraint joins the two vertices";
+        return "no constraint joins the two vertices: vertices between them may part it in several";
     case 13:
-        return "a list is too short";
+        return "a list is too short: call again with a longer one";
     case 14:
-        return "there are too many vertices for 32-bit indexes";
+        return "there are too many vertices for 32-bit indexes: 715827882 are the most";
     case 15:
         return "there is not enough memory";
     default:

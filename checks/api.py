@@ -23,8 +23,8 @@ Made by `checks/api.py write` from the sources. Each page has signatures, what a
 it refuses, and the records that its contract asks for and promises, which are definitions in \
 `specs/`. docs/PROVED.md says in words what these records say.
 
-A call without a `Result` is never refused, and a refused call changes nothing, where its page \
-does not say otherwise. Handles are to be of the triangulation that is asked.
+A call without a `Result` is never refused. A refused call changes nothing, unless its page says \
+otherwise. Pass each call only handles of its own triangulation.
 
 - [The calls for C](c.md)
 - [The Python package](python.md)

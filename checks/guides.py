@@ -29,7 +29,8 @@ import debian  # noqa: E402
 
 GUIDE = f"{ROOT}/docs/guide"
 PAGES = "terrain", "navigation", "lookup", "parcels"
-MODULES = "numpy", "shapely", "geopandas"
+# geopandas joins tables by place over rtree, which Debian's package of it does not bring along.
+MODULES = "numpy", "shapely", "geopandas", "rtree"
 BLOCK = re.compile(r"^```(\w*) ?(\S*)\n(.*?)^```$", re.M | re.S)
 MOST = 40_000
 # Whole sessions, so that a later block knows the names of those before it.

@@ -542,7 +542,8 @@ def check_geojson():
     expect("mesh: left out: numbers of positions behind the third\n" in error, error)
     text = '{"type":"MultiPoint","coordinates":[[0,0],[1,0],[0,1],[0.0,0]]}'
     said, error = run(["--from", "geojson"], text)
-    expect(len(read_obj(said)[0]) == 4 and "1 points repeat others" in error, error)
+    told = "mesh: points that repeat an earlier one, and so are in no face: 1\n"
+    expect(len(read_obj(said)[0]) == 4 and told in error, error)
     for text in ('{"type":"FeatureCollection","features":[]}', '{"type":"Point","coordinates":[]}',
                  '{"type":"Feature","geometry":null}'):
         said, error = run(["--from", "geojson"], text)
@@ -553,10 +554,10 @@ def check_geojson():
 
 FAULTS = [
     # the words, the text, and what is told
-    ([], "", "line 1: the file ends where a header should come"),
-    ([], "a,b\n1,2\n", "line 1: there is no column named x"),
+    ([], "", "line 1: the file ends where a header is expected"),
+    ([], "a,b\n1,2\n", "line 1: there is no column named x: --x gives its name\n"),
     ([], "x,z\n1,2\n", "line 1: there is no column named y"),
-    ([], "x,y\n1,2\n3\n", "line 3: it has another number of fields than the first line"),
+    ([], "x,y\n1,2\n3\n", "line 3: the row has more or fewer fields than the first: quote"),
     ([], "x,y\n1,2\n3,four\n", "line 3: y is not a decimal number"),
     ([], "x,y\n1,\n", "line 2: y is not a decimal number"),
     ([], "x,y\n--1,0\n", "line 2: x is not a decimal number"),
@@ -570,72 +571,72 @@ FAULTS = [
     (["--exact"], "x,y\n0,0\n1,0.000000001\n0,9\n",
      "line 3: y has more digits behind the point than fit: --round 8 keeps as many as do"),
     (["--round", "9"], "x,y\n0,0\n1,0.000000001\n0,9\n",
-     "y is too far from the others: all have to be within 2^30 units of 9 digits; --round 8"),
+     "y is too far from the others: with 9 decimals they may span 2^30 units; --round 8 fits\n"),
     ([], "x,y\n0,0\n0,5\n-2000000000,9\n2000000000,9\n",
-     "line 4: x is too far from the others: all have to be within 2^30 units of 0 digits\n"),
-    ([], "x,y\n0,0\n1\0,0\n", "line 3: it has a NUL byte, so this is no text"),
-    ([], "x,y\n0,0\n" + "1" * 70000, "line 3: it is longer than 65536 bytes"),
-    (["--from", "node"], "", "line 0: the file ends where the number of points should come"),
-    (["--from", "node"], "2 3 0 0\n", "line 1: only points of the plane are read"),
+     "line 4: x is too far from the others: with 0 decimals they may span 2^30 units\n"),
+    ([], "x,y\n0,0\n1\0,0\n", "line 3: there is a NUL byte: this is not a text file"),
+    ([], "x,y\n0,0\n" + "1" * 70000, "line 3: this line or row is too long: at most 65536"),
+    (["--from", "node"], "", "input: the file ends where the number of points is expected"),
+    (["--from", "node"], "2 3 0 0\n", "line 1: only points of the plane are read, with"),
     (["--from", "node"], "0 2 0 0\n", "line 1: its points are in a .node file"),
-    (["--from", "node"], "2 2 0 0\n1 0 0\n", "line 2: the file ends where a point should come"),
-    (["--from", "node"], "2 2 0 0\n1 0 0\n3 1 1\n", "line 3: the points are numbered from 0 or"),
+    (["--from", "node"], "2 2 0 0\n1 0 0\n", "line 2: the file ends where a point is expected"),
+    (["--from", "node"], "2 2 0 0\n1 0 0\n3 1 1\n", "line 3: this is not the next point: number"),
     (["--from", "node"], "1 2 0 0\n1 0\n", "line 2: y is missing"),
     (["--from", "node"], "1 2 0 0\n1 0 y\n", "line 2: y is not a decimal number"),
-    (["--from", "poly"], "2 2 0 0\n1 0 0\n2 1 1\n1 0\n1 1 3\n", "line 5: point 3 is named here"),
+    (["--from", "poly"], "2 2 0 0\n1 0 0\n2 1 1\n1 0\n1 1 3\n", "line 5: point 3 is used here"),
     (["--from", "poly"], "2 2 0 0\n1 0 0\n2 1 1\n1 0\n1 1 b\n", "line 5: a segment's end is not"),
     (["--from", "poly"], "4 2 0 0\n1 0 0\n2 2 2\n3 0 2\n4 2 0\n2 0\n1 1 2\n2 3 4\n0\n",
      "line 8: the segment crosses that of line 7"),
-    ([], 'x,y,note\n1,2,"a\n3,4,b\n5,6,c\n', "line 2: a quoted field does not end"),
-    ([], 'x,y\n0,0\n1,"' + "2\n" * 40000, "line 3: a quoted field does not end"),
-    ([], '\ufeff"x,y\n' + "1,2\n" * 20000, "line 1: a quoted field does not end"),
-    ([], "x,y\n" + '"\n",1,' * 20000, "it is longer than 65536 bytes"),
+    ([], 'x,y,note\n1,2,"a\n3,4,b\n5,6,c\n', "line 2: the quoted field that begins here does not"),
+    ([], 'x,y\n0,0\n1,"' + "2\n" * 40000, "line 3: the quoted field that begins here does not end"),
+    ([], '\ufeff"x,y\n' + "1,2\n" * 20000, "line 1: the quoted field that begins here does"),
+    ([], "x,y\n" + '"\n",1,' * 20000, "this line or row is too long: at most 65536 bytes are read"),
 ]
 
 GEOJSON_FAULTS = [
     # the text, and what is told
-    ("", "line 1: the file ends where more of it should come"),
+    ("", "line 1: the file ends where more of it is expected"),
     ('{"type":"Point",\n"coordinates":[1,2]\n\n', "line 2: the file ends where more of it"),
-    ('{"type":"Point",\n"coordinates":[1 2]}', "line 2: this is no JSON, or it nests"),
-    ('{"type":"Point","coordinates":[1,2]}\n{}', "line 2: the end of the file should stand here"),
+    ('{"type":"Point",\n"coordinates":[1 2]}', "line 2: this is not JSON, or it nests"),
+    ('{"type":"Point","coordinates":[1,2]}\n{}', "line 2: the end of the file is expected here"),
     ('{"type":"Point","coordinates":[1,\n"2"]}', "line 2: y is missing"),
     ('{"type":"Point","coordinates":[1]}', "line 1: y is missing"),
-    ('{"type":"Point","coordinates":[1,2,"3"]}', "line 1: a number should stand here"),
+    ('{"type":"Point","coordinates":[1,2,"3"]}', "line 1: a number is expected here"),
     ('{"type":"Point","coordinates":[1e999,2]}', "line 1: x has more than 17 digits"),
-    ('{"type":"Point","coordinates":[+1,2]}', "line 1: this is no JSON, or it nests"),
-    ('{"type":"Point","coordinates":{}}', "line 1: an array of coordinates should stand here"),
-    ('{"type":"Point","coordinates":5}', "line 1: an array of coordinates should stand here"),
-    ('{"type":"LineString","coordinates":[[1,2],[]]}', "line 1: an array of coordinates should"),
-    ('{"type":"LineString","coordinates":[[1,2],3]}', "line 1: an array of coordinates should"),
-    ('{"type":"LineString","coordinates":[1,2]}', "line 1: coordinates are nested otherwise"),
-    ('{"type":"Point","coordinates":' + "[" * 100000, "line 1: an array of coordinates should"),
-    ('{"type":"Polygon","coordinates":[[[0,0],[1,0]]]}', "line 1: a ring has three corners"),
-    ('{"type":"Polygon","coordinates":[[[0,0],[1,0],[0,0]]]}', "line 1: a ring has three corners"),
+    ('{"type":"Point","coordinates":[+1,2]}', "line 1: this is not JSON, or it nests"),
+    ('{"type":"Point","coordinates":{}}', "line 1: an array of coordinates is expected here"),
+    ('{"type":"Point","coordinates":5}', "line 1: an array of coordinates is expected here"),
+    ('{"type":"LineString","coordinates":[[1,2],[]]}', "line 1: an array of coordinates is"),
+    ('{"type":"LineString","coordinates":[[1,2],3]}', "line 1: an array of coordinates is"),
+    ('{"type":"LineString","coordinates":[1,2]}', "line 1: the coordinates are not nested"),
+    ('{"type":"Point","coordinates":' + "[" * 100000, "line 1: an array of coordinates is"),
+    ('{"type":"Polygon","coordinates":[[[0,0],[1,0]]]}', "line 1: this ring has fewer than three"),
+    ('{"type":"Polygon","coordinates":[[[0,0],[1,0],[0,0]]]}', "line 1: this ring has fewer than"),
     ('{"type":"MultiPoint","coordinates":[[0,0],\n[1,0,3]]}', "line 2: some points have a height"),
     ('{"type":"MultiPoint","coordinates":[[0,0,3],[1,0]]}', "line 1: some points have a height"),
-    ('{"coordinates":[0,0]}', "line 1: there is no member named type"),
-    ('{"type":"Point"}', "line 1: there is no member named coordinates"),
-    ('{"type":"Circle","coordinates":[0,0]}', "line 1: a type of GeoJSON should stand here"),
-    ('{"type":5}', "line 1: a type of GeoJSON should stand here"),
-    ('{"type":"Feature","coordinates":[0,0]}', "line 1: it has coordinates, and its type has none"),
-    ('{"type":"Feature","geometry":null,"features":[]}', "line 1: it has geometry and features"),
-    ('{"type":"Feature","geometry":[]}', "line 1: a geometry should stand here"),
-    ('{"type":"Feature","geometry":{"type":"Feature","geometry":null}}', "a geometry should stand"),
-    ('{"type":"Feature","properties":5}', "line 1: an object of properties should stand here"),
-    ('{"type":"FeatureCollection","features":{}}', "line 1: a list should stand here"),
+    ('{"coordinates":[0,0]}', "line 1: the object has no member named type"),
+    ('{"type":"Point"}', "line 1: the object has no member named coordinates"),
+    ('{"type":"Circle","coordinates":[0,0]}', "line 1: a type of GeoJSON is expected here"),
+    ('{"type":5}', "line 1: a type of GeoJSON is expected here"),
+    ('{"type":"Feature","coordinates":[0,0]}', "line 1: the object has coordinates, which"),
+    ('{"type":"Feature","geometry":null,"features":[]}', "the object has geometry and features"),
+    ('{"type":"Feature","geometry":[]}', "line 1: a geometry is expected here"),
+    ('{"type":"Feature","geometry":{"type":"Feature","geometry":null}}', "a geometry is expected"),
+    ('{"type":"Feature","properties":5}', "line 1: an object of properties is expected here"),
+    ('{"type":"FeatureCollection","features":{}}', "line 1: a list is expected here"),
     ('{"type":"FeatureCollection","features":[5]}', "line 1: a member or an object of GeoJSON"),
     ('{"type":"FeatureCollection","features":[{"type":"Feature","geometry":null},\n'
-     '{"type":"Point","coordinates":[0,0]}]}', "line 2, feature 2: a feature should stand here"),
+     '{"type":"Point","coordinates":[0,0]}]}', "line 2, feature 2: a feature is expected here"),
     ('{"type":"FeatureCollection","features":[{"type":"Feature","geometry":'
      '{"type":"Point","coordinates":[0,0]}},{"type":"Feature","geometry":'
      '{"type":"Point","coordinates":[2e9,0]}}]}', "line 1, feature 2: x is too far from the others"),
     ('{"type":"MultiLineString","coordinates":[[[0,0],[2,2]],\n[[0,2],[2,0]]]}',
      "line 2: the segment crosses that of line 1"),
-    ("[1,2]", "line 1: an object of GeoJSON should stand here"),
-    ('{"a":' + "[" * 100000, "line 1: this is no JSON, or it nests more than 128 deep"),
+    ("[1,2]", "line 1: an object of GeoJSON is expected here"),
+    ('{"a":' + "[" * 100000, "line 1: this is not JSON, or it nests more than 128 deep"),
     ('{"type":"GeometryCollection","geometries":[' * 200, "it nests more than 128 deep"),
-    ('{"type":"Point","coordinates":[1,2]}\0', "line 1: it has a NUL byte, so this is no text"),
-    (b'{"type":"\xff"}', "the file is no text in UTF-8"),
+    ('{"type":"Point","coordinates":[1,2]}\0', "line 1: there is a NUL byte: this is not"),
+    (b'{"type":"\xff"}', "standard input: the file is not UTF-8: iconv"),
 ]
 
 
@@ -664,7 +665,8 @@ def check_choices():
     expect([p[:2] for p in read_obj(said)[0]] == [(0, 0), (Fraction("1.3"), Fraction("-1.3")),
                                                 (0, 0)], said)
     said, error = run([], "x,y\n0,0\n1,0\n0,0\n0,1\n")
-    expect("1 points repeat others" in error and len(read_obj(said)[1]) == 1, error)
+    told = "mesh: points that repeat an earlier one, and so are in no face: 1\n"
+    expect(told in error and len(read_obj(said)[1]) == 1, error)
     for text, count in ("x,y\n", 0), ("x,y\n1,1\n", 1), ("x,y\n0,0\n1,1\n2,2\n", 3):
         said, error = run([], text)
         expect(len(read_obj(said)[0]) == count and not read_obj(said)[1], said)
@@ -764,7 +766,7 @@ def check_lines_of_input():
         _, error = run(["--lines", f"{folder}/lines.csv"], "x,y\n0,0\n4,0\n0,4\n")
         expect("mesh: 3 vertices, 1 faces, 2 constraints" in error, error)
         _, error = run(["--lines", f"{folder}/lines.csv"], "x,y\n0,0\n4,0\n", 1)
-        expect(f"{folder}/lines.csv: line 3: point 3 is named here" in error, error)
+        expect(f"{folder}/lines.csv: line 3: point 3 is used here" in error, error)
 
 
 # ---- points in holes
@@ -773,7 +775,8 @@ def check_lines_of_input():
 SQUARE = [("0", "0"), ("4", "0"), ("4", "4"), ("0", "4")]
 SIDES = [(0, 1), (1, 2), (2, 3), (3, 0)]
 WALL = [*SIDES, (0, 2)]
-OUT_OF_FACES, ON_SEGMENT = "the hole's point is in no face", "the hole's point is on a segment"
+OUT_OF_FACES = "the hole's point is in no face: move it into the hole"
+ON_SEGMENT = "the hole's point is on a segment: move it into the hole"
 HOLE_FAULTS = [
     # points, segments, points in holes, and which of these is refused for what
     (SQUARE, SIDES, [("4", "4")], 0, OUT_OF_FACES),
@@ -989,9 +992,9 @@ def check_tables():
                        ("1 2\n1 z\n", "line 2: y is not a decimal number"),
                        ("1,2\n1,z\n", "line 2: y is not a decimal number"),
                        ("x;y\n1,5,2;1\n", "line 2: x is not a decimal number"),
-                       ("x;y\n1;2\n1;2;3\n", "line 3: it has another number of fields"),
-                       ("1 2\n3\n", "line 2: it has another number of fields"),
-                       ("1,2,3,4\n", "line 1: it has another number of fields")):
+                       ("x;y\n1;2\n1;2;3\n", "line 3: the row has more or fewer fields"),
+                       ("1 2\n3\n", "line 2: the row has more or fewer fields"),
+                       ("1,2,3,4\n", "line 1: the row has more or fewer fields")):
         error = run([], text, 1)[1]
         expect(told in error, f"{text!r}: {error}")
     with tempfile.NamedTemporaryFile("w", suffix=".csv") as asked:
@@ -1003,7 +1006,7 @@ def check_tables():
         expect((row[2], {*row[3:6]}, Fraction(row[6])) == ("face", {"1", "2", "3"}, 2),
                f"questions have no height: {said}")
     error = run(["--x", "q"], "x,y\n", 1)[1]
-    expect("line 1: there is no column of the name that is given for x" in error, error)
+    expect("line 1: no column has the name that --x gives" in error, error)
     for text, told in FOREIGN:
         error = run([], text, 1)[1]
         expect(f"standard input: this is {told}" in error and "GDAL" in error, error)
@@ -1013,7 +1016,7 @@ def check_tables():
             with open(path, "w") as file:
                 file.write("x,y\n0,0\n4,0\n0,4\n")
             error = run([path], status=1)[1]
-            expect(f"{path}: this is {told}; GDAL" in error, error)
+            expect(f"{path}: this is {told}: convert it" in error, error)
             expect("\nf " in run(["--from", "csv", path])[0], f"--from of a .{ending}")
         os.rename(path, f"{folder}/points.xyz")
         expect("\nf " in run([f"{folder}/points.xyz"])[0], "an ending that is not foreign")
@@ -1029,7 +1032,8 @@ def check_more_forms():
     said, error = run([], text)
     told = "standard input: line 1: a ring does not end where it began"
     expect(f"mesh: {told}, and is closed (1 such)\n" in error, error)
-    expect(run(["--exact"], text, 1)[1] == f"mesh: {told}\n", "an open ring")
+    expect(run(["--exact"], text, 1)[1] == f"mesh: {told}: repeat its first point at the end\n",
+           "an open ring")
     points, faces = read_obj(said)
     walls = {(k, (k + 1) % 4) for k in range(4)} | {(4, 5), (5, 6), (6, 4)}
     lines = {tuple(int(word) - 1 for word in line.split()[1:]) for line in said.splitlines()
@@ -1053,7 +1057,8 @@ def check_more_forms():
             expect([row[k]] == (wanted or [-1]), f"neighbours of {face}: {row}")
     with tempfile.TemporaryDirectory() as folder:
         error = run(["-o", f"{folder}/mesh.step"], "x,y\n0,0\n", 1)[1]
-        expect(f"{folder}/mesh.step: it ends in no form" in error and not os.listdir(folder), error)
+        told = f"{folder}/mesh.step: no form that is written has this ending"
+        expect(told in error and not os.listdir(folder), error)
         os.mkdir(f"{folder}/out.d")
         run(["-q", "-o", f"{folder}/out.d/hill"], text)
         with open(f"{folder}/out.d/hill") as file:
@@ -1102,7 +1107,7 @@ def check_far_questions():
     said = run(["-q", "--line", "999999999", "1000000001", "1000000003", "1000000000"], text)[0]
     expect(said.startswith("meets,a,b\ncrosses,"), said)
     error = run(["-q", "--line", "1", "1", "1000000003", "1000000000"], text, 1)[1]
-    expect("--line: an end is outside the range" in error, error)
+    expect("--line: an end is more than 2^29 units from the middle" in error, error)
 
 
 # ---- questions
@@ -1341,9 +1346,9 @@ def check_outputs():
 def check_long_lines():
     """A line of a gigabyte is refused, and is not kept in memory."""
     chunk = b"1" * 2**20
-    for words, start, told in (([], b"x,y\n", "line 2: it is longer than 65536 bytes"),
-                               ([], b'x,y\n0,"', "line 2: a quoted field does not end"),
-                               (["--from", "node"], b"1 2 0 0\n1 ", "line 2: it is longer")):
+    for words, start, told in (([], b"x,y\n", "line 2: this line or row is too long: at most 65536"),
+                               ([], b'x,y\n0,"', "line 2: the quoted field that begins here does"),
+                               (["--from", "node"], b"1 2 0 0\n1 ", "line 2: this line or row")):
         with subprocess.Popen([PROGRAM, *words], bufsize=0, stdin=subprocess.PIPE,
                               stdout=subprocess.DEVNULL, stderr=subprocess.PIPE,
                               preexec_fn=limited(resource.RLIMIT_AS, 2**27)) as ran:

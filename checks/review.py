@@ -13,7 +13,7 @@
               other crates import by several paths (tools/imports.py writes one)
   large       contracts of more than eight clauses, functions over 40 lines, files over 500, lines over 100 columns
               (imports apart)
-  size        lines by kind of file, and words of docs/
+  size        lines by kind of file
 With CRATE.. only places with at least one end in these crates are printed. --brief prints the counts alone.
 """
 import collections
@@ -344,8 +344,7 @@ def size():
     library = count(rt, lambda k: not is_test(k))
     specs = count(antt, lambda k: "/specs/" in k)
     answers = count(antt, lambda k: k.endswith(("Answers.antt", "Invariants.antt")))
-    words_in = sum(len(open(f"docs/{x}", encoding="utf-8").read().split()) for x in os.listdir("docs") if x.endswith(".md")) if os.path.isdir("docs") else 0
-    heading(f"size: .rt {library} lines and {count(rt, is_test)} of tests; .antt {specs} of definitions, {count(antt, lambda k: True) - specs - answers} of lemmas, {answers} of answers; {words_in} words in docs/")
+    heading(f"size: .rt {library} lines and {count(rt, is_test)} of tests; .antt {specs} of definitions, {count(antt, lambda k: True) - specs - answers} of lemmas, {answers} of answers")
 
 
 for part in (statements, blocks, unused, facts, meanings, forwards, depends, imports, large, size):

@@ -1,5 +1,5 @@
 #!/usr/bin/env python3
-"""checks/snap.py PROGRAM: has test_snap join random lists of segments that cross, and looks that
+"""checks/snap.py PROGRAM: has test_parts join random lists of segments that cross, and looks that
 none crosses afterwards, that a path of constraints joins the ends of each, and how far paths go.
 
 Points are whole numbers on small grids, so that many segments cross, touch, overlap and repeat.

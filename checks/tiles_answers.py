@@ -19,6 +19,7 @@ from distributed import Client, LocalCluster
 
 from model.geometry import in_circle
 from tevasulim import CrossingError, NoSuchPointError, NotWholeError, TooLargeError, Triangulation
+from tevasulim._circles import are_zero
 from tevasulim.tiles import neighbors, triangulate_tiles
 from tiles_parts import check_parts
 
@@ -207,6 +208,24 @@ def check(points, tiles, client, folder, wanted, segments=NO_SEGMENTS):
     shutil.rmtree(room)
 
 
+def check_zero():
+    """What decides whether points are on one circle, beside Python's whole numbers: sums of two
+    products that are 0, nearly 0, or multiples of 2^64."""
+    draw, most = np.random.default_rng(6), 2**61
+    a, b = (draw.integers(-9, 10, 4000) << draw.integers(0, 58, 4000) for _ in range(2))
+    a[:1000], b[:1000] = draw.integers(-most, most + 1, (2, 1000))
+    a[:20], b[10:30] = most, -most
+    which = draw.integers(0, 4, 4000)
+    c = np.choose(which, [-a, b, a, draw.integers(-9, 10, 4000) << draw.integers(0, 58, 4000)])
+    d = np.choose(draw.integers(0, 4, 4000), [b, -a, b + (np.abs(b) < most), a])
+    rows = zip(*(it.tolist() for it in (a, b, c, d)))
+    wanted = [w * x + y * z == 0 for w, x, y, z in rows]
+    for some in slice(0, 4000), slice(500, 510), slice(0, 0):
+        assert are_zero(*(it[some] for it in (a, b, c, d))).tolist() == wanted[some]
+    assert 500 < sum(wanted) < 3500
+    print("sums of products are 0 where whole numbers say so")
+
+
 def check_few():
     """Few points, many of them on one circle or one line or equal, in tiles of few, in this
     process."""
@@ -333,6 +352,17 @@ class Ending(threading.Thread):
             time.sleep(0.002)
 
 
+def check_ending(points, client, folder, wanted, segments=NO_SEGMENTS):
+    """The same where a worker is ended in the middle."""
+    ending = Ending(client, folder, 100)
+    ending.start()
+    check(points, 100, client, folder, wanted, segments)
+    ending.join()
+    assert 10 < ending.found < 100
+    assert ending.pid not in client.run(os.getpid).values()
+    print(f"the same where a worker was ended after {ending.found} of 100 tiles")
+
+
 def keys_of(dask_scheduler):
     """The names of tasks that the dashboard shows."""
     return set(dask_scheduler.task_prefixes)
@@ -355,12 +385,15 @@ def check_habits(client, folder):
         rows = np.concatenate([np.load(name) for name in run.stdout.split()])
         assert np.array_equal(rows_in_order(rows), wanted)
         assert ("Completed" in run.stderr) == (not more), run.stderr
-    # Two runs in one folder at the same time.
+    # Two runs in one folder at the same time, one of them with segments.
+    segments = legal_segments(np.random.default_rng(42), points, 40, 12)
+    of_both = [((), wanted), ([segments], cells_of_all(points, segments))]
     with ThreadPoolExecutor(2) as pool:
-        runs = [pool.submit(triangulate_tiles, [points], 500, client, folder) for _ in range(2)]
+        words = [points], 500, client, folder
+        runs = [pool.submit(triangulate_tiles, *words, segments=some) for some, _ in of_both]
         found = [it.result() for it in runs]
     assert not set(found[0].cells) & set(found[1].cells)
-    for it in found:
+    for it, (_, wanted) in zip(found, of_both):
         rows = np.concatenate([np.load(name) for name in it.cells])
         assert np.array_equal(rows_in_order(rows), wanted)
         shutil.rmtree(os.path.dirname(it.index_file))
@@ -400,6 +433,8 @@ def check_segments(client, folder):
         for tiles in TILES:
             check(points, tiles, client, folder, wanted, segments)
         print(f"{make.__name__}: {len(wanted)} cells, {len(segments)} segments", flush=True)
+        if make is parcels:
+            check_ending(points, client, folder, wanted, segments)
 
 
 def check_far_reaching(client, folder):
@@ -413,6 +448,7 @@ def check_far_reaching(client, folder):
 
 
 def main():
+    check_zero()
     check_few()
     check_few_segments()
     check_crossing()
@@ -438,13 +474,7 @@ def main():
                 check(points, tiles, client, folder, wanted)
             print(f"{make.__name__}: {len(wanted)} cells in {TILES} tiles as in one", flush=True)
             if make is clustered:
-                ending = Ending(client, folder, 100)
-                ending.start()
-                check(points, 100, client, folder, wanted)
-                ending.join()
-                assert 10 < ending.found < 100
-                assert ending.pid not in client.run(os.getpid).values()
-                print(f"the same where a worker was ended after {ending.found} of 100 tiles")
+                check_ending(points, client, folder, wanted)
         check_segments(client, folder)
         check_far_reaching(client, folder)
         check_habits(client, folder)

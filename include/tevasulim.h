@@ -77,8 +77,8 @@ typedef enum tevasulim_status {
     TEVASULIM_NO_CONSTRAINT = 12,  /* no constraint joins the two vertices */
     TEVASULIM_TOO_SHORT = 13,      /* a list has too little room */
     TEVASULIM_OUT_OF_INDEXES = 14, /* six times the number of vertices could pass 2^32 - 1 */
-    TEVASULIM_OUT_OF_MEMORY = 15,  /* memory was refused */
-    TEVASULIM_NO_SUCH_STATUS = 16  /* a number that is no status was to be said in words */
+    TEVASULIM_OUT_OF_MEMORY = 15,  /* there is not enough memory */
+    TEVASULIM_NO_SUCH_STATUS = 16  /* there is no such status to put in words */
 } tevasulim_status;
 
 /* Where a point is. */
@@ -152,7 +152,7 @@ typedef struct {
     uint64_t vertices, edges, faces, constraints;
 } tevasulim_counts;
 
-/* A triangulation that C keeps. {0} is a closed one. */
+/* A triangulation that the program holds. {0} is a closed one. */
 typedef struct {
     void *at;
     bool is_open;
@@ -213,7 +213,7 @@ void tevasulim_close(tevasulim_triangulation *self);
  * as it is. TEVASULIM_OUT_OF_MEMORY: `copy` stays closed. */
 tevasulim_status tevasulim_copy(tevasulim_triangulation *self, tevasulim_triangulation *copy);
 
-/* Makes a constrained triangulation of a plain one. It has no constraint yet. The indexes of
+/* Turns a plain triangulation into a constrained one, which has no constraint yet. The indexes of
  * vertices, edges and faces and the numbers stay. TEVASULIM_IS_CONSTRAINED: it is constrained
  * already. TEVASULIM_OUT_OF_MEMORY. */
 tevasulim_status tevasulim_allow_constraints(tevasulim_triangulation *self);
@@ -230,11 +230,11 @@ tevasulim_status tevasulim_clear(tevasulim_triangulation *self);
 tevasulim_status tevasulim_insert(tevasulim_triangulation *self, int32_t x, int32_t y,
                                   uint32_t *vertex);
 
-/* Inserts `count` vertices, each with the number 0, and writes the index of each to `vertices` at
- * the place that its point has in the list. Whatever their order in the list, the vertices are
- * inserted twice along a curve through the plane, first about every eighth of them and then the
- * others, and new ones get their indexes in that order. `vertices` is written where the status is TEVASULIM_OK, and else stays as it was.
- * The first of these that applies decides. TEVASULIM_TOO_SHORT: room < count.
+/* Inserts `count` vertices, each with the number 0, and writes the index of the vertex of points[k]
+ * to vertices[k]. Whatever the order of the list, the vertices are inserted twice along a curve
+ * through the plane, first about every eighth of them and then the others, and new ones get their
+ * indexes in that order. `vertices` is written where the status is TEVASULIM_OK, and else stays as
+ * it was. The first of these that applies decides. TEVASULIM_TOO_SHORT: room < count.
  * TEVASULIM_TOO_LARGE: a coordinate is out of range. TEVASULIM_OUT_OF_INDEXES: six times the number
  * of vertices that are there and `count` more passes 2^32 - 1. TEVASULIM_OUT_OF_MEMORY: some of the
  * vertices may be inserted. */
@@ -246,7 +246,7 @@ tevasulim_status tevasulim_insert_all(tevasulim_triangulation *self, const tevas
  * constraint joins these ends afterwards. TEVASULIM_NO_SUCH_VERTEX. TEVASULIM_OUT_OF_MEMORY. */
 tevasulim_status tevasulim_remove(tevasulim_triangulation *self, uint32_t vertex);
 
-/* Makes constraints of the edges along the segment between two vertices. A vertex that is strictly
+/* Joins two vertices by constraints along the segment between them. A vertex that is strictly
  * within the segment stays, between two constraints. From a vertex to itself there is nothing to
  * join. TEVASULIM_IS_PLAIN. TEVASULIM_NO_SUCH_VERTEX. TEVASULIM_CROSSING: a constraint crosses the
  * segment (`tevasulim_conflicts` lists all that do). TEVASULIM_OUT_OF_MEMORY. */
@@ -259,7 +259,7 @@ tevasulim_status tevasulim_constrain(tevasulim_triangulation *self, uint32_t fro
 tevasulim_status tevasulim_constrain_chain(tevasulim_triangulation *self, const uint32_t *vertices,
                                            size_t count, bool closed, size_t *made);
 
-/* Makes an edge that is no constraint of the constraint between two vertices. TEVASULIM_IS_PLAIN.
+/* Turns the constraint between two vertices into a free edge. TEVASULIM_IS_PLAIN.
  * TEVASULIM_NO_SUCH_VERTEX. TEVASULIM_NO_CONSTRAINT: no constraint joins the two.
  * TEVASULIM_OUT_OF_MEMORY. */
 tevasulim_status tevasulim_release(tevasulim_triangulation *self, uint32_t from, uint32_t to);
@@ -292,16 +292,16 @@ tevasulim_status tevasulim_edges(tevasulim_triangulation *self, tevasulim_edge *
 tevasulim_status tevasulim_faces(tevasulim_triangulation *self, tevasulim_face *faces, size_t room,
                                  size_t *length);
 
-/* Writes the layer of each face, by index: how many constraints at least a way from outside the
- * hull to the face crosses, where the way goes from face to face across edges. A face that can be
- * reached past no constraint has layer 0, a face inside one closed chain of constraints has layer
+/* Writes the layer of each face, by index: the least number of constraints to cross on the way from
+ * outside the hull to the face, which goes from face to face across edges. A face that can be
+ * reached across no constraint has layer 0, a face inside one closed chain of constraints has layer
  * 1, and so on. TEVASULIM_TOO_SHORT. TEVASULIM_OUT_OF_MEMORY. */
 tevasulim_status tevasulim_face_layers(tevasulim_triangulation *self, uint32_t *layers, size_t room,
                                        size_t *length);
 
-/* Writes a flag for each face, by index: 0 where the closed disk of its circle stays within the
- * sides of a box, points of the sides among them, and 1 where it passes one. This is found exactly,
- * in whole numbers. Where left > right or bottom > top, no disk stays within.
+/* Writes a flag for each face, by index: 0 where the closed disk of its circumcircle lies in a
+ * closed box, and 1 where the disk passes a side of the box. This is found exactly, in whole
+ * numbers. Where left > right or bottom > top, no disk lies in the box.
  * TEVASULIM_TOO_SHORT. */
 tevasulim_status tevasulim_faces_beyond(tevasulim_triangulation *self, const tevasulim_box *within,
                                         uint8_t *flags, size_t room, size_t *length);
@@ -313,9 +313,9 @@ tevasulim_status tevasulim_faces_beyond(tevasulim_triangulation *self, const tev
 tevasulim_status tevasulim_locate(tevasulim_triangulation *self, const tevasulim_point *points,
                                   size_t count, tevasulim_place *places, size_t room);
 
-/* Writes for each of `count` points a vertex that no other is strictly nearer to it than, or
- * TEVASULIM_NONE where there is no vertex. TEVASULIM_TOO_SHORT: room < count. TEVASULIM_TOO_LARGE:
- * a coordinate is out of range. TEVASULIM_IS_CONSTRAINED. */
+/* Writes for each of `count` points the nearest vertex, one of them where several are equally near,
+ * or TEVASULIM_NONE where there is no vertex. TEVASULIM_TOO_SHORT: room < count.
+ * TEVASULIM_TOO_LARGE: a coordinate is out of range. TEVASULIM_IS_CONSTRAINED. */
 tevasulim_status tevasulim_nearest(tevasulim_triangulation *self, const tevasulim_point *points,
                                    size_t count, uint32_t *vertices, size_t room);
 
@@ -358,7 +358,7 @@ tevasulim_status tevasulim_vertices_in(tevasulim_triangulation *self, const teva
 tevasulim_status tevasulim_edges_in(tevasulim_triangulation *self, const tevasulim_shape *shape,
                                     uint32_t *edges, size_t room, size_t *length);
 
-/* ---- Without a triangulation that C keeps ---- */
+/* ---- Without an open triangulation ---- */
 
 /* Writes the faces of the constrained triangulation of points and of segments between them. Their
  * corners are indexes of points: of equal points the first one. `*length` is how many faces there

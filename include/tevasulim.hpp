@@ -2,8 +2,8 @@
 // call does and which statuses it gives.
 //
 // `Triangulation` throws a `tevasulim::Error` where a call is refused, and std::bad_alloc where
-// memory was refused; the triangulation is then as it was, unless tevasulim.h says what has
-// changed. `Handle` has the same calls, but each gives its status and writes its answer to an
+// there is not enough memory; the triangulation is then as it was, unless tevasulim.h says what
+// has changed. `Handle` has the same calls, but each gives its status and writes its answer to an
 // argument: it is for programs without exceptions (-fno-exceptions), for which `Triangulation`,
 // `Error` and `triangulate` are not there. The answers are std::vectors in both; where there is no
 // memory for one of these, it throws, and without exceptions the program ends.

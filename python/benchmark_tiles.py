@@ -1,15 +1,15 @@
-"""benchmark_tiles.py KIND N TILE_SIZE [WORKERS..]: what tiles over a Dask cluster of processes on this
-machine cost beside one triangulation (Debian: python3-numpy python3-distributed).
+"""benchmark_tiles.py KIND N TILE_SIZE [WORKERS..]: what tiles over a Dask cluster of processes on
+this machine cost beside one triangulation (Debian: python3-numpy python3-distributed).
 
 KIND is random, clustered, grid or lines. Points are made in files of 10^6. WORKERS are numbers of
-workers, 1 2 4 where none is given. For each it prints the clock, points a second, what the tiles did
-on average and at most, and the most resident memory that a worker had. At last it prints processor
-seconds of tiles beside those of one triangulation, everything counted from the first read to the
-last cell written, the least number of workers whose clock beats one process, and how much faster
-four are than two.
+workers, 0 1 2 4 where none is given; 0 is this process alone, without a cluster. Beside each one
+triangulation is made anew, since a shared machine is not as fast at all times. It prints the clock,
+points a second, processor seconds beside those of one triangulation, everything counted from the
+first read to the last cell written, what the tiles did on average and at most, and the most
+resident memory that a worker had. At last it prints the least number of workers whose clock beats
+one triangulation, how much faster four are than two, and how busy the machine was.
 """
 import os
-import resource
 import sys
 import tempfile
 import time
@@ -45,8 +45,11 @@ def points_of(kind, count, all_of_them, number):
 
 
 def memory():
-    """The most resident MiB that this process has had."""
-    return resource.getrusage(resource.RUSAGE_SELF).ru_maxrss / 1024
+    """The most resident MiB that this process has had. What `getrusage` says has those of the
+    process that began it too."""
+    with open("/proc/self/status", encoding="ascii") as file:
+        (most,) = [int(line.split()[1]) for line in file if line.startswith("VmHWM:")]
+    return most / 1024
 
 
 def parts_in(folder, kind, count):
@@ -72,6 +75,23 @@ def one_process(names, folder):
     return time.monotonic() - clock, time.process_time() - processor
 
 
+def without_cluster(names, size, folder):
+    """The same of tiles in this process, what they did, and the most memory that it had."""
+    clock, processor = time.monotonic(), time.process_time()
+    tiles = triangulate_tiles(names, size, None, folder)
+    took = time.monotonic() - clock, time.process_time() - processor
+    for name in tiles.cells:
+        os.remove(name)
+    return *took, tiles.reports, memory()
+
+
+def stolen():
+    """Seconds that processors of this machine had, and those that the host took away."""
+    with open("/proc/stat", encoding="ascii") as file:
+        ticks = list(map(int, file.readline().split()[1:9]))
+    return sum(ticks) / 100, ticks[7] / 100
+
+
 def with_workers(names, size, workers, folder):
     """The same of tiles with so many workers, what the tiles did, and the most memory of a
     worker."""
@@ -90,30 +110,41 @@ def with_workers(names, size, workers, folder):
     return clock, after - before, tiles.reports, most
 
 
+def tell(clock, of_tiles, reports, most, of_one):
+    """Prints what a run took and what its tiles did."""
+    count = sum(it.points for it in reports)
+    print(f"{clock:.2f} s, {count / clock:.0f} points a second, {of_tiles:.2f} processor seconds,")
+    print(f"  {of_tiles / of_one:.2f} of one triangulation, at most {most:.0f} MiB a worker")
+    columns = dict(zip(TileReport._fields[:-1], zip(*(it[:-1] for it in reports))))
+    for name, column in columns.items():
+        print(f"  {name}: {np.mean(column):.6g} a tile, at most {max(column):.6g}")
+    sys.stdout.flush()
+
+
 def main(words):
     if len(words) < 3:
         sys.exit(__doc__)
     kind, count, size = words[0], int(float(words[1])), int(float(words[2]))
+    before, beating, clocks = stolen(), [], {}
     with tempfile.TemporaryDirectory() as folder:
         names = parts_in(folder, kind, count)
-        alone, of_one = one_process(names, folder)
-        print(f"{kind}, {count} points: one triangulation takes {alone:.2f} s", flush=True)
-        beating, ratios, clocks = [], [], {}
-        for workers in list(map(int, words[3:])) or [1, 2, 4]:
-            clock, of_tiles, reports, most = with_workers(names, size, workers, folder)
-            ratios.append(of_tiles / of_one)
-            clocks[workers] = clock
-            beating += [workers] if clock < alone else []
-            print(f"{len(reports)} tiles, {workers} workers: {clock:.2f} s,", end=" ")
-            print(f"{count / clock:.0f} points a second, at most {most:.0f} MiB a worker")
-            columns = dict(zip(TileReport._fields[:-1], zip(*(it[:-1] for it in reports))))
-            for name, column in columns.items():
-                print(f"  {name}: {np.mean(column):.6g} a tile, at most {max(column):.6g}")
-            sys.stdout.flush()
-    print(f"processor seconds of tiles by those of one: {min(ratios):.2f} to {max(ratios):.2f}")
-    print(f"the least number of workers that beats one process: {min(beating, default='none')}")
+        for workers in list(map(int, words[3:])) or [0, 1, 2, 4]:
+            alone, of_one = one_process(names, folder)
+            print(f"{kind}, {count} points: one triangulation takes {alone:.2f} s,", end=" ")
+            print(f"{of_one:.2f} processor seconds", flush=True)
+            if workers:
+                found = with_workers(names, size, workers, folder)
+            else:
+                found = without_cluster(names, size, folder)
+            clocks[workers] = found[0]
+            beating += [workers] if workers and found[0] < alone else []
+            print(f"{len(found[2])} tiles, {workers or 'no'} workers:", end=" ")
+            tell(*found, of_one)
+    print(f"the least number of workers that beats one: {min(beating, default='none')}")
     if {2, 4} <= set(clocks):
         print(f"four workers are {clocks[2] / clocks[4]:.2f} times as fast as two")
+    every, taken = (now - then for now, then in zip(stolen(), before))
+    print(f"load {os.getloadavg()[0]:.1f}, steal {taken / every:.1%}")
 
 
 if __name__ == "__main__":

@@ -37,7 +37,7 @@ PACKAGES = {
         "science",
         PROGRAMS_NEED,
         "Delaunay triangulations of whole-number points (programs)",
-        "The program mesh, which triangulates points, walls and parcel borders\n"
+        "The program mesh, which triangulates points, breaklines and borders\n"
         " from tables, GeoJSON and Triangle's files, and the program triangulate,\n"
         " which answers commands.",
     ),
@@ -51,7 +51,7 @@ PACKAGES = {
 # What the Python package takes for maps, pictures and tiles, where it is there.
 SUGGESTED = ", ".join(
     f"python3-{it}"
-    for it in "distributed geopandas matplotlib meshio rasterio shapely tqdm".split()
+    for it in "distributed geopandas matplotlib meshio rasterio rtree shapely tqdm".split()
 )
 CONTROL = """Package: {name}
 Source: tevasulim

@@ -1,17 +1,18 @@
 #!/usr/bin/env python3
 """tools/imports.py [--check] [--move OLD=NEW].. [CRATE..]: writes how files name what they use.
 
-A name of this repository has one path. In .antt files and `ghost use` lines other crates name it by
-its crate's door, if that passes it on: specs/Lib.antt for definitions, proofs/Lib.antt for lemmas. So
-do a crate's own proofs with its definitions. Else it is named by the module that declares it, never
-through another crate. A door passes on what three files or more name through it, but for a name that
-is spelled like one of its modules. A file has one list a door, in lines of at most 100 columns; names
-that fill no line of their own stand together in lists of their crate's or of `Rattle.{..}`. In `use`
-lines the crate's root is the door (rust_uses.py). crates.txt names each crate that files name.
+A name of this repository has one path. In .antt files and `ghost use` lines, other crates name it
+by the facade of its crate, if that passes it on: specs/Lib.antt for definitions, proofs/Lib.antt for
+lemmas. So do a crate's own proofs with its definitions. Otherwise it is named by the module that
+declares it, and never through another crate. A facade passes on what three files or more name
+through it, but for a name that is spelled like one of its modules. A file has one list for each
+facade, in lines of at most 100 columns; names that fill no line of their own stand together in lists
+of their crate or of `Rattle.{..}`. In `use` lines the crate's root is the facade (rust_uses.py).
+crates.txt names each crate that files name.
 
---check writes nothing and tells which files would change. --move gives a module of specs/ or proofs/
-another name, as plane.specs.Side=plane.specs.Sides: its file, and all that name it. It proves nothing:
-`rt fmt` and `rt check` come after it.
+--check writes nothing, and says which files would change. --move gives a module of specs/ or proofs/
+another name, as plane.specs.Side=plane.specs.Sides: it renames the file and all that name it. The
+tool proves nothing: run `rt fmt` and `rt check` after it.
 """
 import collections
 import functools
@@ -25,7 +26,7 @@ import rust_uses  # noqa: E402
 
 ROOT = os.path.dirname(os.path.dirname(os.path.realpath(__file__)))
 COLUMNS = 100
-# How many files name what a door passes on.
+# How many files name what a facade passes on.
 LEAST = 3
 # So few names in a last line go with those of other modules.
 FEW = 4
@@ -42,7 +43,7 @@ FIRST = re.compile(
     r"^\s*(?:unfoldable |pub |ghost )*use (?:Rattle\.\{([^}]*)\}|(?:Rattle\.)?(\w+))", re.M
 )
 GHOST = re.compile(r"^( *)ghost use (Rattle\.[^;]*);$")
-# These name the public door, as users do.
+# These name the public facade, as users do.
 USERS = ("examples",)
 
 
@@ -134,7 +135,7 @@ class Repository:
 
     def __init__(self, moved):
         self.crates, self.moved, self.modules = listed_crates(), moved, {}
-        self.doors = collections.defaultdict(dict)
+        self.facades = collections.defaultdict(dict)
         for name in self.crates:
             for folder in ("specs", "proofs"):
                 for at, _, files in os.walk(f"{ROOT}/crates/{name}/{folder}"):
@@ -166,7 +167,7 @@ class Repository:
             if use.names is None and not use.is_glob:
                 if (use.alias or use.path.split(".")[-1]) == word:
                     return self.module(use.path)
-        # So doors named the crates below, before each name had one path.
+        # So facades named the crates below, before each name had one path.
         if word.removesuffix("_lemmas") in self.crates and here.count(".") == 1:
             kind = "proofs" if word.endswith("_lemmas") else here.split(".")[1]
             return f"{word.removesuffix('_lemmas')}.{kind}"
@@ -203,8 +204,8 @@ class Repository:
                 sys.exit(f"tools/imports.py: {reader}: what is {path}.{first}?")
             yield name, origin
 
-    def open_doors(self, readers, crates):
-        """Fills `self.doors`: what each of these crates is to pass on, of lemmas what other crates
+    def open_facades(self, readers, crates):
+        """Fills `self.facades`: what each of these crates is to pass on, of lemmas what other crates
         name, and of definitions also what its own proofs name; and what others do pass on."""
         counts = collections.Counter()
         for reader, uses in readers:
@@ -215,34 +216,34 @@ class Repository:
                     if of != crate or (kind, of_kind) == ("proofs", "specs"):
                         counts[origin] += 1
         for (module, name), count in sorted(counts.items(), key=lambda x: (-x[1], x[0])):
-            door = ".".join(module.split(".")[:2])
+            facade = ".".join(module.split(".")[:2])
             is_made = module not in self.modules and ".declared." not in module
-            if door not in self.modules or module == door or is_made or count < LEAST:
+            if facade not in self.modules or module == facade or is_made or count < LEAST:
                 continue
-            if name not in self.taken(door):
-                self.doors[door].setdefault(name, module)
-        for door in [x for x in self.modules if x.count(".") == 1]:
-            if door.split(".")[0] not in crates:
-                self.doors[door] = self.open_door(door)
-            elif door.endswith(".proofs") and len(self.doors[door]) < 10:
-                self.doors[door] = {}
+            if name not in self.taken(facade):
+                self.facades[facade].setdefault(name, module)
+        for facade in [x for x in self.modules if x.count(".") == 1]:
+            if facade.split(".")[0] not in crates:
+                self.facades[facade] = self.open_facade(facade)
+            elif facade.endswith(".proofs") and len(self.facades[facade]) < 10:
+                self.facades[facade] = {}
 
-    def open_door(self, door):
-        """What a door passes on as it stands."""
+    def open_facade(self, facade):
+        """What a facade passes on as it stands."""
         passed = {}
-        for use in self.modules[door].uses:
+        for use in self.modules[facade].uses:
             for name, path, first in use.brings() if use.passes_on() else ():
-                module, known = self.origin(self.from_here(door, path), first)
+                module, known = self.origin(self.from_here(facade, path), first)
                 if known == name:
                     passed[name] = module
         return passed
 
     @functools.lru_cache(maxsize=None)
-    def taken(self, door):
-        """Names that a door cannot pass on: its children have them, and what the kit makes there."""
-        names = {*self.modules[door].children, "declared", "contracts"}
-        if door.endswith(".proofs"):
-            folder = f"{ROOT}/crates/{door.split('.')[0]}"
+    def taken(self, facade):
+        """Names that a facade cannot pass on: its children have them, and what the kit makes there."""
+        names = {*self.modules[facade].children, "declared", "contracts"}
+        if facade.endswith(".proofs"):
+            folder = f"{ROOT}/crates/{facade.split('.')[0]}"
             names.update(os.listdir(f"{folder}/proofs"))
             with open(f"{folder}/src/lib.rt", encoding="utf-8") as file:
                 text = file.read()
@@ -251,22 +252,22 @@ class Repository:
                 names.update(re.findall(r"\w+", passed))
         return names
 
-    def door_lines(self, door):
+    def facade_lines(self, facade):
         lists = collections.defaultdict(list)
-        for name, module in self.doors.get(door, {}).items():
+        for name, module in self.facades.get(facade, {}).items():
             may_unfold = module in self.modules and self.modules[module].declares.get(name)
-            lists[module[len(door) + 1 :], "unfoldable " if may_unfold else ""].append(name)
+            lists[module[len(facade) + 1 :], "unfoldable " if may_unfold else ""].append(name)
         for (module, mark), names in sorted(lists.items()):
             yield from packed(in_order(names), f"{mark}pub use {module}.{{")
 
     def path(self, reader, origin):
         """By which module a file of `reader` names what `origin` is."""
         module, name = origin
-        door = ".".join(module.split(".")[:2])
-        is_passed = self.doors.get(door, {}).get(name) == module
-        is_of_proof = ".proofs" in reader and ".specs" in door
-        is_outside = door.split(".")[0] != reader.split(".")[0]
-        return door if is_passed and (is_outside or is_of_proof) else module
+        facade = ".".join(module.split(".")[:2])
+        is_passed = self.facades.get(facade, {}).get(name) == module
+        is_of_proof = ".proofs" in reader and ".specs" in facade
+        is_outside = facade.split(".")[0] != reader.split(".")[0]
+        return facade if is_passed and (is_outside or is_of_proof) else module
 
 
 def packed(items, before, after="}"):
@@ -319,11 +320,11 @@ def lists_of(names, crates, before="use ", after="}"):
             lines[module].append(last)
     # Rests stand together with others of their crate and folder, and else with any.
     alone = []
-    for door in sorted({".".join(module.split(".")[:2]) for module, _ in rests}):
-        head = f"{before}Rattle.{door}.{{"
-        mine = [rest for rest in rests if f"{rest[0]}.".startswith(f"{door}.")]
-        for one in together(mine, door, COLUMNS - len(head) - len(after)):
-            text = list_of(one, len(door) + 1)
+    for facade in sorted({".".join(module.split(".")[:2]) for module, _ in rests}):
+        head = f"{before}Rattle.{facade}.{{"
+        mine = [rest for rest in rests if f"{rest[0]}.".startswith(f"{facade}.")]
+        for one in together(mine, facade, COLUMNS - len(head) - len(after)):
+            text = list_of(one, len(facade) + 1)
             if len(one) == 1 or len(text) < COLUMNS // 3:
                 alone += one
             else:
@@ -360,18 +361,29 @@ class Header:
             for use in module.uses
             if use.names is None and use.alias and use.path.endswith((".Goals", ".Given"))
         }
+        self.paths = {
+            use.alias: use.path
+            for use in module.uses
+            if use.alias in self.aliases.values()
+        }
         for item in module.header:
             if isinstance(item, Use):
                 self.add(item)
             else:
                 self.kept.append(item)
 
+    def goals_path(self, alias):
+        """What a function's goals are brought through: `goal.at` knows only those that are brought
+        by the path of their module."""
+        uses_places = any(f"{alias}.at." in line for line in self.module.rest)
+        return self.paths[alias] if uses_places else alias
+
     def add(self, use):
         """Takes an import."""
         if use.path in self.aliases.values():
             self.short[use.path].update(use.names)
         elif not use.path.startswith("Rattle") and use.passes_on():
-            # A line of a door, which is written anew.
+            # A line of a facade, which is written anew.
             return
         elif not self.repository.is_own(use):
             self.foreign.append(use.text)
@@ -398,8 +410,8 @@ class Header:
             head.append(kept.pop(0))
         lines = lists_of(self.names, self.repository.crates)
         for alias in sorted(self.short):
-            kept += packed(in_order(self.short[alias]), f"use {alias}.{{")
-        kept += self.repository.door_lines(self.key)
+            kept += packed(in_order(self.short[alias]), f"use {self.goals_path(alias)}.{{")
+        kept += self.repository.facade_lines(self.key)
         return "\n".join([*head, *self.foreign, *lines, *kept, *self.module.rest])
 
 
@@ -538,7 +550,7 @@ def main(words):
     if unknown:
         sys.exit(f"tools/imports.py: crates.txt has no {' '.join(unknown)}")
     ours = [x for x in repository.crates if x not in USERS and x in (chosen or repository.crates)]
-    repository.open_doors(readers(repository), ours)
+    repository.open_facades(readers(repository), ours)
     new = list(texts(repository, ours))
     new.append((f"{ROOT}/crates.txt", dependencies(ours, new)))
     changed = []

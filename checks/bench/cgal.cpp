@@ -1,7 +1,8 @@
 // cgal KIND ORDER N [REMOVALS [HINTS]]: what checks/bench/benchmark does, with CGAL's triangulations, over the
 // same points. KIND is plain (each search begins at the face where the last one ended), hierarchy
-// (of triangulations), or range: a plain one into which all points are inserted by one call, and no
-// other call is made.
+// (of triangulations), range: a plain one into which all points are inserted by one call, or only: a
+// plain one into which they are inserted one after another. With range and only, vertices are removed
+// then, and no other call is made.
 #include <CGAL/Delaunay_triangulation_2.h>
 #include <CGAL/Exact_predicates_inexact_constructions_kernel.h>
 #include <CGAL/Triangulation_hierarchy_2.h>
@@ -87,16 +88,36 @@ template <class T> static void run(Order order, uint32_t count, uint32_t removal
     tell_counts("left", t);
 }
 
-static void run_range(Order order, uint32_t count) {
+// Removes random vertices of a list, as the benchmark does after `bulk` and `only`.
+static void remove_random(Plain& t, std::vector<Plain::Vertex_handle> handles, Random& random, uint32_t removals) {
+    uint64_t removed = 0;
+    double start = nanoseconds();
+    for (; removed < removals && !handles.empty(); removed++) {
+        size_t index = random.below(handles.size());
+        t.remove(handles[index]);
+        handles[index] = handles.back();
+        handles.pop_back();
+    }
+    fprintf(stderr, "remove %.0f ns\n", (nanoseconds() - start) / std::max<uint64_t>(removed, 1));
+    printf("removed: %llu vertices\n", (unsigned long long)removed);
+    if (t.number_of_vertices() == 0) tell_counts("left", t);
+}
+
+static void run_insertion(bool at_once, Order order, uint32_t count, uint32_t removals) {
     Random random;
     std::vector<Kernel::Point_2> list;
     for (auto& p : points(order, count, random)) list.push_back(to_cgal(p));
+    std::vector<Plain::Vertex_handle> handles;
     uint64_t before = status("VmRSS:");
     double start = nanoseconds();
     Plain t;
-    t.insert(list.begin(), list.end());
+    Plain::Face_handle face;
+    if (at_once) t.insert(list.begin(), list.end());
+    else for (auto& p : list) face = t.insert(p, face)->face();
     tell_insertion(start, before, count);
     tell_counts("inserted", t);
+    for (auto it = t.finite_vertices_begin(); it != t.finite_vertices_end(); ++it) handles.push_back(it);
+    remove_random(t, handles, random, removals);
 }
 
 int main(int count, char** words) {
@@ -105,7 +126,8 @@ int main(int count, char** words) {
     Order order = (Order)order_named(words[2]);
     uint32_t points = strtoul(words[3], nullptr, 10);
     uint32_t removals = count > 4 ? strtoul(words[4], nullptr, 10) : points;
-    if (!strcmp(words[1], "range")) run_range(order, points);
+    bool at_once = !strcmp(words[1], "range");
+    if (at_once || !strcmp(words[1], "only")) run_insertion(at_once, order, points, removals);
     else if (!strcmp(words[1], "hierarchy")) run<Hierarchy>(order, points, removals);
     else run<Plain>(order, points, removals);
 }

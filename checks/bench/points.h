@@ -31,7 +31,7 @@ struct Random {
 };
 
 // The orders of checks/bench/benchmark/orders.
-enum Order { RANDOM, HILBERT, ROWS, SCATTERED, CLUSTERED, CIRCLE };
+enum Order { RANDOM, HILBERT, ROWS, SCATTERED, CLUSTERED, CIRCLE, LINE };
 
 static uint64_t hilbert_key(uint64_t x, uint64_t y) {
     uint64_t key = 0;
@@ -91,6 +91,7 @@ static std::vector<Point> points(Order order, uint32_t count, Random& random) {
         if (order == RANDOM) keyed.push_back({i, anywhere(random).first});
         else if (order == CLUSTERED) keyed.push_back({i, in_cluster(random)});
         else if (order == CIRCLE) keyed.push_back({i, on_circle(random)});
+        else if (order == LINE) keyed.push_back({i, {(int64_t)i * 16, (int64_t)i * 32}});
         else if (order == ROWS) keyed.push_back({i, cell});
         else if (order == SCATTERED) { uint64_t key = random.number(); keyed.push_back({key, cell}); }
         else { auto drawn = anywhere(random); keyed.push_back({drawn.second, drawn.first}); }
@@ -104,6 +105,7 @@ static std::vector<Point> queries(Order order, uint32_t count, Random& random) {
     for (uint32_t i = 0; i < count; i++) {
         if (order == RANDOM || order == CLUSTERED || order == CIRCLE) keyed.push_back({i, anywhere(random).first});
         else if (order == HILBERT) { auto drawn = anywhere(random); keyed.push_back({drawn.second, drawn.first}); }
+        else if (order == LINE) keyed.push_back({i, {(int64_t)i * 16, (int64_t)i * 32 + (int64_t)random.below(2)}});
         else { int64_t x = random.below(bound), y = random.below(bound); keyed.push_back({i, {x, y}}); }
     }
     return in_order(keyed);
@@ -128,7 +130,7 @@ static uint64_t status(const char* name) {
 
 // Which order a word names, or -1.
 static int order_named(const std::string& name) {
-    const std::vector<std::string> names{"random", "hilbert", "rows", "scattered", "clustered", "circle"};
+    const std::vector<std::string> names{"random", "hilbert", "rows", "scattered", "clustered", "circle", "line"};
     auto found = std::find(names.begin(), names.end(), name);
     return found == names.end() ? -1 : (int)(found - names.begin());
 }

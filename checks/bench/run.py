@@ -33,6 +33,11 @@ for shapes, its point set. CASE is ORDER N and, of constraints, `rings`, `tree` 
 are in each. `instructions` or `misses` in place of TIMES counts these. `checks/bench/run.py beside PROGRAM ..`, before all other
 words but `with PROGRAM`, takes part in these too: PROGRAM is run by the words of checks/bench/constrained.cpp, and has to find
 and to print the same.
+
+`checks/bench/run.py peers [TIMES [ROW [N]]]` measures what another library was once the fastest in, each row of PEER_ROWS
+beside each program that does the same: medians of TIMES rounds in turn, the best peer, and ours divided by it. `peers counts
+[ROW [N]]` counts instructions and misses of these in place of nanoseconds, at the least of the row's sizes if none is given.
+ROW is the number of a row, from 1; N may be 10000000, which no row has by itself.
 """
 import glob
 import os
@@ -87,6 +92,27 @@ QUESTIONS = {
     "shapes": [["random", count, "shapes", elements] for count in ("100000", "1000000")
                for elements in ("10", "1000", "100000") if count != elements],
 }
+
+# What is measured, by which figure, at which sizes, and the words of each program, {n} being the size: the programs are
+# `benchmark`, and those of checks/bench/*.cpp.
+PEER_ROWS = [
+    ("remove all after insert_all, last used", "remove", ["100000", "1000000"],
+     {"ours": "benchmark random {n} {n} bulk", "CGAL": "cgal range random {n}"}),
+    ("remove all after single insertions, last used", "remove", ["10000", "100000"],
+     {"ours": "benchmark random {n} {n} only", "CGAL": "cgal only random {n}"}),
+    ("remove all, hierarchy by 16", "remove", ["10000", "100000", "1000000"],
+     {"ours": "benchmark random {n} {n} 16", "CGAL hierarchy": "cgal hierarchy random {n}"}),
+    ("insert sorted points of one line", "insert", ["10000", "1000000"],
+     {"ours": "benchmark line {n} 0 only", "CGAL": "cgal only line {n} 0"}),
+    *((f"insert_all, {order}", "insert", ["10000", "100000", "1000000"],
+       {"ours": f"benchmark {order} {{n}} 0 bulk", "CGAL": f"cgal range {order} {{n}} 0",
+        "delaunator": f"delaunator {order} {{n}}"}) for order in ("random", "rows", "hilbert", "clustered")),
+    ("a line within a circle of vertices", "inside", ["10000", "100000"],
+     {"ours": "benchmark circle {n} lines", "CGAL": "constrained circle {n} lines"}),
+    # At 10^6 CGAL's point set takes a quarter of an hour to be filled in this order.
+    ("1,000 vertices found, random order", "vertices_in_circle", ["100000"],
+     {"ours": "benchmark random {n} shapes 1000", "CGAL": "constrained random {n} shapes 1000"}),
+]
 
 
 def prove(folder):
@@ -232,6 +258,56 @@ def run_bulk(words, ours):
             compare_bulk(commands, case, times)
 
 
+def compile_peers(folder, ours):
+    """The programs of PEER_ROWS by name."""
+    programs = {"benchmark": ours or prove(f"{folder}/benchmark")}
+    for name, libraries in (("cgal", LIBRARIES), ("constrained", LIBRARIES), ("delaunator", [])):
+        programs[name] = f"{folder}/{name}"
+        subprocess.run(["g++", *FLAGS, f"{HERE}/{name}.cpp", "-o", programs[name], *libraries], check=True)
+    return programs
+
+
+def peer_cells(figures):
+    """A figure of each program, the best peer, and how many times its figure ours is."""
+    peers = {name: number for name, number in figures.items() if name != "ours"}
+    best = min(peers, key=peers.get)
+    shown = ", ".join(f"{name} {number:.4g}" for name, number in figures.items())
+    return f"{shown} | {best} | {figures['ours'] / max(peers[best], 1e-9):.2f}"
+
+
+def time_row(commands, figure, times):
+    """The medians of a figure of each program, run in turn."""
+    runs = {name: [] for name in commands}
+    for _ in range(times):
+        for name, (command, *case) in commands.items():
+            runs[name].append(measure([command], case)[1][figure])
+    return {name: statistics.median(it) for name, it in runs.items()}
+
+
+def tell_row(name, size, commands, figure, times, folder):
+    """Prints a row: nanoseconds a call, or counts of all calls where no number says how often to run."""
+    if times:
+        print(f"| {name} | {size} | ns | {peer_cells(time_row(commands, figure, times))} |", flush=True)
+        return
+    for what, (options, events) in COUNTED.items():
+        totals = {program: count_parts([command], case, folder, options, events)[1][figure]
+                  for program, (command, *case) in commands.items()}
+        print(f"| {name} | {size} | {what} | {peer_cells(totals)} |", flush=True)
+
+
+def run_peers(words, ours):
+    times = 0 if words[:1] == ["counts"] else int(words[0]) if words else 5
+    chosen = [PEER_ROWS[int(words[1]) - 1]] if words[1:] else PEER_ROWS
+    with tempfile.TemporaryDirectory() as folder:
+        programs = compile_peers(folder, ours)
+        print("| What | Size | Figure | All | The best peer | ours / it |\n|---|---|---|---|---|---|")
+        for name, figure, sizes, called in chosen:
+            for size in words[2:] or (sizes if times else sizes[:1]):
+                lines = {program: line.format(n=size).split() for program, line in called.items()}
+                commands = {program: [programs[first], *rest] for program, (first, *rest) in lines.items()}
+                tell_row(name, size, commands, figure, times, folder)
+
+
 def measure(command, case):
     """What a run found, and its figures by name."""
     ran = subprocess.run([*command, *case], capture_output=True, text=True, check=True, env=ENVIRONMENT)
@@ -322,8 +398,8 @@ def main(words):
             for case in [words[1:]] if words[1:] else CASES:
                 compare_counts(commands, case, folder, *COUNTED[words[0]])
         return
-    if words[:1] == ["bulk"]:
-        run_bulk(words[1:], ours)
+    if words[:1] in (["bulk"], ["peers"]):
+        (run_bulk if words[0] == "bulk" else run_peers)(words[1:], ours)
         return
     if words[:1] == ["huge"]:
         ENVIRONMENT["GLIBC_TUNABLES"] = f"{SETTINGS}:glibc.malloc.hugetlb=1"

@@ -108,7 +108,8 @@ static void call_with_statuses() {
     std::size_t at = 0;
     EXPECT(triangulate(points, {}, faces, at) == TEVASULIM_OK && faces.size() == 10);
     EXPECT(triangulate(points, {{0, 8}}, faces, at) == TEVASULIM_NO_SUCH_POINT && at == 0);
-    EXPECT(!std::strcmp(text_of(TEVASULIM_NEGATIVE), "a squared radius is negative"));
+    const char *negative = "a squared radius is negative: it has to be 0 or more";
+    EXPECT(!std::strcmp(text_of(TEVASULIM_NEGATIVE), negative));
     EXPECT(tevasulim_version() == TEVASULIM_VERSION);
     std::printf("proved: %s\n", is_proved() ? "yes" : "no");
 }

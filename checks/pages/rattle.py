@@ -10,9 +10,9 @@ SURFACE = {
     "Triangulations": "Triangulation DelaunayTriangulation ConstrainedDelaunayTriangulation "
     "TriangulationCore FloatTriangulation CdtEdge InsertionError ConstraintError *delaunay_queries",
     "Many vertices, and lists of edits": "InsertAll BulkInsertion BulkInsertionError Edit Outcome "
-    "Replayable *delaunay_journal *delaunay_snap",
+    "Replayable *delaunay_journal",
     "Location, lines and sight": "PositionInTriangulation LineIntersectionIterator Intersection "
-    "ConflictingEdgesIterator HasMesh FreeFaces *delaunay_shapes",
+    "ConflictingEdgesIterator HasMesh FreeFaces *delaunay_shapes *delaunay_ways",
     "Shapes": "DistanceMetric CircleMetric RectangleMetric EdgesInShapeIterator "
     "VerticesInShapeIterator",
     "Points and tests": "Point2 HasPosition SpadeNum LineSideInfo PointProjection PlaneTests "

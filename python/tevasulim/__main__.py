@@ -39,7 +39,9 @@ def add_input(it: argparse.ArgumentParser) -> None:
         "--columns",
         help="the columns of a table for x, y and heights: their names, as x,y,z, or 0,1,2",
     )
-    it.add_argument("--segments", help="a table of constraints: two rows of points each, from 0 on")
+    it.add_argument(
+        "--segments", help="a table of constraints: the rows of two points each, counted from 0"
+    )
     it.add_argument("--height", help="the column of a layer with the heights, instead of Z")
     it.add_argument("--layer", help="the layer of a file with several")
     it.add_argument("--scale", type=int, help=SCALE)

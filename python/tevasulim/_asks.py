@@ -1,20 +1,20 @@
 """What a tile asks other tiles: for points in the disks of its faces that it does not know."""
 from __future__ import annotations
 
-from typing import TYPE_CHECKING, Any, Tuple
+from typing import TYPE_CHECKING, Any, List, NamedTuple, Tuple
 
 import numpy as np
 
 from ._disks import Disks
 from ._segments import meet
-from ._tile_files import Neighbour
+from ._tile_files import BLOCK, Neighbour
 from ._types import NDArray
 
 if TYPE_CHECKING:
     from ._tile import Part
 
-# How many blocks of points are looked at together.
-BLOCKS_AT_ONCE = 4096
+# How many blocks of points are looked at together, and how many circles.
+BLOCKS_AT_ONCE, AT_ONCE = 4096, 1024
 
 
 class Given:
@@ -37,54 +37,81 @@ class Given:
         return np.concatenate(self._points)[first], numbers
 
 
-def ask_tile(
-    tile: Neighbour,
-    part: Part,
-    asked: Disks,
-    rows: NDArray[Any],
-    given: Given,
-    deepest: int,
-) -> None:
-    """The same of one tile, the nearest block first, and then ever more of them."""
+class Pairs(NamedTuple):
+    """Disks, blocks of tiles that each may reach, and these tiles, the nearest block of each disk
+    first."""
+
+    rows: NDArray[Any]
+    tiles: NDArray[Any]
+    blocks: NDArray[Any]
+
+    def some(self, are_some: NDArray[Any]) -> Pairs:
+        return Pairs(*(it.compress(are_some) for it in self))
+
+
+def pairs_at(tile: Neighbour, part: Part, asked: Disks, rows: NDArray[Any]) -> List[NDArray[Any]]:
+    """Some disks and the blocks of a tile that each may reach, as columns of both, and how near
+    the block is."""
     wide = asked.radii[rows, None]
     low, high = (asked.centers[rows] - wide).min(0), (asked.centers[rows] + wide).max(0)
     near = part.are_open(tile.tile) & meet(tile.boxes(), np.concatenate([low, high]))
     is_open = np.flatnonzero(near)
     ranks = asked.ranks(rows, tile.boxes()[is_open])
     row, block = np.nonzero(ranks < 0)
-    order = np.lexsort((ranks[row, block], row))
-    block = is_open[block]
-    row, block = row[order], block[order]
+    return [rows[row], is_open[block], ranks[row, block]]
+
+
+def pairs_of(
+    tiles: List[Neighbour], part: Part, asked: Disks, rows: NDArray[Any], at: NDArray[Any]
+) -> Pairs:
+    """The same of disks and a tile each."""
+    found = [[np.empty(0, np.intp), np.empty(0, np.intp), np.empty(0)]]
+    of_tiles = [np.empty(0, np.intp)]
+    for tile in np.unique(at).tolist():
+        asking = rows[at == tile]
+        for begin in range(0, len(asking), AT_ONCE):
+            found.append(pairs_at(tiles[tile], part, asked, asking[begin : begin + AT_ONCE]))
+            of_tiles.append(np.full(len(found[-1][0]), tile))
+    row, block, rank = (np.concatenate(it) for it in zip(*found))
+    order = np.lexsort((rank, row))
+    return Pairs(row[order], np.concatenate(of_tiles)[order], block[order])
+
+
+def ask_tiles(
+    tiles: List[Neighbour], part: Part, asked: Disks, pairs: Pairs, given: Given, deepest: int
+) -> None:
+    """The same of the blocks of these pairs, the nearest of each disk first, and then ever more."""
     # Which of its row's blocks each one is.
-    turn = np.arange(len(row)) - np.searchsorted(row, row)
+    turn = np.arange(len(pairs.rows)) - np.searchsorted(pairs.rows, pairs.rows)
     first, width = 0, 1
-    while first <= turn.max(initial=-1):
-        is_asked = (turn >= first) & (turn < first + width) & ~given.is_done[rows[row]]
-        ask_blocks(tile, part, asked, rows[row[is_asked]], block[is_asked], given, deepest)
-        count = max(len(np.unique(row[is_asked])), 1)
-        first, width = first + width, min(2 * width, max(BLOCKS_AT_ONCE // count, 1))
+    while len(turn):
+        is_asked = turn < first + width
+        some = pairs.some(is_asked)
+        ask_blocks(tiles, part, asked, some, given, deepest)
+        count = max(len(np.unique(some.rows)), 1)
+        first, width = first + width, min(4 * width, max(BLOCKS_AT_ONCE // count, 1))
+        is_left = ~is_asked & ~given.is_done[pairs.rows]
+        pairs, turn = pairs.some(is_left), turn.compress(is_left)
 
 
 def ask_blocks(
-    tile: Neighbour,
-    part: Part,
-    asked: Disks,
-    rows: NDArray[Any],
-    blocks: NDArray[Any],
-    given: Given,
-    deepest: int,
+    tiles: List[Neighbour], part: Part, asked: Disks, pairs: Pairs, given: Given, deepest: int
 ) -> None:
     """The same of pairs of a disk and a block."""
-    if not len(rows):
+    if not len(pairs.rows):
         return
-    points, numbers = tile.blocks(blocks)
-    signs, depths = asked.depths(rows, points)
+    points = np.empty((len(pairs.rows), BLOCK, 2), np.int32)
+    numbers = np.empty(points.shape[:2], np.int64)
+    for tile in np.unique(pairs.tiles).tolist():
+        rows = np.flatnonzero(pairs.tiles == tile)
+        points[rows], numbers[rows] = tiles[tile].blocks(pairs.blocks[rows])
+    signs, depths = asked.depths(pairs.rows, points)
     # Without constraints a known point is never inside.
     maybe = np.nonzero(signs >= 0 if len(part.segments) else signs == 0)
     is_known = part.is_known(points[maybe])
     signs[maybe[0][is_known], maybe[1][is_known]] = -1
-    take_inside(points, numbers, signs, depths, rows, given, deepest)
-    take_border(points, numbers, signs, rows, given)
+    take_inside(points, numbers, signs, depths, pairs.rows, given, deepest)
+    take_border(points, numbers, signs, pairs.rows, given)
 
 
 def take_inside(

@@ -96,45 +96,30 @@ def circles(
     return np.stack([ax + x, ay + y, radii, wide])
 
 
-# Primes below 2**31. Their product times 2**64 is above 2**126, and a determinant of the circle
-# test is below 2**125 in absolute value: so it is 0 exactly where it leaves 0 by all three.
+# Primes below 2**31. Their product times 2**64 is above 2**126, and what `are_zero` is asked about
+# is below 2**124 in absolute value: so it is 0 exactly where it leaves 0 by all three.
 PRIMES = 2**31 - 1, 2**31 - 19
-# A determinant that leaves 0 by 2**64 and is nearer to 0 than that is 0.
+# A whole number that leaves 0 by 2**64 and is nearer to 0 than that is 0.
 WRAPS = 2.0**63
 
 
-def are_on_circle(columns: List[Any]) -> NDArray[Any]:
-    """Whether the circle test of differences to the fourth point, columns of int64, is exactly 0:
-    then the fourth point is on the circle of the other three."""
-    # A product that passes 64 bits keeps what it leaves by 2**64.
-    is_on = determinant(columns) == 0
-    rows = np.flatnonzero(is_on)
-    if len(rows):
-        floats = [it.take(rows).astype(np.float64) for it in columns]
-        depths, errors = np.abs(determinant(floats)), errors_of(floats)
-        is_on[rows] = depths <= errors
-        rows = rows[(depths <= errors) & (depths + errors >= WRAPS)]
-    for prime in PRIMES if len(rows) else ():
-        is_on[rows] &= remainder([it[rows] % prime for it in columns], prime) == 0
-    given: NDArray[Any] = is_on
-    return given
-
-
-def errors_of(columns: List[Any]) -> NDArray[Any]:
-    """More than a rounded determinant can be off: one number for all where that is small."""
-    most = max(float(max(it.max(), -it.min())) for it in columns)
-    error = ERROR * 12 * most**4
-    return np.array(error) if error < WRAPS / 2 else ERROR * size_of(columns)
-
-
-def remainder(columns: List[Any], prime: int) -> NDArray[Any]:
-    """What the determinant of the circle test leaves by a prime below 2**31."""
-    ax, ay, bx, by, cx, cy = columns
-    a, b, c = ((x * x + y * y) % prime for x, y in ((ax, ay), (bx, by), (cx, cy)))
-    turns = (bx, cy, by, cx), (cx, ay, cy, ax), (ax, by, ay, bx)
-    u, v, w = ((x * y - z * q) % prime for x, y, z, q in turns)
-    given: NDArray[Any] = ((a * u) % prime + (b * v) % prime + (c * w) % prime) % prime
-    return given
+def are_zero(a: NDArray[Any], b: NDArray[Any], c: NDArray[Any], d: NDArray[Any]) -> NDArray[Any]:
+    """Where a b + c d is exactly 0, of columns of int64 of at most 2^61."""
+    # A product that passes 64 bits keeps what it leaves by 2^64.
+    are_0: NDArray[Any] = a * b + c * d == 0
+    rows = np.flatnonzero(are_0)
+    largest = [max(int(it.max(initial=0)), -int(it.min(initial=0))) for it in (a, b, c, d)]
+    if largest[0] * largest[1] + largest[2] * largest[3] < WRAPS or not len(rows):
+        return are_0
+    a, b, c, d = (it.take(rows) for it in (a, b, c, d))
+    ab, cd = a.astype(np.float64) * b, c.astype(np.float64) * d
+    sums, errors = np.abs(ab + cd), ERROR * (np.abs(ab) + np.abs(cd))
+    are_0[rows] = sums <= errors
+    some = np.flatnonzero((sums <= errors) & (sums + errors >= WRAPS))
+    for prime in PRIMES if len(some) else ():
+        a_b, c_d = ((x[some] % prime) * (y[some] % prime) % prime for x, y in ((a, b), (c, d)))
+        are_0[rows[some]] &= (a_b + c_d) % prime == 0
+    return are_0
 
 
 class Faces(NamedTuple):
@@ -147,92 +132,135 @@ class Faces(NamedTuple):
     is_constraint: NDArray[Any]
 
 
-def centers_of(
-    x: NDArray[Any], y: NDArray[Any], corners: NDArray[Any]
-) -> Tuple[NDArray[Any], NDArray[Any]]:
-    """For each face the x of its circle's centre as a fraction, top and bottom by what they leave
-    by 2^64."""
-    tops = np.empty(corners.shape[1], np.int64)
-    bottoms = np.empty_like(tops)
-    for begin in range(0, len(tops), TOGETHER):
+class Angles(NamedTuple):
+    """Of faces that turn left: for each corner the scalar product of the vectors to the two others,
+    of shape (3, f); the sum of these three; and twice the area: each by what it leaves by 2^32. The
+    cotangent of the angle at a corner is its scalar product by twice the area."""
+
+    products: NDArray[Any]
+    sums: NDArray[Any]
+    areas: NDArray[Any]
+
+
+def angles_in(points: NDArray[Any], corners: NDArray[Any]) -> Angles:
+    count = corners.shape[1]
+    found = Angles(np.empty((3, count), np.int32), *np.empty((2, count), np.int32))
+    x, y = (it.astype(np.int32) for it in points.T)
+    for begin in range(0, count, TOGETHER):
         some = slice(begin, begin + TOGETHER)
-        a, b, c = (it.astype(np.intp) for it in corners[:, some])
+        a, b, c = corners[:, some].astype(np.intp)
         ax, ay = x.take(a), y.take(a)
         ux, uy, vx, vy = x.take(b) - ax, y.take(b) - ay, x.take(c) - ax, y.take(c) - ay
-        twice = (ux * vy - uy * vx) * 2
-        tops[some] = ax * twice + vy * (ux * ux + uy * uy) - uy * (vx * vx + vy * vy)
-        bottoms[some] = twice
-    return tops, bottoms
+        at_a = ux * vx + uy * vy
+        at_b, at_c = ux * ux + uy * uy - at_a, vx * vx + vy * vy - at_a
+        for column, values in zip(found.products, (at_a, at_b, at_c)):
+            column[some] = values
+        found.sums[some] = at_a + at_b + at_c
+        found.areas[some] = ux * vy - uy * vx
+    return found
 
 
-# For each corner the faces that are joined with the face opposite it.
-Joined = List[NDArray[Any]]
+class Pairs(NamedTuple):
+    """Pairs of faces with a side between them that is no constraint and with the same circle: the
+    first of both and the other, and the place of the corner opposite that side in each."""
+
+    faces: NDArray[Any]
+    others: NDArray[Any]
+    places: NDArray[Any]
+    backs: NDArray[Any]
 
 
-def joined(faces_of: Faces) -> Joined:
-    """The faces whose circle is that of the face beyond a side that is no constraint, by the corner
-    opposite that side."""
-    x, y = np.ascontiguousarray(faces_of.points.T)
-    centers, sums = centers_of(x, y, faces_of.corners), faces_of.corners.sum(0, dtype=np.intp)
-    found: List[List[Any]] = [[np.empty(0, np.intp)] for _ in range(3)]
+def joined(faces_of: Faces) -> Pairs:
+    """All such pairs, each once."""
+    angles = angles_in(faces_of.points, faces_of.corners)
+    found = [(np.empty(0, np.intp), np.empty(0, np.intp), np.empty(0, np.intp))]
     for begin in range(0, faces_of.corners.shape[1], TOGETHER):
         for k in range(3):
-            faces, others = maybe_joined(faces_of, centers, begin, k)
-            if not len(faces):
-                continue
-            own = [faces_of.corners[it].take(faces).astype(np.intp) for it in turned(k)]
-            # The corner of the other face that is none of this one.
-            far = sums.take(others) - own[1] - own[2]
-            far_x, far_y = x.take(far), y.take(far)
-            vectors = [vector for it in own for vector in (x.take(it) - far_x, y.take(it) - far_y)]
-            is_on = are_on_circle(vectors)
-            faces, others = faces.compress(is_on), others.compress(is_on)
-            found[k].append(faces)
-            for back, across in enumerate(faces_of.neighbors):
-                found[back].append(others.compress(across.take(others) == faces))
-    return [np.concatenate(it) for it in found]
+            faces, others = maybe_pairs(faces_of, angles, begin, k)
+            if len(faces):
+                found.append((faces, others, np.full(len(faces), k)))
+    faces, others, places = (np.concatenate(it) for it in zip(*found))
+    second, third = (it.take(others) == faces for it in faces_of.neighbors[1:])
+    pairs = Pairs(faces, others, places, second + 2 * third)
+    is_on, axes = np.zeros(len(faces), bool), np.ascontiguousarray(faces_of.points.T)
+    for begin in range(0, len(faces), TOGETHER):
+        some = slice(begin, begin + TOGETHER)
+        is_on[some] = are_on_circle(faces_of, axes, Pairs(*(it[some] for it in pairs)))
+    return Pairs(*(it.compress(is_on) for it in pairs))
 
 
-def turned(k: int) -> Tuple[int, int, int]:
-    """A corner and the next ones."""
-    return k, (k + 1) % 3, (k + 2) % 3
-
-
-def maybe_joined(
-    faces_of: Faces, centers: Tuple[NDArray[Any], NDArray[Any]], begin: int, k: int
+def maybe_pairs(
+    faces_of: Faces, angles: Angles, begin: int, k: int
 ) -> Tuple[NDArray[Any], NDArray[Any]]:
-    """Of some faces from `begin` on those that may be joined with the face opposite a corner, since
-    what is known of their centres agrees, and these others. Of two faces the first is named."""
+    """Some faces from `begin` on, and those opposite the corner k of each, where both may have the
+    same circle, as is known by what is left by 2^32: the angles opposite their side are 180 degrees
+    together, so that the cotangents add up to 0."""
     some = slice(begin, begin + TOGETHER)
-    tops, bottoms = centers
     others = faces_of.neighbors[k, some].astype(np.intp)
-    here = tops[some] * bottoms.take(others, mode="wrap")
-    there = bottoms[some] * tops.take(others, mode="wrap")
-    faces = np.flatnonzero(here == there)
-    others = others.take(faces)
-    faces += begin
-    is_first = (others > faces) & ~faces_of.is_constraint[k].take(faces)
-    return faces.compress(is_first), others.compress(is_first)
+    here = angles.products[k, some]
+    # The scalar product at the far corner is the sum there less the squared length of the side.
+    there = angles.sums.take(others, mode="wrap") - (angles.sums[some] - here)
+    sums = here * angles.areas.take(others, mode="wrap") + there * angles.areas[some]
+    rows = np.flatnonzero(sums == 0)
+    others = others.take(rows)
+    is_first = (others > rows + begin) & ~faces_of.is_constraint[k, some].take(rows)
+    return rows.compress(is_first) + begin, others.compress(is_first)
+
+
+def are_on_circle(faces_of: Faces, axes: NDArray[Any], pairs: Pairs) -> NDArray[Any]:
+    """Which pairs have the same circle, by x and y of all points."""
+    apex, start, end = turned(faces_of.corners, pairs.faces, pairs.places)
+    (far,) = turned(faces_of.corners, pairs.others, pairs.backs, 1)
+    words = []
+    for at, first, second in (apex, start, end), (far, end, start):
+        x, y = (axis.take(at) for axis in axes)
+        ux, uy, vx, vy = (axis.take(it) for it in (first, second) for axis in axes)
+        ux, uy, vx, vy = ux - x, uy - y, vx - x, vy - y
+        words += [ux * vx + uy * vy, ux * vy - uy * vx]
+    here, area, there, area_there = words
+    return are_zero(here, area_there, there, area)
+
+
+def turned(
+    corners: NDArray[Any], faces: NDArray[Any], places: NDArray[Any], count: int = 3
+) -> List[NDArray[Any]]:
+    """So many corners of some faces from the one at a place on, as columns."""
+    flat, begins = corners.ravel(), np.arange(3) * corners.shape[1]
+    return [
+        flat.take(np.roll(begins, -k).take(places) + faces).astype(np.intp) for k in range(count)
+    ]
+
+
+def from_least_pairs(corners: NDArray[Any], keys: NDArray[Any], pairs: Pairs) -> NDArray[Any]:
+    """The corners of all faces, where each pair is cut from its corner with the least key."""
+    apex, start, end = turned(corners, pairs.faces, pairs.places)
+    (far,) = turned(corners, pairs.others, pairs.backs, 1)
+    across = np.minimum(keys.take(apex), keys.take(far))
+    is_other = np.flatnonzero(across < np.minimum(keys.take(start), keys.take(end)))
+    apex, start, end, far = (it.take(is_other) for it in (apex, start, end, far))
+    given, faces, others = corners.copy(), pairs.faces.take(is_other), pairs.others.take(is_other)
+    for column, here, there in zip(given, (apex, start, far), (far, end, apex)):
+        column[faces], column[others] = here, there
+    return given
 
 
 def spread_over(
-    values: NDArray[Any],
-    join: Callable[[Any, Any], Any],
-    neighbors: NDArray[Any],
-    joins: Joined,
-    are_pairs: bool = False,
+    values: NDArray[Any], join: Callable[[Any, Any], Any], pairs: Pairs
 ) -> NDArray[Any]:
     """For each face what a function, as the least of two, makes of its value and those of all faces
-    that it is joined with, over others too. It is told where no face is joined with two."""
-    found = values.copy()
-    others = [across.take(it).astype(np.intp) for across, it in zip(neighbors, joins)]
-    while any(map(len, joins)):
-        before = found.copy()
+    that it is joined with, over others too."""
+    found, steps = values.copy(), []
+    for k in range(3):
         # A face stands in each list once.
-        for faces, beyond in zip(joins, others):
-            found[faces] = join(found.take(faces), found.take(beyond))
+        here, back = pairs.places == k, pairs.backs == k
+        steps.append((pairs.faces[here], pairs.others[here]))
+        steps.append((pairs.others[back], pairs.faces[back]))
+    while len(pairs.faces):
+        before = found.copy()
+        for faces, others in steps:
+            found[faces] = join(found.take(faces), found.take(others))
         # A face with this value knows one that has it.
-        if are_pairs or np.array_equal(found, before):
+        if np.array_equal(found, before):
             break
     return found
 
@@ -260,13 +288,15 @@ class Wanted(NamedTuple):
 
 def from_least(corners: NDArray[Any], keys: NDArray[Any]) -> List[NDArray[Any]]:
     """The corners of faces, each from the one with the least key on, as three columns."""
-    count = corners.shape[1]
-    of_all = [keys.take(it) for it in corners.astype(np.intp)]
-    least = np.minimum(np.minimum(of_all[0], of_all[1]), of_all[2])
-    turns = (of_all[1] == least).view(np.uint8) + (of_all[2] == least).view(np.uint8) * np.uint8(2)
-    flat, columns = corners.ravel(), np.arange(count)
-    ways = (np.array([(turn + k) % 3 * count for turn in range(3)], np.intp) for k in range(3))
-    return [flat.take(way.take(turns) + columns).astype(np.intp) for way in ways]
+    a, b, c = corners.astype(np.intp)
+    of_a, of_b, of_c = keys.take(a), keys.take(b), keys.take(c)
+    second = np.flatnonzero(of_b < np.minimum(of_a, of_c))
+    third = np.flatnonzero(of_c < np.minimum(of_a, of_b))
+    columns = []
+    for first, from_b, from_c in (a, b, c), (b, c, a), (c, a, b):
+        columns.append(first.copy())
+        columns[-1][second], columns[-1][third] = from_b.take(second), from_c.take(third)
+    return columns
 
 
 def least_of(corners: NDArray[Any], keys: NDArray[Any]) -> NDArray[Any]:
@@ -279,16 +309,14 @@ def least_of(corners: NDArray[Any], keys: NDArray[Any]) -> NDArray[Any]:
 
 
 def polygons(
-    faces_of: Faces, keys: NDArray[Any], joins: Joined, is_joined: NDArray[Any], wanted: Wanted
+    corners: NDArray[Any], keys: NDArray[Any], pairs: Pairs, is_joined: NDArray[Any], wanted: Wanted
 ) -> NDArray[Any]:
     """The polygons that joined faces make, each cut from its point with the least key."""
-    _, corners, neighbors, _ = faces_of
-    some = np.flatnonzero(is_joined[0] | is_joined[1] | is_joined[2])
+    some = np.flatnonzero(is_joined.any(0))
     first = np.zeros(corners.shape[1], np.intp)
     first[some] = least_of(corners.take(some, axis=1), keys)
     lesser = lambda a, b: a + (b - a) * (keys.take(b) < keys.take(a))  # noqa: E731
-    are_pairs = bool(is_joined.sum(0, dtype=np.int8).max() < 2)
-    first = spread_over(first, lesser, neighbors, joins, are_pairs)
+    first = spread_over(first, lesser, pairs)
     some = some.compress(wanted.is_least.take(first.take(some)))
     apex, rows = first.take(some), []
     of_all = [it.take(some).astype(np.intp) for it in corners]
@@ -305,15 +333,20 @@ def cells(faces_of: Faces, wanted: Wanted) -> NDArray[Any]:
     three, counterclockwise from that on."""
     points, corners = faces_of[:2]
     keys = (points[:, 0] << 32) + points[:, 1]
-    joins = joined(faces_of)
+    pairs = joined(faces_of)
+    count = corners.shape[1]
+    joins = np.bincount(pairs.faces, minlength=count) + np.bincount(pairs.others, minlength=count)
+    is_alone = (joins.take(pairs.faces) == 1) & (joins.take(pairs.others) == 1)
+    corners = from_least_pairs(corners, keys, Pairs(*(it.compress(is_alone) for it in pairs)))
+    pairs = Pairs(*(it.compress(~is_alone) for it in pairs))
     is_joined = np.zeros(corners.shape, bool)
-    for k, faces in enumerate(joins):
-        is_joined[k, faces] = True
+    is_joined[pairs.places, pairs.faces] = is_joined[pairs.backs, pairs.others] = True
     rows = [np.empty((0, 3), np.intp)]
-    for begin in range(0, corners.shape[1], TOGETHER):
-        some = slice(begin, begin + TOGETHER)
-        alone = corners[:, some].compress(~is_joined[:, some].any(0), axis=1)
-        rows.append(wanted.rows(from_least(alone, keys)))
-    if is_joined.any():
-        rows.append(polygons(faces_of, keys, joins, is_joined, wanted))
+    for begin in range(0, count, TOGETHER):
+        some = corners[:, begin : begin + TOGETHER]
+        if len(pairs.faces):
+            some = some.compress(~is_joined[:, begin : begin + TOGETHER].any(0), axis=1)
+        rows.append(wanted.rows(from_least(some, keys)))
+    if len(pairs.faces):
+        rows.append(polygons(corners, keys, pairs, is_joined, wanted))
     return np.concatenate(rows)

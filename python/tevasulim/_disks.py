@@ -48,6 +48,7 @@ class Disks:
         self.points, self.rows, found = points, corners, disks(points, corners)
         self.is_constraint = is_constraint
         self.centers, self.radii = found[:, :2], found[:, 3]
+        self.axes = np.ascontiguousarray(self.centers.T)
         # So that no box which a disk reaches is passed over.
         self.reaches_2 = self.radii * self.radii * (1 + 1e-12)
         self.hiders = np.zeros((0, len(found), 4), np.int64)
@@ -91,10 +92,10 @@ class Disks:
     def distances(self, rows: NDArray[Any], bounds: NDArray[Any]) -> NDArray[Any]:
         """The squared distance of boxes from centres, less the squared radius: below 0 where
         something of the box may be in the disk."""
-        x, y = self.centers[rows, 0], self.centers[rows, 1]
-        dx = np.maximum(np.maximum(bounds[:, 0] - x, x - bounds[:, 2]), 0)
-        dy = np.maximum(np.maximum(bounds[:, 1] - y, y - bounds[:, 3]), 0)
-        given: NDArray[Any] = dx * dx + dy * dy - self.reaches_2[rows]
+        x, y = (it.take(rows) for it in self.axes)
+        dx = np.maximum(np.maximum(bounds[..., 0] - x, x - bounds[..., 2]), 0)
+        dy = np.maximum(np.maximum(bounds[..., 1] - y, y - bounds[..., 3]), 0)
+        given: NDArray[Any] = dx * dx + dy * dy - self.reaches_2.take(rows)
         return given
 
     def hide(self, rows: NDArray[Any], bounds: NDArray[Any]) -> NDArray[Any]:

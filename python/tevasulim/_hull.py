@@ -8,7 +8,7 @@ import numpy as np
 from ._types import NDArray
 
 # Fewer points are taken as they are.
-FEW = 1000
+FEW = 100
 
 
 def turn(a: Tuple[int, ...], b: Tuple[int, ...], c: Tuple[int, ...]) -> int:
@@ -48,7 +48,7 @@ def without_dents(points: NDArray[Any], rows: NDArray[Any]) -> NDArray[Any]:
         is_corner = np.ones(len(rows), bool)
         np.greater(ax * by, ay * bx, out=is_corner[1:-1])
         count, rows = len(rows), rows[is_corner]
-        if 10 * len(rows) > 9 * count:
+        if 50 * len(rows) > 49 * count:
             break
     return rows
 

@@ -1,12 +1,13 @@
-"""A triangulation that the library keeps, of points by number, and edits that are whole.
+"""A triangulation that the library holds, of points by number, with edits that happen completely or
+not at all.
 
-An edit notes itself before the library is called, and takes the note away as its last step. A call
-that finds a note was preceded by an edit that an exception broke off, at any place: a signal, a
-refusal of memory, an error of the library. It reads from the library what is there. An insertion
-that was broken off is taken back; each other edit is one call of the library, which was made or
-was not. So a triangulation is always as it was before an edit or as it is after it.
+An edit leaves a note before it calls the library, and removes the note as its last step. So a call
+that finds a note comes after an edit that an exception broke off: a signal, a failed allocation, an
+error of the library. The call then reads from the library what is there. It undoes an insertion
+that was broken off; each other edit is one call of the library, which was made or was not. So a
+triangulation is always as it was before an edit or as it is after it.
 
-The library keeps the number of each vertex's point, plus one: 0 is what an insertion gives."""
+The library stores the number of each vertex's point, plus one: 0 is what an insertion gives."""
 from __future__ import annotations
 
 import operator
@@ -57,7 +58,7 @@ class Change(NamedTuple):
 
 
 class Kept:
-    """Points by number, as whole numbers, over what the library keeps."""
+    """Points by number, as whole numbers, over what the library holds."""
 
     def __init__(self, is_constrained: bool) -> None:
         self._blank(is_constrained)
@@ -125,8 +126,8 @@ class Kept:
             self._edit = None
 
     def _ready(self) -> None:
-        """Each method begins with this: a closed triangulation is refused, and what an exception
-        broke off is brought in order."""
+        """Each method begins with this: it refuses a closed triangulation, and puts in order what
+        an exception broke off."""
         if not self._mesh.is_open:
             raise ClosedError("the triangulation is closed: make a new one")
         if self._edit is not None:
@@ -174,7 +175,7 @@ class Kept:
     # What an exception broke off.
 
     def _settle(self, edit: Union[Insertion, Change]) -> None:
-        """Brings in order what an edit left. It may be broken off itself, and begun again."""
+        """Puts in order what an edit left. It may be broken off itself, and begin again."""
         self._made = {}
         if isinstance(edit, Insertion):
             self._take_back(edit)
@@ -197,7 +198,7 @@ class Kept:
         self._set_numbers(np.arange(edit.vertices), self._numbers[: edit.vertices])
 
     def _set_numbers(self, vertices: NDArray[Any], numbers: NDArray[Any]) -> None:
-        """Tells the library which points some vertices are."""
+        """Gives the library the numbers of the points that some vertices are."""
         named = np.ascontiguousarray(vertices, np.uint32), numbers.astype(np.uint64) + np.uint64(1)
         self._call("set_numbers", *library.rows(named[0]), *library.rows(named[1]))
 

@@ -176,8 +176,8 @@ def error_of(status: int, index: Optional[int] = None) -> TevasulimError:
     of_class = OF_STATUS.get(status)
     if of_class is None:
         return TevasulimError(f"the library gave status {status}, which this package does not know")
-    where = "" if index is None else f", at segment {index} of the list"
-    return of_class(f"{words_of(status)[0]}{where}", index)
+    where = "" if index is None else f"segment {index} of the list: "
+    return of_class(f"{where}{words_of(status)[0]}", index)
 
 
 def is_proved() -> bool:

@@ -16,7 +16,7 @@ Floats = NDArray[np.float64]
 
 class Weights(NamedTuple):
     """Weights of vertices, by rows of the points that they are for; those of one point have the sum
-    1. `is_sure` tells of which points there are weights: there are none of a vertex, nor of a point
+    1. `is_sure` says which points have weights: a vertex has none, nor has a point
     on the hull, nor where rounding hides which faces a point changes."""
 
     rows: Ints

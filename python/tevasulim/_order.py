@@ -53,11 +53,12 @@ def near_order_of_all(points: NDArray[Any]) -> NDArray[Any]:
     other, in the order of their rows."""
     if not len(points):
         return np.arange(0)
-    low = points.min(0).astype(np.int64)
-    wide = int((points.max(0) - low).max())
+    lows, highs = ([int(end(it)) for it in points.T] for end in (np.min, np.max))
+    wide = max(high - low for low, high in zip(lows, highs))
     # A curve through cells of 16 bits each way: numbers of 16 bits are sorted soonest.
-    cells = spread((points - low) >> max(wide.bit_length() - 16, 0), np.uint32, 16)
-    keys = cells[:, 0] | cells[:, 1] << np.uint32(1)
+    shift = max(wide.bit_length() - 16, 0)
+    x, y = (spread((it - low) >> shift, np.uint32, 16) for it, low in zip(points.T, lows))
+    keys = x | y << np.uint32(1)
     order = np.argsort(keys.astype(np.uint16), kind="stable")
     high = (keys >> np.uint32(16)).astype(np.uint16).take(order)
     order = order.take(np.argsort(high, kind="stable"))

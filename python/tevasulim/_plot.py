@@ -37,7 +37,7 @@ class Pictures(Values):
         points : bool
             Whether to mark the vertices.
         color, linewidth, constraint_color, cmap
-            As of matplotlib.
+            As in matplotlib.
 
         Returns
         -------

@@ -32,9 +32,9 @@ class Place(IntEnum):
 
 
 class Places(NamedTuple):
-    """Where some points are: a `Place` each, and the number of the point that is a vertex there,
-    the row in `edges`, the row in `simplices`, the row in `edges` of one that is seen from there,
-    or -1."""
+    """Where some points are: a `Place` for each, and an index. The index is the number of the point
+    that is a vertex there (ON_VERTEX), a row in `edges` (ON_EDGE), a row in `simplices` (IN_FACE),
+    the row in `edges` of an edge that is seen from there (OUTSIDE), or -1 (NOWHERE)."""
 
     kind: Any
     index: Any
@@ -69,7 +69,7 @@ class Queries(Arrays):
     def locate(self, xi: Any) -> Places:
         """What each point of an array of the shape (.., 2) lies on, as arrays of the shape (..). If
         the triangulation's points are whole numbers, or have a `scale`, a point that you ask about
-        is taken as it is. Otherwise it is rounded to the grid as they were.
+        is not rounded. Otherwise it is rounded to the grid as they were.
 
         >>> import tevasulim
         >>> tri = tevasulim.Triangulation([(0, 0), (4, 0), (0, 4)])

@@ -34,10 +34,15 @@ class Runner:
 
     def run(self, function: Callable[..., Any], tasks: Sequence[Tuple[Any, ...]]) -> List[Any]:
         """What a function gives for each task's words, in their order."""
-        if self.client is None:
+        if self.client is None or not tasks:
             return [function(*words) for words in tasks]
-        futures = [self.submit(function, words) for words in tasks]
-        if self.is_dask and self.shows and futures:
+        if self.is_dask:
+            # All in one message.
+            more = self.settings(function, len(tasks))
+            futures = self.client.map(function, *zip(*tasks), **more)
+        else:
+            futures = [self.submit(function, words) for words in tasks]
+        if self.is_dask and self.shows:
             import distributed
 
             show: Any = distributed.progress
@@ -60,15 +65,20 @@ class Runner:
 
     def submit(self, function: Callable[..., Any], words: Tuple[Any, ...]) -> Any:
         if self.is_dask:
-            # Dask would give a failed task's error once more for a task of the same name.
-            key = f"{function.__name__}-{uuid4().hex}"
-            more = {"key": key, "pure": False, "resources": self.resources, "retries": AGAIN}
-            return self.client.submit(function, *words, **more)
+            more = self.settings(function, 1)
+            return self.client.submit(function, *words, **{**more, "key": more["key"][0]})
         try:
             return self.client.submit(function, *words)
         except BrokenProcessPool:
             self.begin_again()
             return self.client.submit(function, *words)
+
+    def settings(self, function: Callable[..., Any], count: int) -> Dict[str, Any]:
+        """How Dask is to run so many tasks. It would give a failed task's error once more for a
+        task of the same name, so that each run has names of its own."""
+        run = uuid4().hex
+        keys = [f"{function.__name__}-{run}-{number}" for number in range(count)]
+        return {"key": keys, "pure": False, "resources": self.resources, "retries": AGAIN}
 
     def begin_again(self) -> None:
         """Takes a new pool of processes in place of one that broke."""

@@ -9,7 +9,7 @@ from typing import Any, Dict, List, NamedTuple, Optional, Tuple
 
 import numpy as np
 
-from ._asks import Given, ask_tile
+from ._asks import Given, ask_tiles, pairs_of
 from ._circles import Faces, Wanted, cells, disks
 from ._disks import Disks, are_in, are_listed, keys_of
 from ._library import MOST
@@ -31,14 +31,14 @@ HALO, AT_SIDE = 6.0, 400
 ASKED, MANY, TAKEN, MOST_KNOWN, FEW = 0.01, 0.05, 4, 8, 1 << 15
 # Of how many faces one is looked at to find whether they are many, and to find the first blocks;
 # and what part of a tile its blocks cover at most where many are to be expected.
-LOOKED, SAMPLED, COVERED = 32, 4, 0.1
+LOOKED, SAMPLED, COVERED = 32, 16, 0.1
 # How many points are taken at first for one circle, those deepest inside. Each time that something
 # was given twice as many are taken: many points may be inside and hidden.
 DEEPEST, MOST_AT_ONCE = 8, 4096
+# How many tiles are asked together at first.
+TILES_AT_ONCE = 4
 # The sides of a box that are nowhere.
 FAR = np.array([-(2**31), -(2**31), 2**31 - 1, 2**31 - 1])
-# How many circles are looked at together.
-AT_ONCE = 1024
 
 
 class TileReport(NamedTuple):
@@ -127,8 +127,13 @@ class Part:
 
     def faces_at(self, is_asked: NDArray[Any]) -> NDArray[Any]:
         """The faces with a corner of some points."""
-        a, b, c = self.corners
-        return np.flatnonzero(is_asked[a] | is_asked[b] | is_asked[c])
+        a, b, c = (is_asked.take(it) for it in self.corners)
+        return np.flatnonzero(a | b | c)
+
+    def own_faces(self, step: int) -> NDArray[Any]:
+        """The faces at own points, of so many one."""
+        given: NDArray[Any] = np.flatnonzero(self.is_own[self.corners[:, ::step]].any(0)) * step
+        return given
 
     def own_faces_past(self) -> NDArray[Any]:
         """The faces at own points whose closed disks have something beyond the region."""
@@ -196,8 +201,8 @@ class Part:
     def insert_all(self, points: NDArray[Any], numbers: NDArray[Any]) -> None:
         """Inserts further points, none of which is known."""
         rows = self.mesh.insert_all(points)
-        self.points = np.concatenate([self.points, points[rows]])
-        self.numbers = np.concatenate([self.numbers, numbers[rows]])
+        self.points = np.concatenate([self.points, points.take(rows, axis=0)])
+        self.numbers = np.concatenate([self.numbers, numbers.take(rows)])
         self._keys = None
 
     def constrain(self, segments: NDArray[Any]) -> None:
@@ -242,7 +247,7 @@ class Part:
         """The cells whose least point is the tile's own, by the numbers of their corners: those at
         points that are open, or all others."""
         faces = Faces(self.points, self.corners, self.neighbors, self.is_constraint)
-        given: NDArray[Any] = self.numbers[cells(faces, Wanted(self.is_own, is_open, are_at))]
+        given: NDArray[Any] = self.numbers.take(cells(faces, Wanted(self.is_own, is_open, are_at)))
         return given
 
 
@@ -433,15 +438,16 @@ class Tile:
         asked, given = part.disks_of(faces), Given(len(faces))
         ranks = asked.ranks(np.arange(len(asked)), self.bounds[tiles])
         order, reached = np.argsort(ranks, axis=1, kind="stable"), (ranks < 0).sum(1)
-        for turn in range(reached.max(initial=0)):
-            rows = np.flatnonzero((reached > turn) & ~given.is_done)
-            at = tiles[order[rows, turn]]
-            for tile in np.unique(at):
-                asking = rows[at == tile]
-                self.asked += len(asking)
-                for begin in range(0, len(asking), AT_ONCE):
-                    some = asking[begin : begin + AT_ONCE]
-                    ask_tile(self.tiles[tile], part, asked, some, given, self.deepest)
+        first, width = 0, TILES_AT_ONCE
+        while first < reached.max(initial=0):
+            turns = np.arange(first, min(first + width, len(tiles)))
+            is_asking = (turns < reached[:, None]) & ~given.is_done[:, None]
+            rows, places = np.nonzero(is_asking)
+            at = tiles[order[rows, turns[places]]]
+            self.asked += len(rows)
+            pairs = pairs_of(self.tiles, part, asked, rows, at)
+            ask_tiles(self.tiles, part, asked, pairs, given, self.deepest)
+            first, width = first + width, 2 * width
         self.deepest = min(2 * self.deepest, MOST_AT_ONCE)
         return given
 
@@ -487,8 +493,7 @@ class Work:
         takes the blocks that they reach."""
         few = ASKED * len(self.tile.points)
         self.look(part)
-        own = part.faces_at(part.is_own)
-        if LOOKED * part.count_past(own[::LOOKED]) > MANY * len(self.tile.points):
+        if LOOKED * part.count_past(part.own_faces(LOOKED)) > MANY * len(self.tile.points):
             self.take_roughly(part)
         faces = part.own_faces_past()
         if len(faces) <= few:
@@ -517,7 +522,7 @@ class Work:
         if not self.tile.is_sparse:
             part.take_firsts(self.tile.near_blocks())
             part.look()
-        faces = part.faces_at(part.is_own)[::SAMPLED]
+        faces = part.own_faces(SAMPLED)
         blocks = part.reached(faces).blocks(self.tile.most_known() // BLOCK)
         if blocks:
             self.take_blocks(part, faces, blocks)

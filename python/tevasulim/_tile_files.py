@@ -18,9 +18,9 @@ from ._tile_parts import Reading, points_in
 from ._types import NDArray
 from .errors import NoSuchPointError, TevasulimError
 
-# How many points a block has, how many a task surveys and cuts, and how many are looked at
-# together.
-BLOCK, PIECE, TOGETHER = 128, 250_000, 1 << 15
+# How many points a block has, how many a task surveys and cuts, and how many are looked at for each
+# tile before the plane is cut.
+BLOCK, PIECE, FOR_TILE = 128, 250_000, 2_000
 # How many times as many points as on average a tile may have where a gap in the points that is so
 # wide, as a part of their spread, is where the plane is cut.
 UNEVEN, GAP = 1.25, 0.03
@@ -105,47 +105,20 @@ def boxes_in(plan: Any, box: Box = PLANE) -> List[Box]:
     return boxes_in(low, parts[0]) + boxes_in(high, parts[1])
 
 
-def tiles_of(plan: Any, points: NDArray[Any]) -> NDArray[Any]:
-    """The tile of each point, in numbers of 16 bits where there are few, which are sorted
-    soonest."""
-    axes, values, children, deep = flat(plan)
-    found = np.empty(len(points), np.uint16 if len(axes) < 2**16 else np.int32)
-    for begin in range(0, len(points), TOGETHER):
-        x, y = points[begin : begin + TOGETHER].T
-        node = np.zeros(len(x), np.intp)
-        for _ in range(deep):
-            is_high = np.where(axes.take(node), y, x) >= values.take(node)
-            node = children.take(2 * node + is_high)
-        # What a tile has for a coordinate is its number.
-        found[begin : begin + TOGETHER] = values.take(node)
-    return found
+def rows_by_tile(plan: Any, points: NDArray[Any]) -> List[NDArray[np.int64]]:
+    """For each tile the rows of its points, in their order."""
+    x, y = np.ascontiguousarray(points.T)
+    return parted(plan, (x, y), np.arange(len(points)))
 
 
-def flat(plan: Any) -> Tuple[NDArray[Any], NDArray[Any], NDArray[Any], int]:
-    """A plan as lists by nodes: their axes, coordinates and parts, and how deep it is. A tile's
-    coordinate is its number, and it is both of its parts."""
-    axes: List[int] = []
-    values: List[int] = []
-    children: List[int] = []
-    tiles = [0]
-
-    def put(part: Any) -> int:
-        node = len(axes)
-        axes.append(0)
-        values.append(tiles[0])
-        children.extend([node, node])
-        if part is None:
-            tiles[0] += 1
-            return 0
-        axes[node], values[node] = part[:2]
-        deep = []
-        for way, below in enumerate(part[2:]):
-            children[2 * node + way] = len(axes)
-            deep.append(put(below))
-        return 1 + max(deep)
-
-    deep = put(plan)
-    return np.array(axes, bool), np.array(values), np.array(children), deep
+def parted(plan: Any, axes: Tuple[NDArray[Any], ...], rows: NDArray[Any]) -> List[NDArray[Any]]:
+    """The same of some rows of points, of which both coordinates are given as columns."""
+    if plan is None:
+        return [rows]
+    axis, at, *both = plan
+    is_high = axes[axis].take(rows) >= at
+    halves = rows.compress(~is_high), rows.compress(is_high)
+    return [it for half, some in zip(both, halves) for it in parted(half, axes, some)]
 
 
 class Piece(NamedTuple):
@@ -181,9 +154,9 @@ def is_plain(part: str, reading: Reading) -> bool:
         return False
 
 
-def survey(piece: Piece, count: int) -> Tuple[int, NDArray[Any]]:
-    """How many points a piece has, and at most so many of them, picked blindly but always the same.
-    A part with anything but points in range is refused."""
+def survey(piece: Piece, count: int, tile_size: int) -> Tuple[int, NDArray[Any]]:
+    """How many points a piece has, and of so many of them those that tiles of a size need, picked
+    blindly but always the same. A part with anything but points in range is refused."""
     try:
         try:
             points = point_list(piece.points(), None)
@@ -194,7 +167,7 @@ def survey(piece: Piece, count: int) -> Tuple[int, NDArray[Any]]:
     except (TevasulimError, TypeError, ValueError) as error:
         error.args = (f"{piece.part}: {error.args[0]}", *error.args[1:])
         raise
-    count = min(count, max(len(points) // 16, 20_000))
+    count = min(count, max(FOR_TILE * len(points) // tile_size, FOR_TILE))
     if len(points) <= count:
         return len(points), points
     picked = np.random.default_rng(0).choice(len(points), count, replace=False)
@@ -284,15 +257,15 @@ class TileFiles:
         return name
 
     @freed_is_kept()
-    def cut(self, piece: Piece, number: int, first: int, plan: Any, tiles: int) -> List[int]:
+    def cut(self, piece: Piece, number: int, first: int, plan: Any) -> List[int]:
         """Cuts a piece of what was handed in by tile: the points in the order of their tiles, and
         their numbers, from `first` on. Gives where each tile begins."""
         points = np.ascontiguousarray(piece.points(), np.int32).reshape(-1, 2)
-        tile = tiles_of(plan, points)
-        order = np.argsort(tile, kind="stable")
+        rows = rows_by_tile(plan, points)
+        order = np.concatenate(rows)
         self.write("cut-points", number, points.take(order, axis=0))
-        self.write("cut-numbers", number, first + order.astype(np.int64))
-        given: List[int] = np.cumsum([0, *np.bincount(tile, minlength=tiles)]).tolist()
+        self.write("cut-numbers", number, first + order)
+        given: List[int] = np.cumsum([0, *map(len, rows)]).tolist()
         return given
 
     @freed_is_kept()
@@ -318,7 +291,9 @@ class TileFiles:
         places = points.view(np.int64).ravel()
         is_first = np.ones(len(places), bool)
         np.not_equal(places[1:], places[:-1], out=is_first[1:])
-        points, numbers = points[is_first], numbers[order[is_first]]
+        numbers = numbers.take(order)
+        if not is_first.all():
+            points, numbers = points.compress(is_first, axis=0), numbers.compress(is_first)
         boxes = boxes_of(points) if len(points) else np.empty((0, 4), np.int32)
         files = [("points", points), ("numbers", numbers), ("boxes", boxes)]
         if has_keys:
@@ -349,11 +324,10 @@ class TileFiles:
         begins, and the longest segments."""
         numbers = segment_list(part, firsts[-1])
         ends = positions_of(numbers.ravel(), points, firsts)
-        tile = tiles_of(plan, ends)
         known = np.empty(len(ends), np.int64)
-        for it in np.unique(tile):
-            rows = np.flatnonzero(tile == it)
-            known[rows] = self.numbers_at(int(it), ends[rows])
+        for tile, some in enumerate(rows_by_tile(plan, ends)):
+            if len(some):
+                known[some] = self.numbers_at(tile, ends[some])
         rows = np.arange(first, first + len(numbers))[:, None]
         segments = np.hstack([ends.reshape(-1, 4), known.reshape(-1, 2), rows]).astype(np.int64)
         # A point and itself are joined by nothing.

@@ -52,13 +52,13 @@ class Values(Queries):
         Parameters
         ----------
         values : array_like of shape (n,) or (n, ..)
-            A value for each of `points`. Those of removed and repeated points are not looked at.
+            A value for each of `points`. Those of removed and repeated points are ignored.
         xi : array_like of shape (.., 2)
-            Where values are asked for.
+            The points at which to interpolate.
         method : str
-            "linear": of the plane over the face's corners; "natural": of the natural neighbours by
-            Sibson, which is smooth but at the points, and asks the points alone beside constraints;
-            "mean": the mean of the corners'; or "nearest": that of the nearest point.
+            "linear": on the plane through the face's corners; "natural": from the natural
+            neighbours (Sibson), which is smooth except at the points and ignores constraints;
+            "mean": the mean of the face's corners; or "nearest": the value of the nearest point.
 
         Returns
         -------
@@ -175,7 +175,7 @@ class Values(Queries):
         values : array_like of shape (n,)
             A value for each of `points`.
         levels : int or array_like of floats
-            The levels; or about how many there are to be, and then they are round numbers.
+            The levels, or about how many levels; these are then round numbers.
 
         Raises
         ------

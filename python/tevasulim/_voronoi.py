@@ -86,8 +86,8 @@ class VoronoiCells(Queries):
             corners, neighbors = faces.T, plain.neighbors.T
             found = disks(points, corners)
             free = np.zeros(corners.shape, bool)
-            joins = joined(Faces(points, corners, neighbors, free))
-            root = spread_over(np.arange(len(faces)), np.minimum, neighbors, joins)
+            pairs = joined(Faces(points, corners, neighbors, free))
+            root = spread_over(np.arange(len(faces)), np.minimum, pairs)
             kept, corner = np.unique(root, return_inverse=True)
             centers = found[kept, :2]
             order = cells_in_order(points, plain, centers, corner)

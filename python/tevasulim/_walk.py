@@ -14,7 +14,7 @@ Wide = NDArray[np.int64]
 Floats = NDArray[np.float64]
 # A side that a point is less far beyond, in square steps, is one that it is on.
 NEAR = 2.0**-18
-# More steps from face to face are no way: then all faces are looked at.
+# After more steps from face to face than these, all faces are looked at.
 FAR = 2000
 
 

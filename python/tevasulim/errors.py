@@ -100,7 +100,7 @@ class NoSuchVertexError(TevasulimError, IndexError):
 
 
 class NoSuchPointError(TevasulimError, IndexError):
-    """A segment has the number of no point."""
+    """A segment names a point that does not exist."""
 
     status = 10
 

@@ -41,8 +41,8 @@ from .errors import CrossingError, TevasulimError
 
 __all__ = ["triangulate_tiles", "neighbors", "TiledCells", "TileReport"]
 
-# How many points of all are looked at before the plane is cut, and of these for their hull, of
-# which so many corners are taken or somewhat more.
+# How many points of all are looked at at most before the plane is cut, and of these for their hull,
+# of which so many corners are taken or somewhat more.
 SAMPLE, FOR_HULL, CORNERS = 200_000, 2_000, 64
 # Of how many tiles a worker waits long for the others at the end.
 FEW = 5
@@ -111,13 +111,13 @@ def cut_plane(
     what each tile knows of all."""
     pieces = [piece for name in names for piece in pieces_of(name)]
     each = max(SAMPLE // max(len(pieces), 1), 1)
-    found = runner.run(survey, [(piece, each) for piece in pieces])
+    found = runner.run(survey, [(piece, each, tile_size) for piece in pieces])
     counts = [count for count, _ in found]
     sample = np.concatenate([np.empty((0, 2), np.int32), *(some for _, some in found)])
     cuts = plan_of(sample, tile_count(sum(counts), tile_size, runner.workers()))
     boxes = boxes_in(cuts)
     firsts = np.cumsum([0, *counts]).tolist()
-    tasks = [(piece, i, firsts[i], cuts, len(boxes)) for i, piece in enumerate(pieces)]
+    tasks = [(piece, i, firsts[i], cuts) for i, piece in enumerate(pieces)]
     begins = runner.run(files.cut, tasks)
     parts = [
         [

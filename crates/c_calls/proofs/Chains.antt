@@ -8,23 +8,16 @@ use Rattle.std.proofs.Common.{arith}
 use Rattle.std.specs.Prelude.{All, Some, slice_get}
 use Rattle.std.proofs.lemmas.List.{length_push, take_all, take-append-le, take_more}
 use Rattle.std.proofs.lemmas.Option.{slice_get_within, get_or_from_slice_get}
-use Rattle.delaunay_edit.specs.plane.Fraction.{Point}
-use Rattle.delaunay_edit.specs.plane.Plain.{Adds, CanAdd}
-use Rattle.delaunay_edit.specs.delaunay_legalization.State.{State}
-use Rattle.delaunay_edit.specs.delaunay_legalization.declared.cdt_edge.CdtEdge.{CdtEdge}
-use Rattle.delaunay_edit.specs.Constrained.{constrained}
-use Rattle.c_calls.specs.declared.raw.NumberedPoint.{NumberedPoint}
-use Rattle.c_calls.specs.declared.kept.KeptPoints.{KeptPoints}
-use Rattle.c_calls.specs.declared.kept.KeptPoints.TheVariants.{Plain, Constrained}
-use Rattle.c_calls.specs.declared.statuses.TheConstants.{WELL, IS_PLAIN, NO_SUCH_VERTEX}
-use Rattle.c_calls.specs.declared.statuses.TheConstants.{CROSSING, OUT_OF_MEMORY}
-use Rattle.c_calls.specs.Edits.{Addition, added, addition_of_none, addition_crossing}
-use Rattle.c_calls.specs.Edits.{addition_refused}
-use Rattle.c_calls.specs.Lists.{AddsChainKept, AddsInTurn, ChainAddition, SegmentsAddition}
-use Rattle.c_calls.specs.Lists.{StopsAtSegment, chain_segments, segments_from}
-use Rattle.c_calls.specs.Lists.{all_joined, joining_crossing, joining_refused}
-use Rattle.c_calls.specs.Lists.{chain_joined, chain_of_none}
-use Rattle.c_calls.specs.Kept.{kept_place}
+use Rattle.plane.specs.{Adds, CanAdd, Point}
+use Rattle.delaunay_legalization.specs.{declared.cdt_edge.CdtEdge.CdtEdge, State.State}
+use Rattle.delaunay_edit.specs.{constrained}
+use Rattle.c_calls.specs.{AnyTriangulation, Constrained, kept_place, NumberedPoint, OUT_OF_MEMORY}
+use Rattle.c_calls.specs.{Edits.addition_refused, Plain, WELL}
+use Rattle.c_calls.specs.Edits.{added, Addition, addition_crossing, addition_of_none}
+use Rattle.c_calls.specs.Lists.{AddsChainKept, AddsInTurn, all_joined, chain_joined, chain_of_none}
+use Rattle.c_calls.specs.Lists.{chain_segments, ChainAddition, joining_crossing, joining_refused}
+use Rattle.c_calls.specs.Lists.{segments_from, SegmentsAddition, StopsAtSegment}
+use Rattle.c_calls.specs.declared.statuses.TheConstants.{CROSSING, IS_PLAIN, NO_SUCH_VERTEX}
 use Rattle.c_calls.proofs.Numbers.{read_before, read_last}
 
 -- ---- the segments of a chain
@@ -303,19 +296,21 @@ module _ {V D U F : Type 0} (place : V → Point) where
   chain_missing vs closed s missing = chain_of_none refl refl missing refl
 
 -- to a plain triangulation
-pub no_chain_in_plain : (vs : List ℕ) (closed : Bool) (made : ℕ) (k new : KeptPoints)
+pub no_chain_in_plain : (vs : List ℕ) (closed : Bool) (made : ℕ) (k new : AnyTriangulation)
     (a : State NumberedPoint (Unit {0}) (Unit {0}) (Unit {0})) → k ≡ Plain a → new ≡ Plain a
     → AddsChainKept vs closed IS_PLAIN made k new
 no_chain_in_plain vs closed made k new a is stays =
-    subst (λ (w : KeptPoints). AddsChainKept vs closed IS_PLAIN made w new) (sym is) (refl, stays)
+    subst (λ (w : AnyTriangulation). AddsChainKept vs closed IS_PLAIN made w new) (sym is)
+    (refl, stays)
 
 -- to a constrained one
-pub chain_in_constrained : (vs : List ℕ) (closed : Bool) (status made : ℕ) (k : KeptPoints)
+pub chain_in_constrained : (vs : List ℕ) (closed : Bool) (status made : ℕ) (k : AnyTriangulation)
     (a b : State NumberedPoint (Unit {0}) (CdtEdge (Unit {0})) (Unit {0})) → k ≡ Constrained a
     → ChainAddition kept_place vs closed status made a b
     → AddsChainKept vs closed status made k (Constrained b)
 chain_in_constrained vs closed status made k a b is h =
-    subst (λ (w : KeptPoints). AddsChainKept vs closed status made w (Constrained b)) (sym is) h
+    subst (λ (w : AnyTriangulation). AddsChainKept vs closed status made w (Constrained b)) (sym is)
+    h
 
 -- for the functions that make the edit
 pub ruleset chains = (chain_empty, chain_missing)

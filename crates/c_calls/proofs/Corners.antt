@@ -3,9 +3,7 @@
 use Rattle.std.proofs.Common.{◌∷◌, []}
 use Rattle.std.specs.Prelude.{All}
 use Rattle.std.proofs.lemmas.List.Elements.{All-cons, All-nil}
-use Rattle.delaunay_edit.specs.plane.Fraction.{Point}
-use Rattle.delaunay_edit.specs.plane.Tests.{InRange}
-use Rattle.delaunay_shapes.specs.Tests.{corners}
+use Rattle.{delaunay_shapes.specs.corners, plane.specs.InRange, plane.specs.Point}
 
 -- all four corners are in range where two opposite ones are
 pub corners_in_range : (lower upper : Point) → InRange lower → InRange upper

@@ -3,17 +3,11 @@
 use Rattle.std.proofs.Common.{◌≡◌, ◌≢◌, ◌∙◌, ◌≤◌, ◌+◌, ◌++◌, ℕ, List, [], ◌∷◌, length}
 use Rattle.std.proofs.Common.{refl, sym, ap, subst, inl, inr, arith}
 use Rattle.std.specs.Prelude.{◌⊎◌, ℤ, Option, None, Some}
-use Rattle.delaunay_edit.specs.plane.Fraction.{Point}
-use Rattle.delaunay_edit.specs.plane.Line.{Item, at_vertex, across, along}
-use Rattle.delaunay_edit.specs.delaunay_location.declared.intersection.Intersection.{Intersection}
-use Rattle.delaunay_edit.specs.delaunay_location.declared.iterator.LineIntersectionIterator.{LineIntersectionIterator}
-use Rattle.delaunay_edit.specs.delaunay_location.Items.{item_in}
-use Rattle.delaunay_edit.specs.delaunay_location.Walk.{GivesNext}
-use Rattle.c_calls.specs.declared.lines.TheConstants.{AT_VERTEX, ACROSS_EDGE, ALONG_EDGE}
-use Rattle.c_calls.specs.declared.raw.RawMeeting.{RawMeeting}
-use Rattle.c_calls.specs.declared.raw.RawSegment.{RawSegment}
-use Rattle.c_calls.specs.Conflicts.{AreCrossed, IsConflictMet, IsCrossed, PutsConflict}
-use Rattle.c_calls.specs.Queries.{IsMeeting}
+use Rattle.plane.specs.{across, along, at_vertex, Item, Point}
+use Rattle.delaunay_location.specs.{GivesNext, Intersection, item_in, LineIntersectionIterator}
+use Rattle.c_calls.specs.{AreCrossed, IsMeeting, RawMeeting, RawSegment}
+use Rattle.c_calls.specs.Conflicts.{IsConflictMet, IsCrossed, PutsConflict}
+use Rattle.c_calls.specs.declared.lines.TheConstants.{ACROSS_EDGE, ALONG_EDGE, AT_VERTEX}
 use Rattle.c_calls.proofs.Walked.{IsToldOf, walk_goes_on, walk_skips}
 
 -- one more item, which is a constraint that is crossed

@@ -5,20 +5,12 @@ use Rattle.std.proofs.Common.{◌⊎◌, inl, inr, refl}
 use Rattle.std.specs.Prelude.{pos, Some, slice_get, slice_index_or, IsSomeAnd, Bool, true, false}
 use Rattle.std.proofs.lemmas.List.{get_or-map, length-map}
 use Rattle.std.proofs.lemmas.List.Elements.{All-get_or, All-map}
-use Rattle.delaunay_edit.specs.half_edge_links.Mesh.{face_edge, next, origin, prev}
-use Rattle.delaunay_edit.specs.half_edge_links.Triangles.{triangle_at}
-use Rattle.delaunay_edit.specs.plane.Fraction.{Point, whole}
-use Rattle.delaunay_edit.specs.plane.Side.{TurnsLeft}
-use Rattle.delaunay_edit.specs.plane.Tests.{InRange}
-use Rattle.delaunay_edit.specs.delaunay_legalization.Drawn.{corners_of, faces_of}
-use Rattle.delaunay_edit.specs.delaunay_legalization.Known.{point_at}
-use Rattle.delaunay_edit.specs.delaunay_legalization.Shape.{IsTriangulated}
-use Rattle.delaunay_edit.specs.delaunay_legalization.State.{State, triangulation_of}
-use Rattle.delaunay_edit.proofs.delaunay_legalization_lemmas.MeshParts.{mesh_face}
-use Rattle.exact_predicates.specs.Disks.{TellsDisk}
-use Rattle.exact_predicates.specs.declared.disks.Sides.{Sides}
-use Rattle.c_calls.specs.Beyond.{IsFlagAt}
-use Rattle.c_calls.proofs.Sides.{face_read}
+use Rattle.plane.specs.{InRange, Point, TurnsLeft, whole}
+use Rattle.half_edge_links.specs.{face_edge, next, origin, prev, triangle_at}
+use Rattle.delaunay_legalization.specs.{corners_of, faces_of, IsTriangulated, point_at}
+use Rattle.{delaunay_legalization.specs.State.State, delaunay_legalization.specs.triangulation_of}
+use Rattle.{c_calls.specs.IsFlagAt, exact_predicates.specs.Sides, exact_predicates.specs.TellsDisk}
+use Rattle.{c_calls.proofs.Sides.face_read, delaunay_legalization.proofs.mesh_face}
 
 -- a corner that is read from a list of their positions
 pub corner_at : {A : Type 0} (f : A → Point) (xs : List A) (d : A) (ps : List Point) (i : ℕ)

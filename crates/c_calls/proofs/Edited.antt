@@ -5,36 +5,26 @@
 -- still_constrained.
 use Rattle.std.proofs.Common.{◌≡◌, ℕ, List, refl, sym, subst, ap, arith}
 use Rattle.std.specs.Prelude.{Option, Some, Result, Ok, Err, IfErr, IfOk}
-use Rattle.delaunay_edit.specs.plane.Fraction.{Point}
-use Rattle.delaunay_edit.specs.plane.Plain.{Unconstrains}
-use Rattle.delaunay_edit.specs.delaunay_legalization.declared.cdt_edge.CdtEdge.{CdtEdge}
-use Rattle.delaunay_edit.specs.delaunay_legalization.State.{State, points_and_constraints}
-use Rattle.delaunay_edit.specs.Constrained.{none, constrained, constraint_edges}
-use Rattle.delaunay_edit.specs.Data.{HasOtherEdgeData}
-use Rattle.delaunay_journal.specs.declared.edit.Edit.TheVariants.{AddConstraint, Remove}
-use Rattle.delaunay_journal.specs.declared.edit.Edit.TheVariants.{ReleaseConstraint}
-use Rattle.delaunay_journal.specs.declared.edit.Outcome.{Outcome}
-use Rattle.delaunay_journal.specs.declared.edit.Outcome.TheVariants.{Added, Refused, Released}
-use Rattle.delaunay_journal.specs.declared.edit.Outcome.TheVariants.{Removed}
+use Rattle.delaunay_legalization.specs.{declared.cdt_edge.CdtEdge.CdtEdge, points_and_constraints}
+use Rattle.delaunay_legalization.specs.State.{State}
+use Rattle.delaunay_edit.specs.{constrained, constraint_edges, HasOtherEdgeData, none}
+use Rattle.delaunay_journal.specs.{AddConstraint, Added, Gives, Outcome, Refused}
+use Rattle.delaunay_journal.specs.Marking.{flag_marking, Marking}
+use Rattle.delaunay_journal.specs.declared.edit.Edit.TheVariants.{ReleaseConstraint, Remove}
+use Rattle.delaunay_journal.specs.declared.edit.Outcome.TheVariants.{Released, Removed}
+use Rattle.c_calls.specs.{AnyTriangulation, Constrained, kept_place, NumberedPoint, OUT_OF_MEMORY}
+use Rattle.{c_calls.specs.Plain, c_calls.specs.WELL, plane.specs.Point, plane.specs.Unconstrains}
+use Rattle.c_calls.specs.{Answers.status_of_outcome, Edits.RemovesKept, Kept.IsKeptDelaunay}
+use Rattle.c_calls.specs.Edits.{added, Addition, addition_crossing, addition_of_none}
+use Rattle.c_calls.specs.Edits.{addition_refused, AddsKept, AllowsConstraints, AreThere, EditsAt}
+use Rattle.c_calls.specs.Edits.{IsSameKind, Release, release_of_free, release_refused, released}
+use Rattle.c_calls.specs.Edits.{ReleasesKept, Removal, removal_of_none, removal_refused, removed}
+use Rattle.c_calls.specs.declared.statuses.TheConstants.{IS_CONSTRAINED, IS_PLAIN}
 use Rattle.delaunay_journal.specs.declared.edit.Refusal.TheVariants as reason
-use Rattle.delaunay_journal.specs.Journal.{Gives}
-use Rattle.delaunay_journal.specs.Marking.{Marking, flag_marking}
-use Rattle.c_calls.specs.declared.raw.NumberedPoint.{NumberedPoint}
-use Rattle.c_calls.specs.declared.kept.KeptPoints.{KeptPoints}
-use Rattle.c_calls.specs.declared.kept.KeptPoints.TheVariants.{Plain, Constrained}
-use Rattle.c_calls.specs.declared.statuses.TheConstants.{WELL, IS_PLAIN}
-use Rattle.c_calls.specs.declared.statuses.TheConstants.{IS_CONSTRAINED, OUT_OF_MEMORY}
-use Rattle.c_calls.specs.Answers.{status_of_outcome}
-use Rattle.c_calls.specs.Edits.{AddsKept, Addition, AllowsConstraints, AreThere, EditsAt}
-use Rattle.c_calls.specs.Edits.{IsSameKind, Release, ReleasesKept, Removal, RemovesKept}
-use Rattle.c_calls.specs.Edits.{removed, removal_of_none, removal_refused}
-use Rattle.c_calls.specs.Edits.{added, addition_of_none, addition_crossing, addition_refused}
-use Rattle.c_calls.specs.Edits.{released, release_of_free, release_refused}
-use Rattle.c_calls.specs.Kept.{IsKeptDelaunay, kept_place}
 
 -- what an open handle has afterwards
-pub edited_at : (Edits : KeptPoints → KeptPoints → Type 0) (old new : KeptPoints)
-    (kept : Option KeptPoints) → kept ≡ Some new → Edits old new → IsKeptDelaunay new
+pub edited_at : (Edits : AnyTriangulation → AnyTriangulation → Type 0) (old new : AnyTriangulation)
+    (kept : Option AnyTriangulation) → kept ≡ Some new → Edits old new → IsKeptDelaunay new
     → EditsAt Edits old kept
 edited_at Edits old new kept is edits headline =
     record { new = new; is_kept = is; edits = edits; headline = headline }
@@ -85,52 +75,52 @@ module _ {V D U F : Type 0} (place : V → Point) (from to status : ℕ)
 
 -- ---- an edit of either type
 -- of a plain triangulation
-pub removed_from_plain : (vertex status : ℕ) (k : KeptPoints)
+pub removed_from_plain : (vertex status : ℕ) (k : AnyTriangulation)
     (a b : State NumberedPoint (Unit {0}) (Unit {0}) (Unit {0})) → k ≡ Plain a
     → Removal kept_place none vertex status a b → RemovesKept vertex status k (Plain b)
 removed_from_plain vertex status k a b is h =
-    subst (λ (w : KeptPoints). RemovesKept vertex status w (Plain b)) (sym is) h
+    subst (λ (w : AnyTriangulation). RemovesKept vertex status w (Plain b)) (sym is) h
 
 -- of a constrained one
-pub removed_from_constrained : (vertex status : ℕ) (k : KeptPoints)
+pub removed_from_constrained : (vertex status : ℕ) (k : AnyTriangulation)
     (a b : State NumberedPoint (Unit {0}) (CdtEdge (Unit {0})) (Unit {0})) → k ≡ Constrained a
     → Removal kept_place constraint_edges vertex status a b
     → RemovesKept vertex status k (Constrained b)
 removed_from_constrained vertex status k a b is h =
-    subst (λ (w : KeptPoints). RemovesKept vertex status w (Constrained b)) (sym is) h
+    subst (λ (w : AnyTriangulation). RemovesKept vertex status w (Constrained b)) (sym is) h
 
 -- ---- an addition of constraints
 -- to a plain triangulation
-pub not_added_to_plain : (from to : ℕ) (k new : KeptPoints)
+pub not_added_to_plain : (from to : ℕ) (k new : AnyTriangulation)
     (a : State NumberedPoint (Unit {0}) (Unit {0}) (Unit {0})) → k ≡ Plain a → new ≡ Plain a
     → AddsKept from to IS_PLAIN k new
 not_added_to_plain from to k new a is stays =
-    subst (λ (w : KeptPoints). AddsKept from to IS_PLAIN w new) (sym is) (refl, stays)
+    subst (λ (w : AnyTriangulation). AddsKept from to IS_PLAIN w new) (sym is) (refl, stays)
 
 -- to a constrained one
-pub added_to_constrained : (from to status : ℕ) (k : KeptPoints)
+pub added_to_constrained : (from to status : ℕ) (k : AnyTriangulation)
     (a b : State NumberedPoint (Unit {0}) (CdtEdge (Unit {0})) (Unit {0})) → k ≡ Constrained a
     → Addition kept_place from to status a b → AddsKept from to status k (Constrained b)
 added_to_constrained from to status k a b is h =
-    subst (λ (w : KeptPoints). AddsKept from to status w (Constrained b)) (sym is) h
+    subst (λ (w : AnyTriangulation). AddsKept from to status w (Constrained b)) (sym is) h
 
 -- ---- a release
 -- in a plain triangulation
-pub not_released_in_plain : (from to : ℕ) (k new : KeptPoints)
+pub not_released_in_plain : (from to : ℕ) (k new : AnyTriangulation)
     (a : State NumberedPoint (Unit {0}) (Unit {0}) (Unit {0})) → k ≡ Plain a → new ≡ Plain a
     → ReleasesKept from to IS_PLAIN k new
 not_released_in_plain from to k new a is stays =
-    subst (λ (w : KeptPoints). ReleasesKept from to IS_PLAIN w new) (sym is) (refl, stays)
+    subst (λ (w : AnyTriangulation). ReleasesKept from to IS_PLAIN w new) (sym is) (refl, stays)
 
 -- in a constrained one
-pub released_in_constrained : (from to status : ℕ) (k : KeptPoints)
+pub released_in_constrained : (from to status : ℕ) (k : AnyTriangulation)
     (a b : State NumberedPoint (Unit {0}) (CdtEdge (Unit {0})) (Unit {0})) → k ≡ Constrained a
     → Release kept_place from to status a b → ReleasesKept from to status k (Constrained b)
 released_in_constrained from to status k a b is h =
-    subst (λ (w : KeptPoints). ReleasesKept from to status w (Constrained b)) (sym is) h
+    subst (λ (w : AnyTriangulation). ReleasesKept from to status w (Constrained b)) (sym is) h
 
 -- ---- a plain triangulation that was to become a constrained one
-module _ (k : KeptPoints) (a : State NumberedPoint (Unit {0}) (Unit {0}) (Unit {0}))
+module _ (k : AnyTriangulation) (a : State NumberedPoint (Unit {0}) (Unit {0}) (Unit {0}))
     (is : k ≡ Plain a) where
   -- it did
   pub is_allowed : {E : Type 0} (R : Unit {0} → CdtEdge (Unit {0}) → Type 0)
@@ -140,7 +130,7 @@ module _ (k : KeptPoints) (a : State NumberedPoint (Unit {0}) (Unit {0}) (Unit {
       → IfOk r (HasOtherEdgeData R a) → AllowsConstraints WELL k (Constrained b)
   is_allowed R r b ok h others =
       let rest = (subst (λ (q : Result _ _). IfOk q (HasOtherEdgeData R a)) ok others).rest in
-      subst (λ (w : KeptPoints). AllowsConstraints WELL w (Constrained b)) (sym is) (
+      subst (λ (w : AnyTriangulation). AllowsConstraints WELL w (Constrained b)) (sym is) (
         refl,
         subst (λ (q : Result _ _). IfOk q (λ c. Unconstrains kept_place
             (points_and_constraints a) (constrained c))) ok h,
@@ -155,27 +145,30 @@ module _ (k : KeptPoints) (a : State NumberedPoint (Unit {0}) (Unit {0}) (Unit {
       (r : Result B (State NumberedPoint (Unit {0}) (Unit {0}) (Unit {0})))
       (b : State NumberedPoint (Unit {0}) (Unit {0}) (Unit {0})) → r ≡ Err b
       → IfErr r (λ d. d ≡ a) → AllowsConstraints OUT_OF_MEMORY k (Plain b)
-  is_not_allowed r b err h = subst (λ (w : KeptPoints). AllowsConstraints OUT_OF_MEMORY w (Plain b))
+  is_not_allowed r b err h = subst (λ (w : AnyTriangulation). AllowsConstraints OUT_OF_MEMORY w
+      (Plain b))
       (sym is) (refl, subst (λ (q : Result _ _). IfErr q (λ d. d ≡ a)) err h)
 
 -- a constrained one stays
-pub is_constrained : (k : KeptPoints)
+pub is_constrained : (k : AnyTriangulation)
     (a : State NumberedPoint (Unit {0}) (CdtEdge (Unit {0})) (Unit {0})) → k ≡ Constrained a
     → AllowsConstraints IS_CONSTRAINED k (Constrained a)
 is_constrained k a is =
-    subst (λ (w : KeptPoints). AllowsConstraints IS_CONSTRAINED w (Constrained a)) (sym is)
+    subst (λ (w : AnyTriangulation). AllowsConstraints IS_CONSTRAINED w (Constrained a)) (sym is)
     (refl, refl)
 
 -- ---- a triangulation whose vertices are forgotten stays plain
-pub still_plain : (k : KeptPoints) (a b : State NumberedPoint (Unit {0}) (Unit {0}) (Unit {0}))
+pub still_plain : (k : AnyTriangulation) (a b : State NumberedPoint (Unit {0}) (Unit {0})
+    (Unit {0}))
     → k ≡ Plain a → IsSameKind k (Plain b)
-still_plain k a b is = subst (λ (w : KeptPoints). IsSameKind w (Plain b)) (sym is) refl
+still_plain k a b is = subst (λ (w : AnyTriangulation). IsSameKind w (Plain b)) (sym is) refl
 
 -- or constrained
-pub still_constrained : (k : KeptPoints)
+pub still_constrained : (k : AnyTriangulation)
     (a b : State NumberedPoint (Unit {0}) (CdtEdge (Unit {0})) (Unit {0})) → k ≡ Constrained a
     → IsSameKind k (Constrained b)
-still_constrained k a b is = subst (λ (w : KeptPoints). IsSameKind w (Constrained b)) (sym is) refl
+still_constrained k a b is = subst (λ (w : AnyTriangulation). IsSameKind w (Constrained b)) (sym is)
+    refl
 
 -- ---- for the functions that make the edits
 pub ruleset removals_kept = (removed_from_plain, removed_from_constrained)

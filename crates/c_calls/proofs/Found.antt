@@ -12,30 +12,19 @@ use Rattle.std.proofs.lemmas.Bool.Decides.{Decides-eqb}
 use Rattle.std.proofs.lemmas.List.Folds.{Any-from_list_any}
 use Rattle.std.proofs.lemmas.Map.Made.{IsDistinct-from_AllPairs}
 use Rattle.std.proofs.lemmas.Map.Steps.{length-le_from_distinct_below}
-use Rattle.delaunay_edit.specs.half_edge_links.declared.room.TheConstants.{MAX_ELEMENTS}
-use Rattle.delaunay_edit.specs.half_edge_dcel.Contents.{Contents}
-use Rattle.delaunay_edit.specs.half_edge_dcel.Left.{each_in}
-use Rattle.delaunay_edit.specs.plane.Fraction.{Point, Fraction}
-use Rattle.delaunay_edit.specs.plane.Shape.{InClosedCircle, InClosedRectangle}
-use Rattle.delaunay_edit.specs.delaunay_core.Place.{place_of}
-use Rattle.delaunay_edit.specs.delaunay_legalization.Shape.{IsTriangulated}
-use Rattle.delaunay_edit.specs.delaunay_legalization.State.{State}
-use Rattle.delaunay_edit.specs.plane.Tests.{InRange}
+use Rattle.plane.specs.{Fraction, InClosedCircle, InClosedRectangle, InRange, Point}
+use Rattle.delaunay_core.specs.{place_of, Point2}
+use Rattle.{delaunay_legalization.specs.State.State, half_edge_links.specs.MAX_ELEMENTS}
+use Rattle.delaunay_shapes.specs.{AreEdgesInShape, AreVerticesInShape, corners, HasStartAt}
 use Rattle.delaunay_shapes.proofs.Shapes.{circle_begins, rectangle_begins}
-use Rattle.delaunay_shapes.specs.Start.{HasStartAt}
-use Rattle.delaunay_shapes.specs.Tests.{corners}
-use Rattle.delaunay_shapes.specs.InShape.{AreEdgesInShape, AreVerticesInShape}
 use Rattle.delaunay_queries.specs.Found.{FindsEdges, FindsVertices}
-use Rattle.delaunay_edit.specs.delaunay_core.declared.point.Point2.{Point2}
-use Rattle.c_calls.specs.declared.raw.RawShape.{RawShape}
+use Rattle.c_calls.specs.{found, indexes_in, OUT_OF_MEMORY, plain_point, refused}
+use Rattle.{c_calls.specs.Links.AreFew, half_edge_dcel.specs.Contents, half_edge_dcel.specs.each_in}
+use Rattle.c_calls.specs.{declared.raw.RawShape.RawShape, Metrics.IsCircleOf, Metrics.IsRectangleOf}
+use Rattle.c_calls.specs.Shapes.{by_circle, by_rectangle, FindsIn, IsNoCircle, IsNoRectangle}
+use Rattle.c_calls.specs.{Shapes.shape_circle, Shapes.shape_rectangle, Written.Finding}
 use Rattle.c_calls.specs.declared.shapes.TheConstants.{CIRCLE, RECTANGLE}
-use Rattle.c_calls.specs.declared.statuses.TheConstants.{OUT_OF_MEMORY}
-use Rattle.c_calls.specs.Links.{AreFew, indexes_in}
-use Rattle.c_calls.specs.Metrics.{IsCircleOf, IsRectangleOf}
-use Rattle.c_calls.specs.Shapes.{FindsIn, IsNoCircle, IsNoRectangle, by_circle, by_rectangle}
-use Rattle.c_calls.specs.Shapes.{shape_circle, shape_rectangle}
-use Rattle.c_calls.proofs.Corners.{corners_in_range}
-use Rattle.c_calls.specs.Written.{Finding, found, plain_point, refused}
+use Rattle.{c_calls.proofs.Corners.corners_in_range, delaunay_legalization.specs.IsTriangulated}
 
 -- the indexes of parts of a mesh are those that they were made of
 indexes_each : {V D U F : Type 0} (mesh : Bor (Contents V D U F)) (indexes : List ℕ)

@@ -23,10 +23,9 @@ use Rattle.std.specs.Prelude.{Option, None, Some}
 use Rattle.std.specs.Box.Ownership.{box_owns}
 use Rattle.std.specs.Global.{Global}
 use Rattle.std.specs.contracts.impls.GlobalAllocator.TheImpl.{ghosts}
-use Rattle.c_calls.specs.Keeps.{keeps}
+use Rattle.{c_calls.proofs.Values.both, c_calls.specs.Keeps.keeps}
 use Rattle.c_calls.specs.contracts.handle.Handle as handle
-use Rattle.c_calls.specs.contracts.kept.KeptPoints as kept
-use Rattle.c_calls.proofs.Values.{both}
+use Rattle.c_calls.specs.contracts.kept.AnyTriangulation as kept
 
 module _ {M : Type 1} {𝓤 : Ura M} {𝓛 : Logic 𝓤} {K : Type 0} {Γ : List (Item 𝓤)} {G : Goal 𝓤 𝓛.H}
   where

@@ -2,38 +2,35 @@
 -- Lemmas: into_plain, into_constrained, inserted_at, refused_at.
 use Rattle.std.proofs.Common.{◌≡◌, ℕ, refl, sym, ap, subst}
 use Rattle.std.specs.Prelude.{Option, Some, Result, Ok, Err, IfOk}
-use Rattle.delaunay_edit.specs.delaunay_core.declared.math.InsertionError.{InsertionError}
-use Rattle.delaunay_edit.specs.delaunay_legalization.declared.cdt_edge.CdtEdge.{CdtEdge}
-use Rattle.delaunay_edit.specs.delaunay_legalization.State.{State}
-use Rattle.delaunay_edit.specs.Constrained.{none, constraint_edges}
-use Rattle.delaunay_edit.specs.Edits.{InsertsVertex}
-use Rattle.c_calls.specs.declared.raw.NumberedPoint.{NumberedPoint}
-use Rattle.c_calls.specs.declared.kept.KeptPoints.{KeptPoints}
-use Rattle.c_calls.specs.declared.kept.KeptPoints.TheVariants.{Plain, Constrained}
-use Rattle.c_calls.specs.declared.statuses.TheConstants.{WELL}
+use Rattle.delaunay_core.specs.{InsertionError}
+use Rattle.delaunay_legalization.specs.{declared.cdt_edge.CdtEdge.CdtEdge, State.State}
+use Rattle.delaunay_edit.specs.{constraint_edges, InsertsVertex, none}
+use Rattle.c_calls.specs.{AnyTriangulation, Constrained, kept_place, NumberedPoint, Plain, WELL}
 use Rattle.c_calls.specs.Answers.{InsertsAt, status_of_error, status_of_insertion}
-use Rattle.c_calls.specs.Kept.{InsertsKept, IsKeptDelaunay, kept_place}
+use Rattle.c_calls.specs.Kept.{InsertsKept, IsKeptDelaunay}
 
 -- one of a plain triangulation
-pub into_plain : (v : NumberedPoint) (r : Result ℕ InsertionError) (k : KeptPoints)
+pub into_plain : (v : NumberedPoint) (r : Result ℕ InsertionError) (k : AnyTriangulation)
     (a b : State NumberedPoint (Unit {0}) (Unit {0}) (Unit {0}))
     → k ≡ Plain a → InsertsVertex kept_place none v r a b → InsertsKept v r k (Plain b)
-into_plain v r k a b is h = subst (λ (w : KeptPoints). InsertsKept v r w (Plain b)) (sym is) h
+into_plain v r k a b is h = subst (λ (w : AnyTriangulation). InsertsKept v r w (Plain b)) (sym is) h
 
 -- one of a constrained one
-pub into_constrained : (v : NumberedPoint) (r : Result ℕ InsertionError) (k : KeptPoints)
+pub into_constrained : (v : NumberedPoint) (r : Result ℕ InsertionError) (k : AnyTriangulation)
     (a b : State NumberedPoint (Unit {0}) (CdtEdge (Unit {0})) (Unit {0}))
     → k ≡ Constrained a → InsertsVertex kept_place constraint_edges v r a b
     → InsertsKept v r k (Constrained b)
 into_constrained v r k a b is h =
-    subst (λ (w : KeptPoints). InsertsKept v r w (Constrained b)) (sym is) h
+    subst (λ (w : AnyTriangulation). InsertsKept v r w (Constrained b)) (sym is) h
 
 -- for the function that makes the edit
 pub ruleset insertions = (into_plain, into_constrained)
 
 -- a vertex was inserted
-pub inserted_at : (v : NumberedPoint) (r : Result ℕ InsertionError) (i : ℕ) (old new : KeptPoints)
-    (kept : Option KeptPoints) → kept ≡ Some new → InsertsKept v r old new → IsKeptDelaunay new
+pub inserted_at : (v : NumberedPoint) (r : Result ℕ InsertionError) (i : ℕ)
+    (old new : AnyTriangulation)
+    (kept : Option AnyTriangulation) → kept ≡ Some new → InsertsKept v r old new → IsKeptDelaunay
+    new
     → r ≡ Ok i → InsertsAt v WELL i old kept
 inserted_at v r i old new kept is inserts headline ok = record {
   new = new;
@@ -47,7 +44,8 @@ inserted_at v r i old new kept is inserts headline ok = record {
 
 -- it was refused
 pub refused_at : (v : NumberedPoint) (r : Result ℕ InsertionError) (e : InsertionError)
-    (status vertex : ℕ) (old new : KeptPoints) (kept : Option KeptPoints) → kept ≡ Some new
+    (status vertex : ℕ) (old new : AnyTriangulation) (kept : Option AnyTriangulation) → kept ≡ Some
+    new
     → InsertsKept v r old new → IsKeptDelaunay new → r ≡ Err e → status ≡ status_of_error e
     → InsertsAt v status vertex old kept
 refused_at v r e status vertex old new kept is inserts headline err told = record {

@@ -8,30 +8,17 @@ use Rattle.std.specs.Prelude.{◌↔◌, All}
 use Rattle.std.proofs.lemmas.List.Elements.{All-map}
 use Rattle.std.proofs.lemmas.List.{drop_more, get_or-map, length-map, length-take-le, set_at}
 use Rattle.std.proofs.lemmas.List.{take_all, take_more}
-use Rattle.delaunay_edit.specs.plane.Fraction.{Point}
-use Rattle.delaunay_edit.specs.plane.Tests.{InRange}
-use Rattle.delaunay_edit.specs.half_edge_links.declared.room.TheConstants.{MAX_ELEMENTS}
-use Rattle.delaunay_edit.specs.delaunay_legalization.State.{State}
-use Rattle.delaunay_edit.specs.delaunay_legalization.declared.cdt_edge.CdtEdge.{CdtEdge}
-use Rattle.delaunay_edit.specs.Constrained.{none, constraint_edges}
-use Rattle.delaunay_bulk.specs.declared.error.BulkInsertionError.{BulkInsertionError}
-use Rattle.delaunay_bulk.specs.declared.error.BulkInsertionError.TheVariants.{Vertex, NoRoom}
-use Rattle.delaunay_bulk.specs.Bulk.{InsertsAll, StopsAt}
-use Rattle.delaunay_bulk.proofs.Turns.{one_of_all}
-use Rattle.c_calls.specs.declared.raw.NumberedPoint.{NumberedPoint}
-use Rattle.c_calls.specs.declared.kept.KeptPoints.{KeptPoints}
-use Rattle.c_calls.specs.declared.kept.KeptPoints.TheVariants.{Plain, Constrained}
-use Rattle.c_calls.specs.declared.raw.RawPoint.{RawPoint}
-use Rattle.c_calls.specs.declared.statuses.TheConstants.{WELL, OUT_OF_MEMORY}
-use Rattle.c_calls.specs.Lists.{InsertsListKept, ListInsertion, MayInsert, unnumbered_points}
-use Rattle.c_calls.specs.Answers.{status_of_error}
+use Rattle.half_edge_links.specs.{MAX_ELEMENTS}
+use Rattle.delaunay_core.specs.{InsertionError, OutOfIndexes, OutOfMemory, TooLarge}
+use Rattle.delaunay_legalization.specs.{declared.cdt_edge.CdtEdge.CdtEdge, State.State}
+use Rattle.delaunay_edit.specs.{constraint_edges, none}
+use Rattle.delaunay_bulk.specs.{BulkInsertionError, InsertsAll, NoRoom, StopsAt, Vertex}
+use Rattle.{delaunay_bulk.proofs.Turns.one_of_all, plane.specs.InRange, plane.specs.Point}
+use Rattle.c_calls.specs.{AnyTriangulation, Constrained, IsRawInRange, kept_place, NumberedPoint}
+use Rattle.c_calls.specs.{OUT_OF_MEMORY, Plain, RawPoint, unnumbered_points, WELL}
+use Rattle.c_calls.specs.{Answers.status_of_error, Kept.unnumbered_at}
 use Rattle.c_calls.specs.Lists.{all_inserted, insertion_full, insertion_refused, insertion_stopped}
-use Rattle.delaunay_edit.specs.delaunay_core.declared.math.InsertionError.{InsertionError}
-use Rattle.delaunay_edit.specs.delaunay_core.declared.math.InsertionError.TheVariants.{TooLarge}
-use Rattle.delaunay_edit.specs.delaunay_core.declared.math.InsertionError.TheVariants.{OutOfIndexes}
-use Rattle.delaunay_edit.specs.delaunay_core.declared.math.InsertionError.TheVariants.{OutOfMemory}
-use Rattle.c_calls.specs.Kept.{kept_place, unnumbered_at}
-use Rattle.c_calls.specs.Written.{IsRawInRange}
+use Rattle.c_calls.specs.Lists.{InsertsListKept, ListInsertion, MayInsert}
 
 -- ---- one more of a list is written to the front of another
 pub write_more : (xs ys : List ℕ) (i : ℕ) → i < length xs → length xs ≤ length ys
@@ -123,19 +110,22 @@ reserve_refused constraints points before old now fits range same OutOfMemory bi
 
 -- into a plain triangulation
 pub listed_in_plain : (list : List NumberedPoint) (status : ℕ) (before after : List ℕ)
-    (k : KeptPoints) (a b : State NumberedPoint (Unit {0}) (Unit {0}) (Unit {0})) → k ≡ Plain a
+    (k : AnyTriangulation) (a b : State NumberedPoint (Unit {0}) (Unit {0}) (Unit {0})) → k ≡ Plain
+    a
     → ListInsertion kept_place none list status before after a b
     → InsertsListKept list status before after k (Plain b)
 listed_in_plain list status before after k a b is h =
-    subst (λ (w : KeptPoints). InsertsListKept list status before after w (Plain b)) (sym is) h
+    subst (λ (w : AnyTriangulation). InsertsListKept list status before after w (Plain b)) (sym is)
+    h
 
 -- into a constrained one
 pub listed_in_constrained : (list : List NumberedPoint) (status : ℕ) (before after : List ℕ)
-    (k : KeptPoints) (a b : State NumberedPoint (Unit {0}) (CdtEdge (Unit {0})) (Unit {0}))
+    (k : AnyTriangulation) (a b : State NumberedPoint (Unit {0}) (CdtEdge (Unit {0})) (Unit {0}))
     → k ≡ Constrained a → ListInsertion kept_place constraint_edges list status before after a b
     → InsertsListKept list status before after k (Constrained b)
 listed_in_constrained list status before after k a b is h =
-    subst (λ (w : KeptPoints). InsertsListKept list status before after w (Constrained b)) (sym is)
+    subst (λ (w : AnyTriangulation). InsertsListKept list status before after w (Constrained b))
+    (sym is)
     h
 
 -- for the functions that make the edit

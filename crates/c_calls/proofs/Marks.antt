@@ -7,21 +7,15 @@ use Rattle.std.specs.List.{range_with_len}
 use Rattle.std.proofs.lemmas.Bool.{cases_eq}
 use Rattle.std.proofs.lemmas.List.FromFn.{get_or-range_with_len, length-range_with_len}
 use Rattle.std.proofs.lemmas.Option.{slice_get-map, slice_get-get_or}
-use Rattle.delaunay_edit.proofs.half_edge_links_lemmas.Lists.Rev.{rev-rev}
-use Rattle.delaunay_edit.proofs.half_edge_links_lemmas.Sound.Parts.{rev_of_odd}
-use Rattle.delaunay_edit.specs.half_edge_links.Mesh.{origin, rev}
-use Rattle.delaunay_edit.specs.plane.Fraction.{Point}
-use Rattle.delaunay_edit.specs.plane.Pairs.{Joins, IsSamePair}
-use Rattle.delaunay_edit.specs.delaunay_legalization.Drawn.{edges_of}
-use Rattle.delaunay_edit.specs.delaunay_legalization.Legal.{pair_at}
-use Rattle.delaunay_edit.specs.delaunay_legalization.Constraints.{constraints_by, marked_edges}
-use Rattle.delaunay_edit.specs.delaunay_legalization.Shape.{IsTriangulated}
-use Rattle.delaunay_edit.specs.delaunay_legalization.State.{State, triangulation_of}
-use Rattle.delaunay_edit.proofs.delaunay_legalization_lemmas.WorkList.{pairs_are_edges}
-use Rattle.delaunay_edit.proofs.ConstraintEdges.{joined_by, fixed_if_joined}
+use Rattle.plane.specs.{IsSamePair, Joins, Point}
+use Rattle.half_edge_links.specs.{origin, rev}
+use Rattle.half_edge_links.proofs.{rev-rev, rev_of_odd}
+use Rattle.delaunay_legalization.specs.{constraints_by, edges_of, IsTriangulated, marked_edges}
+use Rattle.delaunay_legalization.specs.{pair_at, State.State, triangulation_of}
+use Rattle.delaunay_legalization.proofs.WorkList.{pairs_are_edges}
+use Rattle.delaunay_edit.proofs.ConstraintEdges.{fixed_if_joined, joined_by}
+use Rattle.c_calls.specs.{Links.IsMarkOf, Links.IsRawEdge, Queries.IsEdgeEntry, Queries.IsMark}
 use Rattle.c_calls.specs.declared.raw.RawEdge.{RawEdge}
-use Rattle.c_calls.specs.Links.{IsMarkOf, IsRawEdge}
-use Rattle.c_calls.specs.Queries.{IsEdgeEntry, IsMark}
 
 -- a pair that is joined is so by each name of its ends
 joins_same : (pairs : List (ℕ × ℕ)) (a b i j : ℕ) → IsSamePair a b i j → Joins pairs a b

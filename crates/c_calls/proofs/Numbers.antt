@@ -10,14 +10,11 @@ use Rattle.std.proofs.lemmas.List.{length-map, length-set, length-take-le, get_o
 use Rattle.std.proofs.lemmas.List.{map-set, take_more}
 use Rattle.std.proofs.lemmas.Option.{slice_get-get_or, slice_get_within, get_or_from_slice_get}
 use Rattle.std.proofs.Math.Seq.{map-set_same}
-use Rattle.delaunay_edit.specs.delaunay_legalization.State.{State}
-use Rattle.delaunay_edit.specs.delaunay_legalization.declared.cdt_edge.CdtEdge.{CdtEdge}
-use Rattle.c_calls.specs.declared.raw.NumberedPoint.{NumberedPoint}
-use Rattle.c_calls.specs.declared.kept.KeptPoints.{KeptPoints}
-use Rattle.c_calls.specs.declared.kept.KeptPoints.TheVariants.{Plain, Constrained}
-use Rattle.c_calls.specs.declared.statuses.TheConstants.{WELL, UNEQUAL_LENGTHS, NO_SUCH_VERTEX}
-use Rattle.c_calls.specs.Lists.{GivesNumbers, Numbering, NumbersKept}
-use Rattle.c_calls.specs.Lists.{numbered, numbering_unequal, numbering_of_none}
+use Rattle.delaunay_legalization.specs.{declared.cdt_edge.CdtEdge.CdtEdge, State.State}
+use Rattle.c_calls.specs.{AnyTriangulation, Constrained, GivesNumbers, NumberedPoint, Plain, WELL}
+use Rattle.c_calls.specs.Lists.{numbered, Numbering, numbering_of_none, numbering_unequal}
+use Rattle.c_calls.specs.Lists.{NumbersKept}
+use Rattle.c_calls.specs.declared.statuses.TheConstants.{NO_SUCH_VERTEX, UNEQUAL_LENGTHS}
 
 -- ---- lists
 -- a write leaves what is elsewhere
@@ -210,19 +207,20 @@ module _ {D U F : Type 0} where
   numbers_none vertices numbers s missing = numbering_of_none refl missing refl
 
 -- of a plain triangulation
-pub numbered_in_plain : (vertices numbers : List ℕ) (status : ℕ) (k : KeptPoints)
+pub numbered_in_plain : (vertices numbers : List ℕ) (status : ℕ) (k : AnyTriangulation)
     (a b : State NumberedPoint (Unit {0}) (Unit {0}) (Unit {0})) → k ≡ Plain a
     → Numbering vertices numbers status a b → NumbersKept vertices numbers status k (Plain b)
 numbered_in_plain vertices numbers status k a b is h =
-    subst (λ (w : KeptPoints). NumbersKept vertices numbers status w (Plain b)) (sym is) h
+    subst (λ (w : AnyTriangulation). NumbersKept vertices numbers status w (Plain b)) (sym is) h
 
 -- of a constrained one
-pub numbered_in_constrained : (vertices numbers : List ℕ) (status : ℕ) (k : KeptPoints)
+pub numbered_in_constrained : (vertices numbers : List ℕ) (status : ℕ) (k : AnyTriangulation)
     (a b : State NumberedPoint (Unit {0}) (CdtEdge (Unit {0})) (Unit {0})) → k ≡ Constrained a
     → Numbering vertices numbers status a b
     → NumbersKept vertices numbers status k (Constrained b)
 numbered_in_constrained vertices numbers status k a b is h =
-    subst (λ (w : KeptPoints). NumbersKept vertices numbers status w (Constrained b)) (sym is) h
+    subst (λ (w : AnyTriangulation). NumbersKept vertices numbers status w (Constrained b)) (sym is)
+    h
 
 -- for the functions that make the edit
 pub ruleset numberings = (is_numbered, is_unequal, numbers_none)

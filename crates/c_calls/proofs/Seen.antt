@@ -3,10 +3,8 @@
 use Rattle.std.proofs.Common.{◌≡◌, ◌∙◌, ◌+◌, ◌-◌, ℕ, Bool, false, eqb, List, ap, subst, arith}
 use Rattle.std.specs.Prelude.{IsTrue}
 use Rattle.std.proofs.lemmas.Bool.{cond-false, ne_eqb}
-use Rattle.delaunay_edit.specs.plane.Fraction.{Fraction}
-use Rattle.delaunay_edit.specs.plane.Tiling.{Triangulation}
-use Rattle.plane_theorems.specs.Sight.Sight.{IsInSight}
-use Rattle.delaunay_shapes.specs.Beside.{by_place}
+use Rattle.plane_theorems.specs.{IsInSight}
+use Rattle.{delaunay_shapes.specs.by_place, plane.specs.Fraction, plane.specs.Triangulation}
 use Rattle.c_calls.specs.Sight.{is_free_face, is_marked}
 
 -- by its place in the list of inner faces a face is free where its byte is not 0

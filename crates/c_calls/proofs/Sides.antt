@@ -6,22 +6,15 @@ use Rattle.std.specs.Prelude.{Option, Some, slice_get, IsSomeAnd}
 use Rattle.std.proofs.lemmas.Bool.{cases_eq}
 use Rattle.std.proofs.lemmas.Bool.Decides.{nat_tests}
 use Rattle.std.proofs.lemmas.Option.{slice_get-map, slice_get-get_or}
-use Rattle.delaunay_edit.proofs.half_edge_links_lemmas.Lists.Rev.{rev-rev, rev_within}
-use Rattle.delaunay_edit.specs.half_edge_links.Mesh.{face, face_edge, next, origin, prev, rev}
-use Rattle.delaunay_edit.specs.half_edge_links.Triangles.{triangle_at, triangles}
-use Rattle.delaunay_edit.specs.plane.Fraction.{Point}
-use Rattle.delaunay_edit.specs.plane.Tiling.{Face, face as corners}
-use Rattle.delaunay_edit.specs.delaunay_legalization.Drawn.{corners_of, faces_of}
-use Rattle.delaunay_edit.proofs.delaunay_legalization_lemmas.OuterEdges.{listed}
-use Rattle.delaunay_edit.specs.delaunay_legalization.Constraints.{constraints_by, marked_edges}
-use Rattle.delaunay_edit.specs.delaunay_legalization.Shape.{IsTriangulated}
-use Rattle.delaunay_edit.specs.delaunay_legalization.State.{State, triangulation_of}
-use Rattle.delaunay_edit.proofs.delaunay_legalization_lemmas.MeshParts.{outer_bare}
-use Rattle.c_calls.specs.declared.raw.RawFace.{RawFace}
-use Rattle.c_calls.specs.declared.statuses.TheConstants.{NONE}
-use Rattle.c_calls.specs.Links.{IsRawFace, IsRawSide}
-use Rattle.c_calls.specs.Queries.{HasWayRound, IsBeyond, IsFaceEntry, SideEntry, face_number}
-use Rattle.c_calls.proofs.Marks.{mark_joins}
+use Rattle.plane.specs.{Face, face as corners, Point}
+use Rattle.half_edge_links.specs.{face, face_edge, next, origin, prev, rev, triangle_at, triangles}
+use Rattle.half_edge_links.proofs.{rev-rev, rev_within}
+use Rattle.delaunay_legalization.specs.{constraints_by, corners_of, faces_of, IsTriangulated}
+use Rattle.delaunay_legalization.specs.{marked_edges, State.State, triangulation_of}
+use Rattle.delaunay_legalization.proofs.{listed, outer_bare}
+use Rattle.c_calls.specs.{declared.statuses.TheConstants.NONE, Links.IsRawFace, Links.IsRawSide}
+use Rattle.c_calls.specs.Queries.{face_number, HasWayRound, IsBeyond, SideEntry}
+use Rattle.{c_calls.proofs.Marks.mark_joins, c_calls.specs.IsFaceEntry, c_calls.specs.RawFace}
 
 -- ---- the numbers of faces
 outer_number : (f : ℕ) → f ≡ 0 → face_number f ≡ NONE

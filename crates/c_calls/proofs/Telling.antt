@@ -8,8 +8,7 @@ use Rattle.std.specs.Prelude.{if◌then◌else◌, nat_lt}
 use Rattle.std.proofs.lemmas.Bool.{cases_lt}
 use Rattle.std.proofs.lemmas.List.{drop_all, drop_more, length_push, set_at, set_past, take_all}
 use Rattle.std.proofs.lemmas.List.{take-append-le}
-use Rattle.c_calls.specs.declared.statuses.TheConstants.{WELL, TOO_SHORT}
-use Rattle.c_calls.specs.Written.{Tells}
+use Rattle.c_calls.specs.{declared.statuses.TheConstants.TOO_SHORT, WELL, Written.Tells}
 
 module _ {A : Type 0} where
   -- ---- a list whose first places have these answers, as far as there is room

@@ -3,7 +3,7 @@
 use Rattle.std.proofs.Common.{◌≡◌, ◌∙◌, ◌+◌, ◌-◌, ◌++◌, ◌∷◌, [], ℕ, List, length, drop}
 use Rattle.std.proofs.Common.{ap, append_assoc, arith}
 use Rattle.std.proofs.lemmas.List.{length_push}
-use Rattle.c_calls.specs.Words.{WritesWords, status_words}
+use Rattle.c_calls.specs.Words.{status_words, WritesWords}
 
 -- the words were written with their final 0 byte
 pub words_end : (s : ℕ) (bytes old new : List ℕ) → bytes ≡ status_words s ++ 0 ∷ []

@@ -7,26 +7,14 @@ use Rattle.std.proofs.Common.{length-append}
 use Rattle.std.specs.Prelude.{None, Some, ℤ}
 use Rattle.std.specs.List.{AllZip}
 use Rattle.std.specs.Borrow.{Bor}
-use Rattle.delaunay_edit.specs.half_edge_dcel.Contents.{Contents}
-use Rattle.delaunay_edit.specs.half_edge_links.Mesh.{origin, rev}
-use Rattle.delaunay_edit.specs.plane.Fraction.{Point}
-use Rattle.delaunay_edit.specs.plane.Line.{Item}
-use Rattle.delaunay_edit.specs.delaunay_legalization.Constraints.{constraints_by, marked_edges}
-use Rattle.delaunay_edit.specs.delaunay_legalization.Shape.{IsTriangulated}
-use Rattle.delaunay_edit.specs.delaunay_legalization.State.{State, state_of}
-use Rattle.delaunay_edit.specs.delaunay_location.declared.intersection.Intersection.{Intersection}
-use Rattle.delaunay_edit.specs.delaunay_location.declared.intersection.Intersection.TheVariants.{EdgeIntersection}
-use Rattle.delaunay_edit.specs.delaunay_location.declared.intersection.Intersection.TheVariants.{VertexIntersection}
-use Rattle.delaunay_edit.specs.delaunay_location.declared.intersection.Intersection.TheVariants.{EdgeOverlap}
-use Rattle.delaunay_edit.specs.delaunay_location.declared.iterator.LineIntersectionIterator.{LineIntersectionIterator}
-use Rattle.delaunay_edit.specs.delaunay_location.Items.{item_in, mesh_of}
-use Rattle.delaunay_edit.specs.delaunay_location.Walk.{AreLeft, GivesNext}
-use Rattle.delaunay_edit.proofs.ConstraintEdges.{as_many}
-use Rattle.c_calls.specs.declared.raw.RawMeeting.{RawMeeting}
-use Rattle.c_calls.specs.Links.{IsMetEdge, IsRawMeeting}
-use Rattle.c_calls.specs.Queries.{IsMark, IsMeeting}
-use Rattle.c_calls.proofs.Marks.{mark_joins}
-use Rattle.c_calls.proofs.Telling.{IsTold, none_told, told_more}
+use Rattle.{half_edge_dcel.specs.Contents, half_edge_links.specs.origin, half_edge_links.specs.rev}
+use Rattle.delaunay_legalization.specs.{constraints_by, IsTriangulated, marked_edges, state_of}
+use Rattle.delaunay_location.specs.{AreLeft, EdgeIntersection, EdgeOverlap, GivesNext, Intersection}
+use Rattle.delaunay_location.specs.{item_in, LineIntersectionIterator, mesh_of, VertexIntersection}
+use Rattle.{delaunay_edit.proofs.ConstraintEdges.as_many, delaunay_legalization.specs.State.State}
+use Rattle.c_calls.specs.{IsMeeting, Links.IsMetEdge, Links.IsRawMeeting, RawMeeting}
+use Rattle.{c_calls.specs.Queries.IsMark, plane.specs.Item, plane.specs.Point}
+use Rattle.c_calls.proofs.{Marks.mark_joins, Telling.IsTold, Telling.none_told, Telling.told_more}
 
 -- there are no more answers than items where each has its own
 pub no_more : {A B : Type 0} (R : A → B → Type 0) (xs : List A) (ys : List B) → AllZip R xs ys

@@ -6,8 +6,7 @@ use Rattle.std.specs.Prelude.{Option, Some, IsSomeAnd, slice_get}
 use Rattle.std.proofs.lemmas.Bool.{cases_eq}
 use Rattle.std.proofs.lemmas.List.{drop-drop, drop-set-lt, get_or_default}
 use Rattle.std.proofs.lemmas.Option.{slice_get-get_or}
-use Rattle.c_calls.specs.declared.raw.RawPoint.{RawPoint}
-use Rattle.c_calls.specs.Written.{Answered, IsAnswerAt, IsRawInRange}
+use Rattle.c_calls.specs.{Answered, IsAnswerAt, IsRawInRange, RawPoint}
 
 -- what was written at a place is read there
 pub get_same : {A : Type 0} (xs : List A) (i : ℕ) (a : A) → i < length xs

@@ -1,23 +1,16 @@
 -- What calls on a handle say.
 use Rattle.std.specs.Prelude.{◌≡◌, ◌≢◌, ℕ, nat_eq, [], Option, None, Some, Result, Ok, Err}
 use Rattle.std.specs.Prelude.{◌↔◌, ◌<◌, IfOk, IfSome}
-use Rattle.delaunay_edit.specs.delaunay_core.declared.math.InsertionError.{InsertionError}
-use Rattle.delaunay_edit.specs.delaunay_core.declared.math.InsertionError.TheVariants.{
-  TooLarge,
-  OutOfMemory,
-  OutOfIndexes,
-}
-use Rattle.delaunay_journal.specs.declared.edit.Outcome.{Outcome}
-use Rattle.delaunay_journal.specs.declared.edit.Outcome.TheVariants.{Refused}
-use Rattle.delaunay_journal.specs.declared.edit.Refusal.{Refusal}
-use Rattle.delaunay_journal.specs.declared.edit.Refusal.TheVariants as refusal
-use Rattle.c_calls.specs.declared.raw.NumberedPoint.{NumberedPoint}
-use Rattle.c_calls.specs.declared.kept.KeptPoints.{KeptPoints}
-use Rattle.c_calls.specs.declared.statuses.TheConstants.{ALREADY_OPEN, WELL, TOO_LARGE}
-use Rattle.c_calls.specs.declared.statuses.TheConstants.{NO_SUCH_KIND, NO_SUCH_VERTEX, IS_PLAIN}
-use Rattle.c_calls.specs.declared.statuses.TheConstants.{CROSSING, NO_CONSTRAINT}
-use Rattle.c_calls.specs.declared.statuses.TheConstants.{OUT_OF_INDEXES, OUT_OF_MEMORY}
+use Rattle.delaunay_core.specs.{InsertionError, OutOfIndexes, OutOfMemory, TooLarge}
+use Rattle.delaunay_journal.specs.{declared.edit.Refusal.Refusal, Outcome, Refused}
 use Rattle.c_calls.specs.Kept.{InsertsKept, IsKeptDelaunay, IsOfKind, kept_vertices}
+use Rattle.c_calls.specs.declared.kept.AnyTriangulation.{AnyTriangulation}
+use Rattle.c_calls.specs.declared.raw.NumberedPoint.{NumberedPoint}
+use Rattle.c_calls.specs.declared.statuses.TheConstants.{ALREADY_OPEN, CROSSING, IS_PLAIN}
+use Rattle.c_calls.specs.declared.statuses.TheConstants.{NO_CONSTRAINT, NO_SUCH_KIND}
+use Rattle.c_calls.specs.declared.statuses.TheConstants.{NO_SUCH_VERTEX, OUT_OF_INDEXES}
+use Rattle.c_calls.specs.declared.statuses.TheConstants.{OUT_OF_MEMORY, TOO_LARGE, WELL}
+use Rattle.delaunay_journal.specs.declared.edit.Refusal.TheVariants as refusal
 
 -- the status of a refused insertion
 abbrev pub status_of_error : InsertionError → ℕ
@@ -47,9 +40,9 @@ status_of_insertion (Err e) = status_of_error e
 
 -- an open handle had a triangulation, into which a value was inserted: the handle has what the
 -- library's insertion made of it, and the status says how that ended
-pub record InsertsAt (v : NumberedPoint) (status vertex : ℕ) (old : KeptPoints)
-    (kept : Option KeptPoints) : Type 0 where
-  pub new : KeptPoints
+pub record InsertsAt (v : NumberedPoint) (status vertex : ℕ) (old : AnyTriangulation)
+    (kept : Option AnyTriangulation) : Type 0 where
+  pub new : AnyTriangulation
   pub is_kept : kept ≡ Some new
   pub inserted : Result ℕ InsertionError
   pub inserts : InsertsKept v inserted old new
@@ -59,7 +52,7 @@ pub record InsertsAt (v : NumberedPoint) (status vertex : ℕ) (old : KeptPoints
 
 -- a closed handle was to be opened, with a triangulation of this kind. Any other status says that
 -- memory was refused
-pub record OpensAt (kind status : ℕ) (kept : Option KeptPoints) : Type 0 where
+pub record OpensAt (kind status : ℕ) (kept : Option AnyTriangulation) : Type 0 where
   pub opened : status ≡ WELL → IfSome kept (λ k.
       IsOfKind (nat_eq kind 1) k × (kept_vertices k ≡ []) × IsKeptDelaunay k)
   pub refused : status ≢ WELL → kept ≡ None
@@ -67,8 +60,9 @@ pub record OpensAt (kind status : ℕ) (kept : Option KeptPoints) : Type 0 where
   pub others : status ≢ WELL → status ≢ NO_SUCH_KIND → status ≡ OUT_OF_MEMORY
 
 -- how it ended that a handle was to be opened with a copy of this triangulation
-pub data OpensCopy (k : KeptPoints) (status : ℕ) (old new : Option KeptPoints) : Type 0 where
-  copied : status ≡ WELL → old ≡ None → new ≡ Some k → IsKeptDelaunay k
-      → OpensCopy k status old new
-  copy_to_open : status ≡ ALREADY_OPEN → old ≢ None → new ≡ old → OpensCopy k status old new
-  copy_refused : status ≡ OUT_OF_MEMORY → old ≡ None → new ≡ None → OpensCopy k status old new
+pub data OpensCopy (k : AnyTriangulation) (status : ℕ) (old new : Option AnyTriangulation) : Type 0
+  where
+    copied : status ≡ WELL → old ≡ None → new ≡ Some k → IsKeptDelaunay k
+        → OpensCopy k status old new
+    copy_to_open : status ≡ ALREADY_OPEN → old ≢ None → new ≡ old → OpensCopy k status old new
+    copy_refused : status ≡ OUT_OF_MEMORY → old ≡ None → new ≡ None → OpensCopy k status old new

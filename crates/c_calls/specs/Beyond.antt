@@ -2,12 +2,9 @@
 use Rattle.std.specs.Prelude.{◌≡◌, ◌⊎◌, ℕ, ℤ, pos, negsuc, true, false, List, length}
 use Rattle.std.specs.Prelude.{Option, Some, None, slice_get, IsSomeAnd, if◌then◌else◌}
 use Rattle.std.specs.Ordering.{int_eq}
-use Rattle.delaunay_edit.specs.plane.Tiling.{Triangulation}
-use Rattle.delaunay_edit.specs.delaunay_legalization.Known.{point_at}
-use Rattle.exact_predicates.specs.Disks.{TellsDisk}
-use Rattle.exact_predicates.specs.declared.disks.Sides.{Sides}
-use Rattle.c_calls.specs.declared.raw.RawBox.{RawBox}
-use Rattle.c_calls.specs.Written.{Listing}
+use Rattle.{delaunay_legalization.specs.point_at, plane.specs.Triangulation}
+use Rattle.exact_predicates.specs.{Sides, TellsDisk}
+use Rattle.c_calls.specs.{declared.raw.RawBox.RawBox, Written.Listing}
 
 -- a side of C's, or none at this end of the numbers
 abbrev pub raw_side : ℤ → ℤ → Option ℤ

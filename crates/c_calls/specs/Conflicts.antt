@@ -1,17 +1,11 @@
 -- What C is told of the constraints that a segment crosses.
 use Rattle.std.specs.Prelude.{◌≡◌, ◌≢◌, ◌⊎◌, ◌+◌, [], ◌∷◌, ℕ, List, Option, MatchOption}
 use Rattle.std.specs.Prelude.{slice_set}
-use Rattle.delaunay_edit.specs.plane.Fraction.{whole}
-use Rattle.delaunay_edit.specs.plane.Line.{Item, at_vertex, across, along, IsLineList}
-use Rattle.delaunay_edit.specs.plane.Pairs.{Joins}
-use Rattle.delaunay_edit.specs.plane.Tiling.{Triangulation}
+use Rattle.plane.specs.{across, along, at_vertex, IsLineList, Item, Joins, Triangulation, whole}
+use Rattle.c_calls.specs.{Queries.MayAskLine, Written.Finding, Written.plain_point, Written.Tells}
 use Rattle.c_calls.specs.declared.lines.TheConstants.{ACROSS_EDGE}
-use Rattle.c_calls.specs.declared.raw.RawMeeting.{RawMeeting}
-use Rattle.c_calls.specs.declared.raw.RawPoint.{RawPoint}
-use Rattle.c_calls.specs.declared.raw.RawSegment.{RawSegment}
-use Rattle.c_calls.specs.declared.statuses.TheConstants.{TOO_LARGE}
-use Rattle.c_calls.specs.Queries.{MayAskLine}
-use Rattle.c_calls.specs.Written.{Finding, Tells, plain_point}
+use Rattle.c_calls.specs.{declared.raw.RawMeeting.RawMeeting, declared.raw.RawSegment.RawSegment}
+use Rattle.c_calls.specs.{declared.raw.RawPoint.RawPoint, declared.statuses.TheConstants.TOO_LARGE}
 
 -- the segment crosses an edge there which is a constraint, as these are
 abbrev pub IsCrossed : List (ℕ × ℕ) → Item → RawSegment → Type 0

@@ -1,23 +1,20 @@
 -- What edits of a triangulation that C keeps make of it, by their statuses.
 use Rattle.std.specs.Prelude.{◌≡◌, ◌<◌, [], ℕ, List, length, Option, Some, false, true}
-use Rattle.delaunay_edit.specs.plane.Fraction.{Point}
-use Rattle.delaunay_edit.specs.plane.Pairs.{Joins}
-use Rattle.delaunay_edit.specs.plane.Plain.{Adds, CanAdd, Releases, Removes, Unconstrains}
-use Rattle.delaunay_edit.specs.delaunay_legalization.Constraints.{points_and_constraints_by}
-use Rattle.delaunay_edit.specs.delaunay_legalization.State.{State}
-use Rattle.delaunay_edit.specs.delaunay_legalization.declared.cdt_edge.CdtEdge.{CdtEdge}
-use Rattle.delaunay_edit.specs.Constrained.{none, constrained, constraint_edges, constraints_of}
-use Rattle.c_calls.specs.declared.kept.KeptPoints.{KeptPoints}
-use Rattle.c_calls.specs.declared.kept.KeptPoints.TheVariants.{Plain, Constrained}
-use Rattle.c_calls.specs.declared.statuses.TheConstants.{WELL, IS_PLAIN, NO_SUCH_VERTEX}
-use Rattle.c_calls.specs.declared.statuses.TheConstants.{CROSSING, IS_CONSTRAINED}
-use Rattle.c_calls.specs.declared.statuses.TheConstants.{NO_CONSTRAINT, OUT_OF_MEMORY}
+use Rattle.plane.specs.{Adds, CanAdd, Joins, Point, Releases, Removes, Unconstrains}
+use Rattle.delaunay_legalization.specs.{points_and_constraints_by}
+use Rattle.delaunay_legalization.specs.{declared.cdt_edge.CdtEdge.CdtEdge, State.State}
+use Rattle.delaunay_edit.specs.{constrained, constraint_edges, constraints_of, none}
 use Rattle.c_calls.specs.Kept.{IsKeptDelaunay, IsOfKind, kept_place, kept_state, kept_vertices}
+use Rattle.c_calls.specs.declared.kept.AnyTriangulation.{AnyTriangulation}
+use Rattle.c_calls.specs.declared.kept.AnyTriangulation.TheVariants.{Constrained, Plain}
+use Rattle.c_calls.specs.declared.statuses.TheConstants.{CROSSING, IS_CONSTRAINED, IS_PLAIN}
+use Rattle.c_calls.specs.declared.statuses.TheConstants.{NO_CONSTRAINT, NO_SUCH_VERTEX}
+use Rattle.c_calls.specs.declared.statuses.TheConstants.{OUT_OF_MEMORY, WELL}
 
 -- an open handle had a triangulation: it has what this edit made of it
-pub record EditsAt (Edits : KeptPoints → KeptPoints → Type 0) (old : KeptPoints)
-    (kept : Option KeptPoints) : Type 0 where
-  pub new : KeptPoints
+pub record EditsAt (Edits : AnyTriangulation → AnyTriangulation → Type 0) (old : AnyTriangulation)
+    (kept : Option AnyTriangulation) : Type 0 where
+  pub new : AnyTriangulation
   pub is_kept : kept ≡ Some new
   pub edits : Edits old new
   pub headline : IsKeptDelaunay new
@@ -60,7 +57,7 @@ module _ {V D U F : Type 0} (place : V → Point) where
         → Release from to status old new
 
 -- a removal of a vertex from either type, which stays
-abbrev pub RemovesKept : ℕ → ℕ → KeptPoints → KeptPoints → Type 0
+abbrev pub RemovesKept : ℕ → ℕ → AnyTriangulation → AnyTriangulation → Type 0
 RemovesKept vertex status (Plain a) (Plain b) = Removal kept_place none vertex status a b
 RemovesKept vertex status (Constrained a) (Constrained b) =
     Removal kept_place constraint_edges vertex status a b
@@ -68,13 +65,13 @@ RemovesKept vertex status (Plain a) (Constrained b) = ⊥
 RemovesKept vertex status (Constrained a) (Plain b) = ⊥
 
 -- an addition of constraints. A plain triangulation refuses it
-abbrev pub AddsKept : ℕ → ℕ → ℕ → KeptPoints → KeptPoints → Type 0
+abbrev pub AddsKept : ℕ → ℕ → ℕ → AnyTriangulation → AnyTriangulation → Type 0
 AddsKept from to status (Plain a) new = (status ≡ IS_PLAIN) × (new ≡ Plain a)
 AddsKept from to status (Constrained a) (Constrained b) = Addition kept_place from to status a b
 AddsKept from to status (Constrained a) (Plain b) = ⊥
 
 -- a release of a constraint. A plain triangulation refuses it
-abbrev pub ReleasesKept : ℕ → ℕ → ℕ → KeptPoints → KeptPoints → Type 0
+abbrev pub ReleasesKept : ℕ → ℕ → ℕ → AnyTriangulation → AnyTriangulation → Type 0
 ReleasesKept from to status (Plain a) new = (status ≡ IS_PLAIN) × (new ≡ Plain a)
 ReleasesKept from to status (Constrained a) (Constrained b) =
     Release kept_place from to status a b
@@ -87,7 +84,7 @@ pub record KeepsIndexes {V D U T F : Type 0} (old : State V D U F) (new : State 
     pub mesh : new.mesh ≡ old.mesh
 
 -- a plain triangulation was to become a constrained one, and a constrained one refuses that
-abbrev pub AllowsConstraints : ℕ → KeptPoints → KeptPoints → Type 0
+abbrev pub AllowsConstraints : ℕ → AnyTriangulation → AnyTriangulation → Type 0
 AllowsConstraints status (Plain a) (Constrained b) =
     (status ≡ WELL) × Unconstrains kept_place (kept_state (Plain a)) (constrained b)
     × KeepsIndexes a b
@@ -96,11 +93,11 @@ AllowsConstraints status (Constrained a) new =
     (status ≡ IS_CONSTRAINED) × (new ≡ Constrained a)
 
 -- two triangulations are of one kind
-abbrev pub IsSameKind : KeptPoints → KeptPoints → Type 0
+abbrev pub IsSameKind : AnyTriangulation → AnyTriangulation → Type 0
 IsSameKind (Plain a) new = IsOfKind false new
 IsSameKind (Constrained a) new = IsOfKind true new
 
 -- all was forgotten, and the kind stayed
-abbrev pub ClearsKept : ℕ → KeptPoints → KeptPoints → Type 0
+abbrev pub ClearsKept : ℕ → AnyTriangulation → AnyTriangulation → Type 0
 ClearsKept status old new =
     (status ≡ WELL) × (kept_vertices new ≡ []) × IsSameKind old new

@@ -1,16 +1,13 @@
 -- What C is told of the layers of faces.
 use Rattle.std.specs.Prelude.{◌≡◌, ◌+◌, ℕ, List, length}
-use Rattle.delaunay_edit.specs.half_edge_links.Mesh.{Mesh}
-use Rattle.delaunay_edit.specs.plane.Tiling.{Triangulation}
-use Rattle.delaunay_edit.specs.Constrained.{none, constraint_edges}
-use Rattle.delaunay_queries.specs.Layers.{IsLayer}
-use Rattle.c_calls.specs.declared.kept.KeptPoints.{KeptPoints}
-use Rattle.c_calls.specs.declared.kept.KeptPoints.TheVariants.{Plain, Constrained}
-use Rattle.c_calls.specs.declared.statuses.TheConstants.{OUT_OF_MEMORY}
-use Rattle.c_calls.specs.Written.{Listing}
+use Rattle.delaunay_edit.specs.{constraint_edges, none}
+use Rattle.{delaunay_queries.specs.Layers.IsLayer, plane.specs.Triangulation}
+use Rattle.c_calls.specs.{declared.kept.AnyTriangulation.AnyTriangulation, Written.Listing}
+use Rattle.c_calls.specs.declared.kept.AnyTriangulation.TheVariants.{Constrained, Plain}
+use Rattle.{c_calls.specs.declared.statuses.TheConstants.OUT_OF_MEMORY, half_edge_links.specs.Mesh}
 
 -- the undirected edges that are constraints, by index
-abbrev pub kept_marked : KeptPoints → List ℕ
+abbrev pub kept_marked : AnyTriangulation → List ℕ
 kept_marked (Plain t) = none t.undirected
 kept_marked (Constrained t) = constraint_edges t.undirected
 

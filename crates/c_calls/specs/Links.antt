@@ -1,18 +1,12 @@
 -- What handles of a mesh say, in the numbers that C is told.
 use Rattle.std.specs.Prelude.{◌≡◌, ◌⊎◌, ◌/◌, ◌≤◌, ℕ, List, length, map, Contains}
 use Rattle.std.specs.Borrow.{Bor}
-use Rattle.delaunay_edit.specs.half_edge_links.declared.room.TheConstants.{MAX_ELEMENTS}
-use Rattle.delaunay_edit.specs.half_edge_dcel.Contents.{Contents}
-use Rattle.delaunay_edit.specs.half_edge_links.Mesh.{face, next, prev, origin, rev}
-use Rattle.delaunay_edit.specs.delaunay_legalization.State.{State, state_of}
-use Rattle.delaunay_edit.specs.delaunay_location.declared.intersection.Intersection.{Intersection}
-use Rattle.delaunay_edit.specs.delaunay_location.declared.intersection.Intersection.TheVariants.{EdgeIntersection}
-use Rattle.delaunay_edit.specs.delaunay_location.declared.intersection.Intersection.TheVariants.{VertexIntersection}
-use Rattle.delaunay_edit.specs.delaunay_location.declared.intersection.Intersection.TheVariants.{EdgeOverlap}
-use Rattle.c_calls.specs.declared.lines.TheConstants.{AT_VERTEX, ACROSS_EDGE, ALONG_EDGE}
-use Rattle.c_calls.specs.declared.raw.RawFace.{RawFace}
-use Rattle.c_calls.specs.declared.raw.RawMeeting.{RawMeeting}
-use Rattle.c_calls.specs.Queries.{face_number}
+use Rattle.half_edge_links.specs.{face, MAX_ELEMENTS, next, origin, prev, rev}
+use Rattle.{delaunay_legalization.specs.State.State, delaunay_legalization.specs.state_of}
+use Rattle.delaunay_location.specs.{EdgeIntersection, EdgeOverlap, Intersection, VertexIntersection}
+use Rattle.{c_calls.specs.Queries.face_number, half_edge_dcel.specs.Contents}
+use Rattle.c_calls.specs.declared.lines.TheConstants.{ACROSS_EDGE, ALONG_EDGE, AT_VERTEX}
+use Rattle.c_calls.specs.{declared.raw.RawFace.RawFace, declared.raw.RawMeeting.RawMeeting}
 
 -- the mark of undirected edge k, where these are constraints: 1 if it is one of them, and else 0
 abbrev pub IsMarkOf : List ℕ → ℕ → ℕ → Type 0

@@ -2,23 +2,18 @@
 use Rattle.std.specs.Prelude.{◌≡◌, ◌≢◌, ◌+◌, ◌*◌, ◌<◌, ◌≤◌, [], ◌∷◌, ◌++◌, ℕ, Bool, true, false}
 use Rattle.std.specs.Prelude.{List, length, map}
 use Rattle.std.specs.Prelude.{All, Contains, Some, drop, slice_get, take}
-use Rattle.delaunay_edit.specs.plane.Fraction.{Point}
-use Rattle.delaunay_edit.specs.plane.Plain.{Adds, CanAdd}
-use Rattle.delaunay_edit.specs.plane.Tests.{InRange}
-use Rattle.delaunay_edit.specs.half_edge_links.declared.room.TheConstants.{MAX_ELEMENTS}
-use Rattle.delaunay_edit.specs.delaunay_legalization.State.{State}
-use Rattle.delaunay_edit.specs.delaunay_legalization.declared.cdt_edge.CdtEdge.{CdtEdge}
-use Rattle.delaunay_edit.specs.Constrained.{none, constrained, constraint_edges}
-use Rattle.delaunay_bulk.specs.declared.error.BulkInsertionError.{BulkInsertionError}
-use Rattle.delaunay_bulk.specs.Bulk.{InsertsAll, StopsLater}
-use Rattle.c_calls.specs.declared.raw.NumberedPoint.{NumberedPoint}
-use Rattle.c_calls.specs.declared.raw.RawPoint.{RawPoint}
-use Rattle.c_calls.specs.declared.kept.KeptPoints.{KeptPoints}
-use Rattle.c_calls.specs.declared.kept.KeptPoints.TheVariants.{Plain, Constrained}
-use Rattle.c_calls.specs.declared.statuses.TheConstants.{WELL, IS_PLAIN, UNEQUAL_LENGTHS}
-use Rattle.c_calls.specs.declared.statuses.TheConstants.{TOO_LARGE, TOO_SHORT, NO_SUCH_VERTEX}
-use Rattle.c_calls.specs.declared.statuses.TheConstants.{CROSSING, OUT_OF_INDEXES, OUT_OF_MEMORY}
+use Rattle.plane.specs.{Adds, CanAdd, InRange, Point}
+use Rattle.half_edge_links.specs.{MAX_ELEMENTS}
+use Rattle.delaunay_legalization.specs.{declared.cdt_edge.CdtEdge.CdtEdge, State.State}
+use Rattle.delaunay_edit.specs.{constrained, constraint_edges, none}
+use Rattle.delaunay_bulk.specs.{Bulk.StopsLater, BulkInsertionError, InsertsAll}
 use Rattle.c_calls.specs.Kept.{kept_place, unnumbered_at}
+use Rattle.c_calls.specs.declared.kept.AnyTriangulation.{AnyTriangulation}
+use Rattle.c_calls.specs.declared.kept.AnyTriangulation.TheVariants.{Constrained, Plain}
+use Rattle.c_calls.specs.{declared.raw.NumberedPoint.NumberedPoint, declared.raw.RawPoint.RawPoint}
+use Rattle.c_calls.specs.declared.statuses.TheConstants.{CROSSING, IS_PLAIN, NO_SUCH_VERTEX}
+use Rattle.c_calls.specs.declared.statuses.TheConstants.{OUT_OF_INDEXES, OUT_OF_MEMORY, TOO_LARGE}
+use Rattle.c_calls.specs.declared.statuses.TheConstants.{TOO_SHORT, UNEQUAL_LENGTHS, WELL}
 
 -- ---- a list of points
 -- the vertices at these points, each with the number 0
@@ -58,7 +53,8 @@ module _ {V D U F : Type 0} (place : V → Point) (constraints : List U → List
         → after ≡ before → ListInsertion list status before after old new
 
 -- an insertion of a list into either type, which stays
-abbrev pub InsertsListKept : List NumberedPoint → ℕ → List ℕ → List ℕ → KeptPoints → KeptPoints
+abbrev pub InsertsListKept : List NumberedPoint → ℕ → List ℕ → List ℕ → AnyTriangulation →
+    AnyTriangulation
     → Type 0
 InsertsListKept list status before after (Plain a) (Plain b) =
     ListInsertion kept_place none list status before after a b
@@ -92,7 +88,7 @@ pub data Numbering {D U F : Type 0} (vertices numbers : List ℕ) (status : ℕ)
       → new ≡ old → Numbering vertices numbers status old new
 
 -- numbers for vertices of either type, which stays
-abbrev pub NumbersKept : List ℕ → List ℕ → ℕ → KeptPoints → KeptPoints → Type 0
+abbrev pub NumbersKept : List ℕ → List ℕ → ℕ → AnyTriangulation → AnyTriangulation → Type 0
 NumbersKept vertices numbers status (Plain a) (Plain b) = Numbering vertices numbers status a b
 NumbersKept vertices numbers status (Constrained a) (Constrained b) =
     Numbering vertices numbers status a b
@@ -149,7 +145,7 @@ module _ {V D U F : Type 0} (place : V → Point) where
         → ChainAddition vertices closed status made old new
 
 -- a chain of constraints. A plain triangulation refuses it
-abbrev pub AddsChainKept : List ℕ → Bool → ℕ → ℕ → KeptPoints → KeptPoints → Type 0
+abbrev pub AddsChainKept : List ℕ → Bool → ℕ → ℕ → AnyTriangulation → AnyTriangulation → Type 0
 AddsChainKept vertices closed status made (Plain a) new = (status ≡ IS_PLAIN) × (new ≡ Plain a)
 AddsChainKept vertices closed status made (Constrained a) (Constrained b) =
     ChainAddition kept_place vertices closed status made a b

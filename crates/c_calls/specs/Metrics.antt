@@ -1,13 +1,9 @@
 -- The metrics of C's shapes, and what is found by them.
 use Rattle.std.specs.Prelude.{◌≡◌, ℕ, ℤ, List}
-use Rattle.delaunay_edit.specs.delaunay_core.declared.point.Point2.{Point2}
-use Rattle.delaunay_edit.specs.plane.Fraction.{Fraction}
-use Rattle.c_calls.specs.declared.raw.RawPoint.{RawPoint}
-use Rattle.c_calls.specs.declared.raw.RawShape.{RawShape}
-use Rattle.c_calls.specs.declared.statuses.TheConstants.{OUT_OF_MEMORY}
+use Rattle.{delaunay_core.specs.Point2, plane.specs.Fraction}
 use Rattle.c_calls.specs.Shapes.{MayAskCircle, MayAskRectangle}
-use Rattle.c_calls.specs.View.{View}
-use Rattle.c_calls.specs.Written.{Finding}
+use Rattle.c_calls.specs.{declared.statuses.TheConstants.OUT_OF_MEMORY, View.View, Written.Finding}
+use Rattle.c_calls.specs.{declared.raw.RawPoint.RawPoint, declared.raw.RawShape.RawShape}
 
 -- a point of C's, as the library has it
 abbrev pub own_point : RawPoint → Point2 ℤ

@@ -2,36 +2,21 @@
 use Rattle.std.specs.Prelude.{◌≡◌, ◌⊎◌, ◌-◌, ◌/◌, ◌==◌, if◌then◌else◌, ℕ, List, length, map}
 use Rattle.std.specs.Prelude.{Some, slice_get, IsSomeAnd}
 use Rattle.std.specs.List.{AllZip}
-use Rattle.delaunay_edit.specs.plane.Fraction.{Point, Fraction, whole}
-use Rattle.delaunay_edit.specs.plane.Line.{Item, at_vertex, across, along, IsLineList}
-use Rattle.delaunay_edit.specs.plane.Pairs.{Joins}
-use Rattle.delaunay_edit.specs.plane.Shape.{IsNearest}
-use Rattle.delaunay_edit.specs.plane.Tiling.{Face, Triangulation, HasFace, face}
-use Rattle.delaunay_edit.specs.delaunay_legalization.State.{State, triangulation_of}
-use Rattle.delaunay_interface.specs.delaunay_edit.Elements.{FindsLocation}
-use Rattle.delaunay_edit.specs.delaunay_location.declared.position_in_triangulation.PositionInTriangulation.{PositionInTriangulation}
-use Rattle.delaunay_edit.specs.delaunay_location.declared.position_in_triangulation.PositionInTriangulation.TheVariants.{
-  OnVertex,
-  OnEdge,
-  OnFace,
-  OutsideOfConvexHull,
-  NoTriangulation,
-}
-use Rattle.c_calls.specs.declared.raw.NumberedPoint.{NumberedPoint}
-use Rattle.c_calls.specs.declared.raw.RawEdge.{RawEdge}
+use Rattle.plane.specs.{across, along, at_vertex, Face, face, Fraction, HasFace, IsLineList}
+use Rattle.plane.specs.{IsNearest, Item, Joins, Point, Triangulation, whole}
+use Rattle.{delaunay_legalization.specs.State.State, delaunay_legalization.specs.triangulation_of}
+use Rattle.delaunay_location.specs.{NoTriangulation, OnEdge, OnFace, OnVertex, OutsideOfConvexHull}
+use Rattle.{delaunay_edit.specs.FindsLocation, delaunay_location.specs.PositionInTriangulation}
+use Rattle.c_calls.specs.{declared.kept.AnyTriangulation.AnyTriangulation, Kept.kept_place}
+use Rattle.c_calls.specs.Written.{Answering, Finding, IsRawInRange, Listing, plain_point, Tells}
+use Rattle.c_calls.specs.declared.kept.AnyTriangulation.TheVariants.{Constrained, Plain}
+use Rattle.c_calls.specs.declared.lines.TheConstants.{ACROSS_EDGE, ALONG_EDGE, AT_VERTEX}
+use Rattle.c_calls.specs.declared.queries.TheConstants.{IN_FACE, NOWHERE, ON_EDGE, ON_VERTEX}
+use Rattle.c_calls.specs.{declared.queries.TheConstants.OUTSIDE, declared.raw.RawMeeting.RawMeeting}
+use Rattle.c_calls.specs.{declared.raw.NumberedPoint.NumberedPoint, declared.raw.RawPlace.RawPlace}
+use Rattle.c_calls.specs.{declared.raw.RawEdge.RawEdge, declared.raw.RawPoint.RawPoint}
 use Rattle.c_calls.specs.declared.raw.RawFace.{RawFace}
-use Rattle.c_calls.specs.declared.raw.RawMeeting.{RawMeeting}
-use Rattle.c_calls.specs.declared.raw.RawPlace.{RawPlace}
-use Rattle.c_calls.specs.declared.raw.RawPoint.{RawPoint}
-use Rattle.c_calls.specs.declared.kept.KeptPoints.{KeptPoints}
-use Rattle.c_calls.specs.declared.kept.KeptPoints.TheVariants.{Plain, Constrained}
-use Rattle.c_calls.specs.declared.queries.TheConstants.{ON_VERTEX, ON_EDGE, IN_FACE, OUTSIDE}
-use Rattle.c_calls.specs.declared.queries.TheConstants.{NOWHERE}
-use Rattle.c_calls.specs.declared.lines.TheConstants.{AT_VERTEX, ACROSS_EDGE, ALONG_EDGE}
 use Rattle.c_calls.specs.declared.statuses.TheConstants.{IS_CONSTRAINED, NONE, TOO_LARGE}
-use Rattle.c_calls.specs.Kept.{kept_place}
-use Rattle.c_calls.specs.Written.{Answering, Finding, IsRawInRange, Listing, Tells}
-use Rattle.c_calls.specs.Written.{plain_point}
 
 -- ---- all vertices
 -- a position, for C
@@ -77,7 +62,7 @@ pub record IsPlaceIn {V D U F : Type 0} (place : V → Point) (s : State V D U F
   pub named : told ≡ raw_place answer
 
 -- the same of a triangulation that C keeps
-abbrev pub IsKeptPlace : KeptPoints → RawPoint → RawPlace → Type 0
+abbrev pub IsKeptPlace : AnyTriangulation → RawPoint → RawPlace → Type 0
 IsKeptPlace (Plain t) query told = IsPlaceIn kept_place t query told
 IsKeptPlace (Constrained t) query told = IsPlaceIn kept_place t query told
 
@@ -89,7 +74,7 @@ IsNearestAnswer place s query vertex = ((vertex ≡ NONE) × (length s.vertices 
     ⊎ IsNearest (triangulation_of place s) (whole (plain_point query)) vertex
 
 -- each query gets one, of a plain triangulation. A constrained one refuses it
-abbrev pub FindsKeptNearest : KeptPoints → List RawPoint → ℕ → List ℕ → List ℕ → Type 0
+abbrev pub FindsKeptNearest : AnyTriangulation → List RawPoint → ℕ → List ℕ → List ℕ → Type 0
 FindsKeptNearest (Plain t) queries status old new =
     Answering queries (IsNearestAnswer kept_place t) status old new
 FindsKeptNearest (Constrained t) queries status old new =

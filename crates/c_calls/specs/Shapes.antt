@@ -1,15 +1,12 @@
 -- What C is told of what is in a shape.
 use Rattle.std.specs.Prelude.{◌≡◌, ◌≢◌, ◌⊎◌, ◌<ℤ◌, ◌≤ℤ◌, ℕ, pos, List}
-use Rattle.delaunay_edit.specs.half_edge_links.Mesh.{Mesh}
-use Rattle.delaunay_edit.specs.plane.Fraction.{Fraction}
-use Rattle.delaunay_edit.specs.plane.Shape.{InClosedCircle, InClosedRectangle}
-use Rattle.delaunay_edit.specs.plane.Tiling.{Triangulation}
-use Rattle.delaunay_shapes.specs.InShape.{AreEdgesInShape, AreVerticesInShape}
-use Rattle.c_calls.specs.declared.raw.RawShape.{RawShape}
+use Rattle.plane.specs.{Fraction, InClosedCircle, InClosedRectangle, Triangulation}
+use Rattle.half_edge_links.specs.{Mesh}
+use Rattle.delaunay_shapes.specs.{AreEdgesInShape, AreVerticesInShape}
+use Rattle.c_calls.specs.Written.{Finding, IsRawInRange, plain_point}
+use Rattle.c_calls.specs.{declared.raw.RawShape.RawShape, declared.statuses.TheConstants.TOO_LARGE}
 use Rattle.c_calls.specs.declared.shapes.TheConstants.{CIRCLE, RECTANGLE}
 use Rattle.c_calls.specs.declared.statuses.TheConstants.{NEGATIVE, NO_SUCH_KIND, OUT_OF_MEMORY}
-use Rattle.c_calls.specs.declared.statuses.TheConstants.{TOO_LARGE}
-use Rattle.c_calls.specs.Written.{Finding, IsRawInRange, plain_point}
 
 -- ---- a closed circle round the first point
 -- it may be asked about

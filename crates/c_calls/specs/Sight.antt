@@ -1,13 +1,9 @@
 -- What C is told of lines of sight.
 use Rattle.std.specs.Prelude.{◌≡◌, ◌≢◌, ◌⊎◌, ◌-◌, ◌==◌, if◌then◌else◌, ℕ, List, length}
 use Rattle.std.specs.Prelude.{Bool, false, not, nat_eq, slice_index_or}
-use Rattle.delaunay_edit.specs.plane.Fraction.{whole}
-use Rattle.delaunay_edit.specs.plane.Tiling.{Triangulation}
-use Rattle.plane_theorems.specs.Sight.Sight.{IsInSight}
-use Rattle.c_calls.specs.declared.raw.RawPoint.{RawPoint}
+use Rattle.{plane.specs.Triangulation, plane.specs.whole, plane_theorems.specs.IsInSight}
+use Rattle.c_calls.specs.{declared.raw.RawPoint.RawPoint, Queries.MayAskLine, Written.plain_point}
 use Rattle.c_calls.specs.declared.statuses.TheConstants.{TOO_LARGE, UNEQUAL_LENGTHS, WELL}
-use Rattle.c_calls.specs.Queries.{MayAskLine}
-use Rattle.c_calls.specs.Written.{plain_point}
 
 -- the byte at a place of a list is there, and not 0
 abbrev pub is_marked : List ℕ → ℕ → Bool

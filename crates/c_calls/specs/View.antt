@@ -1,16 +1,11 @@
 -- What a query may ask of a triangulation of either type.
 use Rattle.std.specs.Prelude.{ℕ, List}
-use Rattle.delaunay_edit.specs.half_edge_links.Mesh.{Mesh}
-use Rattle.delaunay_edit.specs.plane.Tiling.{Triangulation}
-use Rattle.delaunay_edit.specs.delaunay_legalization.Constraints.{constraints_by}
-use Rattle.delaunay_edit.specs.delaunay_legalization.State.{State, triangulation_of}
-use Rattle.c_calls.specs.declared.raw.NumberedPoint.{NumberedPoint}
-use Rattle.c_calls.specs.declared.raw.RawPlace.{RawPlace}
-use Rattle.c_calls.specs.declared.raw.RawPoint.{RawPoint}
-use Rattle.c_calls.specs.declared.kept.KeptPoints.{KeptPoints}
+use Rattle.{half_edge_links.specs.Mesh, plane.specs.Triangulation}
+use Rattle.delaunay_legalization.specs.{constraints_by, State.State, triangulation_of}
 use Rattle.c_calls.specs.Kept.{kept_drawing, kept_links, kept_place, kept_state, kept_vertices}
-use Rattle.c_calls.specs.Layers.{kept_marked}
-use Rattle.c_calls.specs.Queries.{IsKeptPlace, IsPlaceIn}
+use Rattle.c_calls.specs.{declared.kept.AnyTriangulation.AnyTriangulation, Layers.kept_marked}
+use Rattle.c_calls.specs.{declared.raw.RawPoint.RawPoint, Queries.IsKeptPlace, Queries.IsPlaceIn}
+use Rattle.c_calls.specs.{declared.raw.NumberedPoint.NumberedPoint, declared.raw.RawPlace.RawPlace}
 
 -- the vertices, what is drawn of them and how the edges are linked; the undirected edges that are
 -- constraints, and the pairs of vertices that these join; and where a point is
@@ -34,7 +29,7 @@ view_of constraints s = record {
 }
 
 -- of one that C keeps
-abbrev pub kept_view : KeptPoints → View
+abbrev pub kept_view : AnyTriangulation → View
 kept_view k = record {
   vertices = kept_vertices k;
   drawing = kept_drawing k;

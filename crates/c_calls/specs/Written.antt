@@ -1,10 +1,18 @@
--- What calls leave in the lists that C hands in.
+-- What calls write into the lists that C hands in.
+-- Answered IsAnswer count old new: the first count entries are answers; the others stay
+-- Listing: a call lists all its answers, or writes none and says how much room they need
+-- Finding, found, refused: a call writes the answers that there is room for, or gives a reason and
+--   writes none
+-- Tells answers status told old new: as many answers as there is room for are written, and the
+--   number of all is given
+-- Answering: a call answers each query by its index, or none where there is too little room or a
+--   query is out of range
+-- IsAnswerAt queries IsAnswer k a: a answers query k
+-- plain_point, IsRawInRange: a point of C as a point of the plane; its coordinates are in range
 use Rattle.std.specs.Prelude.{◌≡◌, ◌<◌, ◌++◌, if◌then◌else◌, nat_lt}
 use Rattle.std.specs.Prelude.{ℕ, List, length, take, drop, slice_get, IsSomeAnd, All}
-use Rattle.delaunay_edit.specs.plane.Fraction.{Point}
-use Rattle.delaunay_edit.specs.plane.Tests.{InRange}
-use Rattle.c_calls.specs.declared.raw.RawPoint.{RawPoint}
-use Rattle.c_calls.specs.declared.statuses.TheConstants.{WELL, TOO_LARGE, TOO_SHORT}
+use Rattle.{c_calls.specs.declared.raw.RawPoint.RawPoint, plane.specs.InRange, plane.specs.Point}
+use Rattle.c_calls.specs.declared.statuses.TheConstants.{TOO_LARGE, TOO_SHORT, WELL}
 
 -- a point of C's
 abbrev pub plain_point : RawPoint → Point

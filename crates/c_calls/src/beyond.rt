@@ -1,15 +1,14 @@
 //! Which faces have closed disks that pass the sides of a box.
 ghost use Rattle.std.specs.Prelude.{◌≡◌, ◌<◌, length};
-ghost use Rattle.delaunay_edit.specs.delaunay_legalization.State.{triangulation_of};
 ghost use Rattle.c_calls.specs.Beyond.{IsFlagAt, raw_side, raw_sides};
-ghost use Rattle.c_calls.specs.Kept.{kept_place};
+ghost use Rattle.{c_calls.specs.Kept.kept_place, delaunay_legalization.specs.triangulation_of};
 
-use crate::query::Query;
-use crate::raw::{NumberedPoint, RawBox};
+use crate::raw::NumberedPoint;
 use crate::statuses::{TOO_SHORT, WELL};
+use crate::{Query, RawBox};
 use delaunay_interface::Triangulation;
-use delaunay_interface::half_edge_mesh::FixedFaceHandle;
 use exact_predicates::{Sides, is_disk_within};
+use half_edge_links::FixedFaceHandle;
 use std::alloc::Global;
 
 // A side of C's, which is nowhere at one end of the numbers.

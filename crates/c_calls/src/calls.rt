@@ -1,12 +1,12 @@
 //! The calls that open, close and read what a handle has.
 ghost use Rattle.std.specs.Prelude.{◌≡◌, None};
-ghost use Rattle.c_calls.specs.Calls.{CopiesOpen, OpensClosed, TellsCounts, TellsNearest};
 ghost use Rattle.c_calls.specs.Answers.{OpensCopy};
+ghost use Rattle.c_calls.specs.Calls.{CopiesOpen, OpensClosed, TellsCounts, TellsNearest};
 
-use crate::handle::{Handle, with_kept};
-use crate::kept::KeptPoints;
-use crate::raw::{RawCounts, RawPoint};
+use crate::handle::with_kept;
+use crate::kept::AnyTriangulation;
 use crate::statuses::{ALREADY_OPEN, CLOSED, NO_SUCH_KIND, OUT_OF_MEMORY, WELL};
+use crate::{Handle, RawCounts, RawPoint};
 use std::alloc::Global;
 
 impl Handle {
@@ -21,7 +21,7 @@ impl Handle {
         if kind > 1 {
             return NO_SUCH_KIND;
         }
-        match Box::new(alloc, KeptPoints::new(alloc, kind == 1)) {
+        match Box::new(alloc, AnyTriangulation::new(alloc, kind == 1)) {
             Ok(kept) => {
                 self.put(kept, alloc);
                 WELL
@@ -46,7 +46,7 @@ impl Handle {
     }
 
     // Opens a closed handle with a copy of a triangulation.
-    fn open_copy(&mut self, alloc: Global, kept: &KeptPoints) -> u32
+    fn open_copy(&mut self, alloc: Global, kept: &AnyTriangulation) -> u32
         ensures { OpensCopy kept.now result self.old.kept self.new.kept }
     {
         if let Some(there) = self.take(alloc) {

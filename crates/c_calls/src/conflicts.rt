@@ -1,23 +1,21 @@
 //! The constraints that a segment crosses.
 ghost use Rattle.std.specs.Prelude.{◌≡◌, ◌<◌, List};
-ghost use Rattle.delaunay_edit.specs.plane.Line.{Item};
-ghost use Rattle.delaunay_edit.specs.delaunay_legalization.Constraints.{constraints_by};
-ghost use Rattle.delaunay_edit.specs.delaunay_legalization.Shape.{IsTriangulated};
-ghost use Rattle.delaunay_edit.specs.delaunay_legalization.State.{state_of};
-ghost use Rattle.delaunay_edit.specs.delaunay_location.Walk.{AreLeft, IsReady};
-ghost use Rattle.c_calls.specs.Conflicts.{IsConflictMet, PutsConflict};
-ghost use Rattle.c_calls.specs.Conflicts.{TellsConflicts};
+ghost use Rattle.plane.specs.{Item};
+ghost use Rattle.delaunay_legalization.specs.{constraints_by, IsTriangulated, state_of};
+ghost use Rattle.delaunay_location.specs.{AreLeft, IsReady};
+ghost use Rattle.c_calls.specs.Conflicts.{IsConflictMet, PutsConflict, TellsConflicts};
 
 use crate::lines::{ACROSS_EDGE, may_ask_line, raw_meeting};
 use crate::queries::point_of;
-use crate::query::Query;
-use crate::raw::{NumberedPoint, RawMeeting, RawPoint, RawSegment};
+use crate::raw::NumberedPoint;
 use crate::statuses::TOO_LARGE;
 use crate::told::{put, status_by_room};
-use delaunay_interface::delaunay_core::math::PlaneTests;
-use delaunay_interface::delaunay_core::point::HasPosition;
-use delaunay_interface::delaunay_legalization::ConstraintMarker;
-use delaunay_interface::{LineIntersectionIterator, Triangulation};
+use crate::{Query, RawMeeting, RawPoint, RawSegment};
+use delaunay_core::math::PlaneTests;
+use delaunay_core::point::HasPosition;
+use delaunay_interface::Triangulation;
+use delaunay_legalization::ConstraintMarker;
+use delaunay_location::LineIntersectionIterator;
 use exact_predicates::ExactTests;
 use std::alloc::Global;
 

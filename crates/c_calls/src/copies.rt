@@ -2,23 +2,25 @@
 ghost use Rattle.std.specs.Prelude.{◌≡◌, IfOk, IfSome};
 ghost use Rattle.c_calls.specs.Kept.{IsKeptDelaunay};
 
-use crate::kept::KeptPoints;
+use crate::kept::AnyTriangulation;
 use std::alloc::{AllocError, Global};
 
-impl KeptPoints {
+impl AnyTriangulation {
     /// The same triangulation once more.
-    pub fn try_clone(&self) -> Result<KeptPoints, AllocError>
+    pub fn try_clone(&self) -> Result<AnyTriangulation, AllocError>
         ensures same { IfOk result (λ copy. copy ≡ self.now) }
         ensures headline { IfOk result IsKeptDelaunay }
     {
         match self {
-            KeptPoints::Plain(points) => Ok(KeptPoints::Plain(points.try_clone()?)),
-            KeptPoints::Constrained(points) => Ok(KeptPoints::Constrained(points.try_clone()?)),
+            AnyTriangulation::Plain(points) => Ok(AnyTriangulation::Plain(points.try_clone()?)),
+            AnyTriangulation::Constrained(points) => Ok(AnyTriangulation::Constrained(
+                points.try_clone()?,
+            )),
         }
     }
 
     /// The same triangulation once more, in a box.
-    pub fn boxed_clone(&self, alloc: Global) -> Option<Box<KeptPoints>>
+    pub fn boxed_clone(&self, alloc: Global) -> Option<Box<AnyTriangulation>>
         ensures same { IfSome result (λ copy. copy.value ≡ self.now) }
         ensures headline { IfSome result (λ copy. IsKeptDelaunay copy.value) }
     {

@@ -1,18 +1,15 @@
 //! The calls that edit what a handle has.
 ghost use Rattle.std.specs.Prelude.{◌≡◌};
-ghost use Rattle.c_calls.specs.Answers.{InsertsAt};
-ghost use Rattle.c_calls.specs.Calls.{EditsOpen};
+ghost use Rattle.c_calls.specs.{Answers.InsertsAt, Calls.EditsOpen, Kept.unnumbered_at};
 ghost use Rattle.c_calls.specs.Edits.{AddsKept, AllowsConstraints, ClearsKept, EditsAt};
-ghost use Rattle.c_calls.specs.Edits.{ReleasesKept, RemovesKept};
-ghost use Rattle.c_calls.specs.Kept.{unnumbered_at};
+ghost use Rattle.c_calls.specs.{Edits.ReleasesKept, Edits.RemovesKept, Lists.unnumbered_points};
 ghost use Rattle.c_calls.specs.Lists.{AddsChainKept, InsertsListKept, NumbersKept};
-ghost use Rattle.c_calls.specs.Lists.{unnumbered_points};
 
-use crate::handle::{Handle, with_kept};
-use crate::kept::KeptPoints;
-use crate::raw::RawPoint;
+use crate::handle::with_kept;
+use crate::kept::AnyTriangulation;
 use crate::statuses::{CLOSED, WELL, status_of};
-use delaunay_interface::delaunay_core::point::Point2;
+use crate::{Handle, RawPoint};
+use delaunay_core::point::Point2;
 use std::alloc::Global;
 use std::mem::replace;
 
@@ -24,7 +21,7 @@ impl Handle {
             self.new.kept }
     {
         with_kept!(self, alloc, mut kept => {
-            let old = replace(&mut *kept, KeptPoints::new(alloc, false));
+            let old = replace(&mut *kept, AnyTriangulation::new(alloc, false));
             let (changed, status) = old.allow_constraints();
             *kept = changed;
             status

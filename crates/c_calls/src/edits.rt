@@ -1,22 +1,23 @@
 //! Edits of a triangulation that C keeps.
 ghost use Rattle.std.specs.Prelude.{◌≡◌, ◌↔◌, ◌<◌, [], length, IsTrue};
-ghost use Rattle.c_calls.specs.Kept.{InsertsKept, IsKeptDelaunay, CountsKept, kept_vertices};
-ghost use Rattle.c_calls.specs.Kept.{IsOfKind, kept_place};
 ghost use Rattle.c_calls.specs.Edits.{Addition, AddsKept, AllowsConstraints, IsSameKind, Release};
 ghost use Rattle.c_calls.specs.Edits.{ReleasesKept, Removal, RemovesKept};
+ghost use Rattle.c_calls.specs.Kept.{CountsKept, InsertsKept, IsKeptDelaunay, IsOfKind, kept_place};
+ghost use Rattle.c_calls.specs.Kept.{kept_vertices};
 
-use crate::kept::{ConstrainedPoints, KeptPoints, PlainPoints};
+use crate::RawCounts;
+use crate::kept::{AnyTriangulation, ConstrainedPoints, PlainPoints};
 use crate::lists::counts_of;
-use crate::raw::{NumberedPoint, RawCounts};
+use crate::raw::NumberedPoint;
 use crate::statuses::{
     IS_CONSTRAINED, IS_PLAIN, NO_SUCH_VERTEX, OUT_OF_MEMORY, WELL, status_of_edit,
 };
+use delaunay_core::math::InsertionError;
+use delaunay_core::point::Point2;
 use delaunay_interface::Triangulation;
-use delaunay_interface::delaunay_core::math::InsertionError;
-use delaunay_interface::delaunay_core::point::Point2;
-use delaunay_interface::half_edge_mesh::FixedVertexHandle;
 use delaunay_journal::{Edit, Replayable, make_edit};
 use exact_predicates::ExactTests;
+use half_edge_links::FixedVertexHandle;
 use std::alloc::Global;
 
 /// A vertex as it is inserted, with the number 0.
@@ -66,7 +67,7 @@ fn release(points: &mut ConstrainedPoints, from: u32, to: u32) -> u32
     status_of_edit(make_edit(points, Edit::ReleaseConstraint(from, to), &ExactTests))
 }
 
-impl KeptPoints {
+impl AnyTriangulation {
     /// No vertex.
     pub fn new(alloc: Global, constrained: bool) -> Self
         ensures kind { IsOfKind constrained result }
@@ -74,9 +75,9 @@ impl KeptPoints {
         ensures headline { IsKeptDelaunay result }
     {
         if constrained {
-            KeptPoints::Constrained(ConstrainedPoints::new(alloc))
+            AnyTriangulation::Constrained(ConstrainedPoints::new(alloc))
         } else {
-            KeptPoints::Plain(PlainPoints::new(alloc))
+            AnyTriangulation::Plain(PlainPoints::new(alloc))
         }
     }
 
@@ -92,8 +93,8 @@ impl KeptPoints {
             number: 0,
         };
         match self {
-            KeptPoints::Plain(points) => points.insert(value, &ExactTests),
-            KeptPoints::Constrained(points) => points.insert(value, &ExactTests),
+            AnyTriangulation::Plain(points) => points.insert(value, &ExactTests),
+            AnyTriangulation::Constrained(points) => points.insert(value, &ExactTests),
         }
     }
 
@@ -103,8 +104,8 @@ impl KeptPoints {
         ensures { RemovesKept vertex result self.old self.new }
     {
         match self {
-            KeptPoints::Plain(points) => remove(points, vertex),
-            KeptPoints::Constrained(points) => remove(points, vertex),
+            AnyTriangulation::Plain(points) => remove(points, vertex),
+            AnyTriangulation::Constrained(points) => remove(points, vertex),
         }
     }
 
@@ -114,8 +115,8 @@ impl KeptPoints {
         ensures { AddsKept from to result self.old self.new }
     {
         match self {
-            KeptPoints::Plain(_) => IS_PLAIN,
-            KeptPoints::Constrained(points) => constrain(points, from, to),
+            AnyTriangulation::Plain(_) => IS_PLAIN,
+            AnyTriangulation::Constrained(points) => constrain(points, from, to),
         }
     }
 
@@ -125,8 +126,8 @@ impl KeptPoints {
         ensures { ReleasesKept from to result self.old self.new }
     {
         match self {
-            KeptPoints::Plain(_) => IS_PLAIN,
-            KeptPoints::Constrained(points) => release(points, from, to),
+            AnyTriangulation::Plain(_) => IS_PLAIN,
+            AnyTriangulation::Constrained(points) => release(points, from, to),
         }
     }
 
@@ -136,11 +137,14 @@ impl KeptPoints {
         ensures { AllowsConstraints result.1 self result.0 }
     {
         match self {
-            KeptPoints::Plain(points) => match ConstrainedPoints::from_delaunay(points) {
-                Ok(points) => (KeptPoints::Constrained(points), WELL),
-                Err(points) => (KeptPoints::Plain(points), OUT_OF_MEMORY),
+            AnyTriangulation::Plain(points) => match ConstrainedPoints::from_delaunay(points) {
+                Ok(points) => (AnyTriangulation::Constrained(points), WELL),
+                Err(points) => (AnyTriangulation::Plain(points), OUT_OF_MEMORY),
             },
-            KeptPoints::Constrained(points) => (KeptPoints::Constrained(points), IS_CONSTRAINED),
+            AnyTriangulation::Constrained(points) => (
+                AnyTriangulation::Constrained(points),
+                IS_CONSTRAINED,
+            ),
         }
     }
 
@@ -149,8 +153,8 @@ impl KeptPoints {
         ensures { IsKeptDelaunay self.now }
     {
         match self {
-            KeptPoints::Plain(points) => points.recall_invariant(),
-            KeptPoints::Constrained(points) => points.recall_invariant(),
+            AnyTriangulation::Plain(points) => points.recall_invariant(),
+            AnyTriangulation::Constrained(points) => points.recall_invariant(),
         }
     }
 
@@ -159,8 +163,8 @@ impl KeptPoints {
         ensures { CountsKept self.now result }
     {
         match self {
-            KeptPoints::Plain(points) => counts_of(points, 0),
-            KeptPoints::Constrained(points) => counts_of(points, points.num_constraints()),
+            AnyTriangulation::Plain(points) => counts_of(points, 0),
+            AnyTriangulation::Constrained(points) => counts_of(points, points.num_constraints()),
         }
     }
 
@@ -172,8 +176,8 @@ impl KeptPoints {
         ensures headline { IsKeptDelaunay self.new }
     {
         match self {
-            KeptPoints::Plain(points) => points.clear(),
-            KeptPoints::Constrained(points) => points.clear(),
+            AnyTriangulation::Plain(points) => points.clear(),
+            AnyTriangulation::Constrained(points) => points.clear(),
         }
     }
 }

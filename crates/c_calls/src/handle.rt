@@ -1,8 +1,8 @@
 //! A triangulation behind a pointer that C keeps.
 ghost use Rattle.std.specs.Prelude.{◌≡◌, Option, Some, None, MatchOption};
-ghost use Rattle.c_calls.specs.declared.kept.KeptPoints.{KeptPoints};
+ghost use Rattle.c_calls.specs.declared.kept.AnyTriangulation.{AnyTriangulation};
 
-use crate::kept::KeptPoints;
+use crate::kept::AnyTriangulation;
 use crate::loose::Loose;
 use std::alloc::Global;
 use std::marker::Model;
@@ -42,12 +42,11 @@ pub struct Opaque {
 pub struct Handle {
     at: *mut Opaque,
     is_open: bool,
-    pub ghost kept: { Option KeptPoints },
+    pub ghost kept: { Option AnyTriangulation },
 }
 
 impl Model for Handle {
-    ghost use Rattle.c_calls.specs.contracts.kept.KeptPoints.{the_row};
-    ghost use Rattle.c_calls.specs.Keeps.{keeps};
+    ghost use Rattle.c_calls.specs.{contracts.kept.AnyTriangulation.the_row, Keeps.keeps};
 
     ghost also_owns = { λ h. keeps the_row h.is_open h.at h.kept };
 }
@@ -64,7 +63,7 @@ impl Handle {
     }
 
     // A triangulation that C keeps from now on.
-    fn of_loose(loose: Loose<KeptPoints, Global>) -> Self
+    fn of_loose(loose: Loose<AnyTriangulation, Global>) -> Self
         ensures { result.kept ≡ Some loose.value }
     {
         let Loose { at, alloc: _ } = loose;
@@ -75,13 +74,13 @@ impl Handle {
     }
 
     // The triangulation that C kept, if there is one.
-    fn into_loose(self, alloc: Global) -> Option<Loose<KeptPoints, Global>>
+    fn into_loose(self, alloc: Global) -> Option<Loose<AnyTriangulation, Global>>
         ensures { MatchOption result (self.kept ≡ None) (λ l. self.kept ≡ Some l.value) }
     {
         let Handle { at, is_open } = self;
         if is_open {
             Some(Loose {
-                at: at as *mut KeptPoints,
+                at: at as *mut AnyTriangulation,
                 alloc,
             })
         } else {
@@ -89,7 +88,7 @@ impl Handle {
         }
     }
 
-    fn into_kept(self, alloc: Global) -> Option<Box<KeptPoints>>
+    fn into_kept(self, alloc: Global) -> Option<Box<AnyTriangulation>>
         ensures { MatchOption result (self.kept ≡ None) (λ b. self.kept ≡ Some b.value) }
     {
         let loose = self.into_loose(alloc)?;
@@ -97,7 +96,7 @@ impl Handle {
     }
 
     /// Takes the triangulation out, and leaves the handle closed.
-    pub fn take(&mut self, alloc: Global) -> Option<Box<KeptPoints>>
+    pub fn take(&mut self, alloc: Global) -> Option<Box<AnyTriangulation>>
         ensures gives { MatchOption result (self.old.kept ≡ None)
             (λ b. self.old.kept ≡ Some b.value) }
         ensures closed { self.new.kept ≡ None }
@@ -106,7 +105,7 @@ impl Handle {
     }
 
     /// Puts a triangulation in. What was there is gone.
-    pub fn put(&mut self, kept: Box<KeptPoints>, alloc: Global)
+    pub fn put(&mut self, kept: Box<AnyTriangulation>, alloc: Global)
         ensures { self.new.kept ≡ Some kept.value }
     {
         drop(replace(self, Handle::of_loose(Loose::of(kept))).into_kept(alloc));

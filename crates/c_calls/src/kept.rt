@@ -9,7 +9,7 @@ pub type ConstrainedPoints = ConstrainedDelaunayTriangulation<NumberedPoint>;
 
 /// A triangulation, plain or constrained.
 #[derive(Drop)]
-pub enum KeptPoints {
+pub enum AnyTriangulation {
     Plain(PlainPoints),
     Constrained(ConstrainedPoints),
 }

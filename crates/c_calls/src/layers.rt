@@ -1,5 +1,5 @@
 //! How many constraints lie between the faces and the outside.
-use crate::query::Query;
+use crate::Query;
 use crate::raw::NumberedPoint;
 use crate::statuses::{OUT_OF_MEMORY, TOO_SHORT, WELL};
 use delaunay_interface::Triangulation;

@@ -1,5 +1,5 @@
-//! The calls of include/tevasulim.h, as Rattle makes them: each but `triangulate`, which
-//! `c_triangulate` makes, has its contract here, and `tevasulim_c` hands them to C.
+//! The calls of include/tevasulim.h, as Rattle makes them. Each but `triangulate` has its contract
+//! here; `tevasulim_c` makes that one, and hands all to C.
 #![tactic(auto)]
 
 mod beyond;

@@ -1,25 +1,24 @@
 //! What a segment meets.
 ghost use Rattle.std.specs.Prelude.{◌≡◌, ◌↔◌, List, IsTrue};
-ghost use Rattle.delaunay_edit.specs.plane.Line.{Item};
-ghost use Rattle.delaunay_edit.specs.delaunay_legalization.Constraints.{constraints_by};
-ghost use Rattle.delaunay_edit.specs.delaunay_legalization.Shape.{IsTriangulated};
-ghost use Rattle.delaunay_edit.specs.delaunay_legalization.State.{state_of};
-ghost use Rattle.delaunay_edit.specs.delaunay_location.Walk.{AreLeft, IsReady};
+ghost use Rattle.plane.specs.{Item};
+ghost use Rattle.delaunay_legalization.specs.{constraints_by, IsTriangulated, state_of};
+ghost use Rattle.delaunay_location.specs.{AreLeft, IsReady};
 ghost use Rattle.c_calls.specs.Links.{IsMetEdge, IsRawMeeting};
 ghost use Rattle.c_calls.specs.Queries.{MayAskLine, TellsItems};
 
 use crate::lists::raw_edge;
-use crate::queries::{is_in_range, point_of};
-use crate::query::Query;
-use crate::raw::{NumberedPoint, RawMeeting, RawPoint};
+use crate::queries::point_of;
+use crate::raw::NumberedPoint;
 use crate::statuses::TOO_LARGE;
 use crate::told::{put, status_by_room};
-use delaunay_interface::delaunay_core::math::PlaneTests;
-use delaunay_interface::delaunay_core::point::HasPosition;
-use delaunay_interface::delaunay_legalization::ConstraintMarker;
-use delaunay_interface::half_edge_mesh::DirectedEdgeHandle;
-use delaunay_interface::{Intersection, LineIntersectionIterator, Triangulation};
+use crate::{Query, RawMeeting, RawPoint, is_in_range};
+use delaunay_core::math::PlaneTests;
+use delaunay_core::point::HasPosition;
+use delaunay_interface::Triangulation;
+use delaunay_legalization::ConstraintMarker;
+use delaunay_location::{Intersection, LineIntersectionIterator};
 use exact_predicates::ExactTests;
+use half_edge_dcel::DirectedEdgeHandle;
 use std::alloc::Global;
 
 pub const AT_VERTEX: u32 = 0;

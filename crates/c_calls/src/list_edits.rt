@@ -1,24 +1,24 @@
 //! Edits of a triangulation that C keeps, where C hands in a list.
 ghost use Rattle.std.specs.Prelude.{◌≡◌, ◌<◌, ◌≤◌, ◌↔◌, ◌++◌, length, drop, slice_get, slice_set};
 ghost use Rattle.std.specs.Prelude.{All, IfOk, IsTrue, Some, false};
-ghost use Rattle.c_calls.specs.declared.raw.NumberedPoint.{NumberedPoint};
-ghost use Rattle.c_calls.specs.Kept.{kept_place};
-ghost use Rattle.c_calls.specs.Lists.{AddsChainKept, ChainAddition, InsertsListKept};
-ghost use Rattle.c_calls.specs.Lists.{ListInsertion, MayInsert, Numbering, NumbersKept};
-ghost use Rattle.c_calls.specs.Lists.{SegmentsAddition, chain_segments, unnumbered_points};
+ghost use Rattle.c_calls.specs.{declared.raw.NumberedPoint.NumberedPoint, Kept.kept_place};
+ghost use Rattle.c_calls.specs.Lists.{AddsChainKept, chain_segments, ChainAddition};
+ghost use Rattle.c_calls.specs.Lists.{InsertsListKept, ListInsertion, MayInsert, Numbering};
+ghost use Rattle.c_calls.specs.Lists.{NumbersKept, SegmentsAddition, unnumbered_points};
 
+use crate::RawPoint;
 use crate::edits::{constrain, is_vertex, unnumbered};
-use crate::kept::{ConstrainedPoints, KeptPoints};
+use crate::kept::{AnyTriangulation, ConstrainedPoints};
 use crate::queries::are_in_range;
-use crate::raw::{NumberedPoint, RawPoint};
+use crate::raw::NumberedPoint;
 use crate::statuses::{
     IS_PLAIN, NO_SUCH_VERTEX, OUT_OF_MEMORY, TOO_LARGE, TOO_SHORT, UNEQUAL_LENGTHS, WELL, status_of,
 };
 use delaunay_bulk::InsertAll;
+use delaunay_core::point::Point2;
 use delaunay_interface::Triangulation;
-use delaunay_interface::delaunay_core::point::Point2;
-use delaunay_interface::half_edge_mesh::FixedVertexHandle;
 use exact_predicates::ExactTests;
+use half_edge_links::FixedVertexHandle;
 use std::alloc::{AllocError, Global};
 
 // The vertices that are inserted at points.
@@ -195,7 +195,7 @@ fn constrain_chain(
     WELL
 }
 
-impl KeptPoints {
+impl AnyTriangulation {
     /// Inserts vertices with the number 0, along a curve, and writes the index of each.
     #[tactic(auto, using(crate::proofs::Listed::insertions_kept))]
     pub fn insert_all(&mut self, alloc: Global, positions: &[RawPoint], indexes: &mut [u32]) -> u32
@@ -203,8 +203,8 @@ impl KeptPoints {
             indexes.new self.old self.new }
     {
         match self {
-            KeptPoints::Plain(points) => insert_all(points, alloc, positions, indexes),
-            KeptPoints::Constrained(points) => insert_all(points, alloc, positions, indexes),
+            AnyTriangulation::Plain(points) => insert_all(points, alloc, positions, indexes),
+            AnyTriangulation::Constrained(points) => insert_all(points, alloc, positions, indexes),
         }
     }
 
@@ -214,8 +214,8 @@ impl KeptPoints {
         ensures { NumbersKept vertices.now numbers.now result self.old self.new }
     {
         match self {
-            KeptPoints::Plain(points) => set_numbers(points, vertices, numbers),
-            KeptPoints::Constrained(points) => set_numbers(points, vertices, numbers),
+            AnyTriangulation::Plain(points) => set_numbers(points, vertices, numbers),
+            AnyTriangulation::Constrained(points) => set_numbers(points, vertices, numbers),
         }
     }
 
@@ -226,8 +226,10 @@ impl KeptPoints {
         ensures { AddsChainKept vertices.now closed result made.new self.old self.new }
     {
         match self {
-            KeptPoints::Plain(_) => IS_PLAIN,
-            KeptPoints::Constrained(points) => constrain_chain(points, vertices, closed, made),
+            AnyTriangulation::Plain(_) => IS_PLAIN,
+            AnyTriangulation::Constrained(points) => constrain_chain(
+                points, vertices, closed, made,
+            ),
         }
     }
 }

@@ -1,20 +1,18 @@
 //! All elements of a triangulation, written to lists of C's.
 ghost use Rattle.std.specs.Prelude.{◌≡◌, ◌/◌, ◌<◌, length, map};
-ghost use Rattle.delaunay_edit.specs.half_edge_links.Mesh.{face_edge};
-ghost use Rattle.delaunay_edit.specs.delaunay_legalization.Constraints.{constraints_by};
-ghost use Rattle.delaunay_edit.specs.delaunay_legalization.State.{state_of, triangulation_of};
+ghost use Rattle.half_edge_links.specs.{face_edge};
+ghost use Rattle.delaunay_legalization.specs.{constraints_by, state_of, triangulation_of};
 ghost use Rattle.c_calls.specs.Links.{IsMarkOf, IsRawEdge, IsRawFace, IsRawSide};
-ghost use Rattle.c_calls.specs.Queries.{IsElementAt, IsEdgeEntry, IsFaceEntry, ListsRawFaces};
-ghost use Rattle.c_calls.specs.Queries.{face_number, number_of, raw_position};
+ghost use Rattle.c_calls.specs.Queries.{face_number, IsEdgeEntry, IsElementAt, IsFaceEntry};
+ghost use Rattle.c_calls.specs.Queries.{ListsRawFaces, number_of, raw_position};
 
-use crate::query::Query;
-use crate::raw::{NumberedPoint, RawCounts, RawEdge, RawFace, RawPoint};
+use crate::raw::NumberedPoint;
 use crate::statuses::{NONE, TOO_SHORT, WELL};
+use crate::{Query, RawCounts, RawEdge, RawFace, RawPoint};
 use delaunay_interface::Triangulation;
-use delaunay_interface::delaunay_legalization::ConstraintMarker;
-use delaunay_interface::half_edge_mesh::{
-    DirectedEdgeHandle, FaceHandle, FixedFaceHandle, FixedUndirectedEdgeHandle, FixedVertexHandle,
-};
+use delaunay_legalization::ConstraintMarker;
+use half_edge_dcel::{DirectedEdgeHandle, FaceHandle};
+use half_edge_links::{FixedFaceHandle, FixedUndirectedEdgeHandle, FixedVertexHandle};
 use std::alloc::Global;
 
 // 1 where an edge is a constraint, and else 0.

@@ -1,18 +1,17 @@
 //! Queries of many points in one call.
 ghost use Rattle.std.specs.Prelude.{◌≡◌, ◌↔◌, All, IsTrue};
-ghost use Rattle.c_calls.specs.Kept.{kept_place};
-ghost use Rattle.c_calls.specs.Queries.{FindsKeptNearest, IsNearestAnswer, IsPlaceIn};
-ghost use Rattle.c_calls.specs.Queries.{raw_place};
-ghost use Rattle.c_calls.specs.Written.{Answering, IsRawInRange};
+ghost use Rattle.c_calls.specs.{Kept.kept_place, Written.Answering, Written.IsRawInRange};
+ghost use Rattle.c_calls.specs.Queries.{FindsKeptNearest, IsNearestAnswer, IsPlaceIn, raw_place};
 
-use crate::kept::{KeptPoints, PlainPoints};
+use crate::kept::{AnyTriangulation, PlainPoints};
 use crate::lists::face_index;
-use crate::query::Query;
-use crate::raw::{NumberedPoint, RawPlace, RawPoint};
+use crate::raw::NumberedPoint;
 use crate::statuses::{IS_CONSTRAINED, NONE, TOO_LARGE, TOO_SHORT, WELL};
-use delaunay_interface::delaunay_core::math::validate_vertex;
-use delaunay_interface::delaunay_core::point::Point2;
-use delaunay_interface::{PositionInTriangulation, Triangulation};
+use crate::{Query, RawPlace, RawPoint};
+use delaunay_core::math::validate_vertex;
+use delaunay_core::point::Point2;
+use delaunay_interface::Triangulation;
+use delaunay_location::PositionInTriangulation;
 use exact_predicates::ExactTests;
 use std::alloc::Global;
 
@@ -155,14 +154,14 @@ fn find_nearest(points: &PlainPoints, queries: &[RawPoint], vertices: &mut [u32]
     WELL
 }
 
-impl KeptPoints {
+impl AnyTriangulation {
     /// Writes a vertex nearest to each point.
     pub fn find_nearest(&self, queries: &[RawPoint], vertices: &mut [u32]) -> u32
         ensures { FindsKeptNearest self.now queries.now result vertices.old vertices.new }
     {
         match self {
-            KeptPoints::Plain(points) => find_nearest(points, queries, vertices),
-            KeptPoints::Constrained(_) => IS_CONSTRAINED,
+            AnyTriangulation::Plain(points) => find_nearest(points, queries, vertices),
+            AnyTriangulation::Constrained(_) => IS_CONSTRAINED,
         }
     }
 }

@@ -1,10 +1,10 @@
 //! What calls ask of a triangulation of either type.
 ghost use Rattle.std.specs.Prelude.{◌≡◌, List, ℕ};
-ghost use Rattle.c_calls.specs.Calls.{AsksOpen};
-ghost use Rattle.c_calls.specs.View.{View, kept_view, view_of};
+ghost use Rattle.c_calls.specs.{Calls.AsksOpen, View.kept_view, View.View, View.view_of};
 
-use crate::handle::{Handle, with_kept};
-use crate::kept::KeptPoints;
+use crate::Handle;
+use crate::handle::with_kept;
+use crate::kept::AnyTriangulation;
 use crate::raw::NumberedPoint;
 use crate::statuses::CLOSED;
 use delaunay_interface::Triangulation;
@@ -34,7 +34,7 @@ pub trait Query {
             told.old told.new list.old list.new };
 }
 
-impl KeptPoints {
+impl AnyTriangulation {
     /// Answers a query.
     pub fn ask<Q: Query>(
         &self,
@@ -47,8 +47,8 @@ impl KeptPoints {
             list.new }
     {
         match self {
-            KeptPoints::Plain(points) => query.ask(points, alloc, list, told),
-            KeptPoints::Constrained(points) => query.ask(points, alloc, list, told),
+            AnyTriangulation::Plain(points) => query.ask(points, alloc, list, told),
+            AnyTriangulation::Constrained(points) => query.ask(points, alloc, list, told),
         }
     }
 }

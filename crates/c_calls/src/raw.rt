@@ -1,5 +1,5 @@
 //! What crosses between C and the library, field by field as include/tevasulim.h has it.
-use delaunay_interface::delaunay_core::point::{HasPosition, Point2};
+use delaunay_core::point::{HasPosition, Point2};
 
 /// A point.
 #[repr(C)]

@@ -1,24 +1,21 @@
 //! Vertices and edges in circles and rectangles.
 ghost use Rattle.std.specs.Prelude.{ℕ, List, All, IfErr, IfOk};
-ghost use Rattle.delaunay_edit.specs.plane.Fraction.{Fraction};
-ghost use Rattle.delaunay_edit.specs.plane.Tests.{InRange};
-ghost use Rattle.delaunay_queries.specs.Found.{edges_left, vertices_left};
-ghost use Rattle.delaunay_shapes.specs.Start.{HasStartAt};
+ghost use Rattle.plane.specs.{Fraction, InRange};
+ghost use Rattle.delaunay_shapes.specs.{edges_left, HasStartAt, vertices_left};
 ghost use Rattle.c_calls.specs.Links.{AreFew, indexes_in};
 ghost use Rattle.c_calls.specs.Metrics.{FindsPart, IsCircleOf, IsRectangleOf};
-ghost use Rattle.c_calls.specs.Shapes.{IsNoCircle, IsNoRectangle};
-ghost use Rattle.c_calls.specs.View.{View, view_of};
-ghost use Rattle.c_calls.specs.Written.{IsRawInRange, Tells, plain_point};
+ghost use Rattle.c_calls.specs.{Shapes.IsNoCircle, Shapes.IsNoRectangle, View.View, View.view_of};
+ghost use Rattle.c_calls.specs.Written.{IsRawInRange, plain_point, Tells};
 
-use crate::queries::{is_in_range, point_of};
-use crate::query::Query;
-use crate::raw::{NumberedPoint, RawPoint, RawShape};
+use crate::queries::point_of;
+use crate::raw::NumberedPoint;
 use crate::statuses::{NEGATIVE, NO_SUCH_KIND, OUT_OF_MEMORY, TOO_LARGE};
 use crate::told::{put, status_by_room};
+use crate::{Query, RawPoint, RawShape, is_in_range};
 use delaunay_interface::Triangulation;
-use delaunay_queries::{
-    CircleMetric, DistanceMetric, EdgesInShapeIterator, FloatTriangulation, RectangleMetric,
-    VerticesInShapeIterator,
+use delaunay_queries::FloatTriangulation;
+use delaunay_shapes::{
+    CircleMetric, DistanceMetric, EdgesInShapeIterator, RectangleMetric, VerticesInShapeIterator,
 };
 use exact_predicates::ExactTests;
 use std::alloc::Global;
@@ -116,7 +113,7 @@ pub trait Part {
 pub struct Vertices;
 
 impl Part for Vertices {
-    ghost use Rattle.delaunay_shapes.specs.InShape.{AreVerticesInShape};
+    ghost use Rattle.delaunay_shapes.specs.{AreVerticesInShape};
 
     ghost are_in = { λ v Shape. AreVerticesInShape Shape v.drawing.points };
 
@@ -141,7 +138,7 @@ impl Part for Vertices {
 pub struct Edges;
 
 impl Part for Edges {
-    ghost use Rattle.delaunay_shapes.specs.InShape.{AreEdgesInShape};
+    ghost use Rattle.delaunay_shapes.specs.{AreEdgesInShape};
 
     ghost are_in = { λ v Shape. AreEdgesInShape Shape v.drawing.points v.links };
 

@@ -1,13 +1,13 @@
 //! Whether a segment stays in free faces.
 use crate::lines::may_ask_line;
 use crate::queries::point_of;
-use crate::query::Query;
-use crate::raw::{NumberedPoint, RawPoint};
+use crate::raw::NumberedPoint;
 use crate::statuses::{TOO_LARGE, UNEQUAL_LENGTHS, WELL};
+use crate::{Query, RawPoint};
 use delaunay_interface::Triangulation;
-use delaunay_interface::half_edge_mesh::FixedFaceHandle;
 use delaunay_shapes::{FreeFaces, is_in_sight};
 use exact_predicates::ExactTests;
+use half_edge_links::FixedFaceHandle;
 use std::alloc::Global;
 
 // Which inner faces are free: those whose byte is not 0.

@@ -2,7 +2,7 @@
 ghost use Rattle.std.specs.Prelude.{◌≡◌};
 ghost use Rattle.c_calls.specs.Answers.{status_of_error, status_of_outcome, status_of_reason};
 
-use delaunay_interface::delaunay_core::math::InsertionError;
+use delaunay_core::math::InsertionError;
 use delaunay_journal::{Outcome, Refusal};
 
 /// All went well.

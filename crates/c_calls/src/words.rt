@@ -1,6 +1,6 @@
 //! The statuses in words.
 ghost use Rattle.std.specs.Prelude.{◌≡◌, ◌≤◌, ◌++◌, ◌∷◌, [], drop, length};
-ghost use Rattle.c_calls.specs.Words.{TellsWords, status_words};
+ghost use Rattle.c_calls.specs.Words.{status_words, TellsWords};
 
 use crate::statuses::{NO_SUCH_STATUS, TOO_SHORT, WELL};
 
@@ -12,18 +12,19 @@ pub fn ended_words_of(status: u32) -> &'static str
         0 => "all went well\0",
         1 => "the triangulation is closed: open it first\0",
         2 => "the triangulation is already open: close it first\0",
-        3 => "there is no such kind of triangulation or shape\0",
+        3 => "there is no such kind: 0 is plain or a circle, 1 is constrained or a rectangle\0",
         4 => "the triangulation is plain: this call is for constrained ones\0",
         5 => "the triangulation is constrained: this call is for plain ones\0",
         6 => "two lists that go together have different lengths\0",
         7 => "a coordinate is out of range: it is more than 2^29 or less than -2^29\0",
-        8 => "a squared radius is negative\0",
-        9 => "there is no vertex with this index\0",
-        10 => "a segment names a point that is not in the list\0",
-        11 => "a constraint crosses the segment\0",
-        12 => "no constraint joins the two vertices\0",
-        13 => "a list is too short\0",
-        14 => "there are too many vertices for 32-bit indexes\0",
+        8 => "a squared radius is negative: it has to be 0 or more\0",
+        9 => "there is no vertex with this index: the last is the number of vertices less 1\0",
+        10 => "a segment names a point that is not in the list: indexes of points start at 0\0",
+        11 => "a constraint crosses the segment: leave one out, or cut both where they meet\0",
+        12 =>
+            "no constraint joins the two vertices: vertices between them may part it in several\0",
+        13 => "a list is too short: call again with a longer one\0",
+        14 => "there are too many vertices for 32-bit indexes: 715827882 are the most\0",
         15 => "there is not enough memory\0",
         _ => "there is no such status\0",
     }

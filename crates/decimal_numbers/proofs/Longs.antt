@@ -6,11 +6,9 @@ use Rattle.std.proofs.Common.{arith, inl, inr}
 use Rattle.std.specs.Str.Parse.{digits_value}
 use Rattle.std.proofs.lemmas.Nat.{pow-add}
 use Rattle.std.proofs.Math.Nat.{mul-le-mul_left}
-use Rattle.decimal_numbers.specs.declared.long.Kept.{Kept}
-use Rattle.decimal_numbers.specs.declared.long.LongDecimal.{LongDecimal}
-use Rattle.decimal_numbers.specs.Grammar.{Spelling}
+use Rattle.decimal_numbers.specs.{raised_by, Spelling, Value.lowered_by}
 use Rattle.decimal_numbers.specs.Long.{IsKept, IsLarge, IsLongValue, off_fives}
-use Rattle.decimal_numbers.specs.Value.{lowered_by, raised_by}
+use Rattle.decimal_numbers.specs.{declared.long.Kept.Kept, declared.long.LongDecimal.LongDecimal}
 use Rattle.decimal_numbers.proofs.Powers.{raised_more}
 
 -- the powers of ten by which digits are raised, lowered and cut

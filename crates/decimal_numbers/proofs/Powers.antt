@@ -12,9 +12,9 @@ use Rattle.std.proofs.lemmas.Bool.{cases_lt}
 use Rattle.std.proofs.lemmas.Bool.Decides.{nat_tests}
 use Rattle.std.proofs.lemmas.Grind.{pow_more}
 use Rattle.std.proofs.lemmas.Nat.{pow-add}
-use Rattle.decimal_numbers.specs.Grammar.{Spelling}
 use Rattle.std.proofs.Math.Nat.{pow-le-pow_right, mul-div_cancel, mul-le-mul_left}
-use Rattle.decimal_numbers.specs.Value.{IsMagnitude, IsRounded, IsTooLong, raised_by}
+use Rattle.decimal_numbers.specs.{IsTooLong, raised_by, Spelling}
+use Rattle.decimal_numbers.specs.Value.{IsMagnitude, IsRounded}
 
 -- the value of a digit is its byte, 48 to 57, less 48
 pub digit_value-is : (c : ℕ) → 48 ≤ c → c ≤ 57 → digit_value c ≡ c - 48

@@ -3,11 +3,9 @@
 use Rattle.std.proofs.Common.{◌≡◌, ◌++◌, ◌∷◌, ◌∙◌, [], ℕ, Bool, List}
 use Rattle.std.proofs.Common.{inl, inr, refl, sym, ap, subst, append-nil}
 use Rattle.std.specs.Str.Parse.{AllDigits}
-use Rattle.decimal_numbers.specs.Grammar.{Spelling, IsSign, IsPoint, IsPower, SpellsNumber}
-use Rattle.decimal_numbers.specs.Grammar.{SpellsInteger}
-use Rattle.decimal_numbers.specs.Reading.{NoDigitFirst, NoSignFirst, NoPointFirst}
-use Rattle.decimal_numbers.specs.Reading.{TakenSign, TakesPoint}
-use Rattle.decimal_numbers.specs.Value.{IsTooLong}
+use Rattle.decimal_numbers.specs.{IsPower, IsTooLong, Reading.TakesPoint, Spelling}
+use Rattle.decimal_numbers.specs.Grammar.{IsPoint, IsSign, SpellsInteger, SpellsNumber}
+use Rattle.decimal_numbers.specs.Reading.{NoDigitFirst, NoPointFirst, NoSignFirst, TakenSign}
 use Rattle.decimal_numbers.proofs.Splits.{digits_no_sign, integer_is, parts_are, point_first}
 use Rattle.decimal_numbers.proofs.Splits.{power_first, sign_ends, unsigned_first}
 

@@ -11,11 +11,10 @@ use Rattle.std.specs.Char.{digit_value, is_ascii_digit}
 use Rattle.std.specs.Str.Parse.{AllDigits}
 use Rattle.std.proofs.lemmas.Bool.{ne_eqb}
 use Rattle.std.proofs.lemmas.Bool.Decides.{nat_tests}
-use Rattle.decimal_numbers.specs.Grammar.{Spelling, IsSign, IsPoint, IsPower, SpellsNumber}
-use Rattle.decimal_numbers.specs.Grammar.{SpellsInteger}
-use Rattle.decimal_numbers.specs.Reading.{IsNoInteger, IsNoPower}
-use Rattle.decimal_numbers.specs.Reading.{NoDigitFirst, NoSignFirst, NoPointFirst, TakenSign}
-use Rattle.decimal_numbers.specs.Reading.{TakesPoint}
+use Rattle.decimal_numbers.specs.{IsPower, Spelling}
+use Rattle.decimal_numbers.specs.Grammar.{IsPoint, IsSign, SpellsInteger, SpellsNumber}
+use Rattle.decimal_numbers.specs.Reading.{IsNoInteger, IsNoPower, NoDigitFirst, NoPointFirst}
+use Rattle.decimal_numbers.specs.Reading.{NoSignFirst, TakenSign, TakesPoint}
 
 -- a digit's byte has a value below ten, and no other byte does
 pub digit_is_low : (c : ℕ) → is_ascii_digit c ≡ true → digit_value c < 10

@@ -2,10 +2,9 @@
 use Rattle.std.specs.Prelude.{◌≡◌, ◌⊎◌, ◌+◌, ◌*◌, ◌%◌, ◌^◌, ◌<◌, ◌≤◌, ◌++◌, ◌==◌}
 use Rattle.std.specs.Prelude.{ℕ, List, true, false, length, if◌then◌else◌}
 use Rattle.std.specs.Str.Parse.{digits_value}
-use Rattle.decimal_numbers.specs.declared.long.Kept.{Kept}
-use Rattle.decimal_numbers.specs.declared.long.LongDecimal.{LongDecimal}
-use Rattle.decimal_numbers.specs.Grammar.{Spelling, SpellsNumber}
+use Rattle.decimal_numbers.specs.{declared.long.Kept.Kept, Grammar.Spelling, Grammar.SpellsNumber}
 use Rattle.decimal_numbers.specs.Value.{IsMagnitude, lowered_by, raised_by}
+use Rattle.decimal_numbers.specs.declared.long.LongDecimal.{LongDecimal}
 
 -- the next number, where this one is a multiple of five
 abbrev pub off_fives : ℕ → ℕ

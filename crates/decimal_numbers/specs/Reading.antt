@@ -3,8 +3,8 @@ use Rattle.std.specs.Prelude.{◌≡◌, ◌⊎◌, ◌++◌, ◌≢◌, [], ◌
 use Rattle.std.specs.Prelude.{ℕ, List, Bool, true, false}
 use Rattle.std.specs.Char.{digit_value}
 use Rattle.std.specs.Str.Parse.{AllDigits}
+use Rattle.decimal_numbers.specs.Grammar.{IsPower, Spelling, SpellsInteger}
 use Rattle.decimal_numbers.specs.declared.parts.Written.{Written}
-use Rattle.decimal_numbers.specs.Grammar.{Spelling, SpellsInteger, IsPower}
 
 -- the text begins with no digit
 abbrev pub NoDigitFirst : List ℕ → Type 0

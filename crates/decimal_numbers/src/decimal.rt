@@ -2,10 +2,9 @@
 ghost use Rattle.std.specs.Prelude.{◌≡◌, ◌+◌, ◌*◌, ◌^◌, ◌<◌, ◌≤◌, ◌++◌, ◌↔◌, length};
 ghost use Rattle.std.specs.Prelude.{IfOk, IfSome, IfNone, IsNone, IsErrOf, ◌%◌};
 ghost use Rattle.std.specs.Str.Parse.{AllDigits, digits_value, digits_value_after};
-ghost use Rattle.decimal_numbers.specs.Grammar.{SpellsNoNumber};
+ghost use Rattle.decimal_numbers.specs.{Grammar.SpellsNoNumber, Value.SpellsValue};
 ghost use Rattle.decimal_numbers.specs.Reading.{parts_of};
-ghost use Rattle.decimal_numbers.specs.Value.{IsMagnitude, IsShortest, SpellsValue};
-ghost use Rattle.decimal_numbers.specs.Value.{IsTooLong, SpellsTooLong};
+ghost use Rattle.decimal_numbers.specs.Value.{IsMagnitude, IsShortest, IsTooLong, SpellsTooLong};
 ghost use Rattle.decimal_numbers.specs.declared.decimal.DecimalError.TheVariants.{Malformed};
 ghost use Rattle.decimal_numbers.specs.declared.decimal.DecimalError.TheVariants.{TooLong};
 

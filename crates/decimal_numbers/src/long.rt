@@ -2,15 +2,15 @@
 ghost use Rattle.std.specs.Prelude.{◌≡◌, ◌+◌, ◌*◌, ◌^◌, ◌<◌, ◌≤◌, ◌↔◌, length, ℕ, true, false};
 ghost use Rattle.std.specs.Prelude.{IfOk, IfSome, IfNone, IsErrOf};
 ghost use Rattle.std.specs.Str.Parse.{AllDigits, digits_value_after};
-ghost use Rattle.decimal_numbers.specs.Grammar.{SpellsNoNumber};
-ghost use Rattle.decimal_numbers.specs.Long.{IsKept, IsLarge, IsLongValue, IsWide, SpellsLarge};
-ghost use Rattle.decimal_numbers.specs.Long.{SpellsLong, off_fives};
+ghost use Rattle.decimal_numbers.specs.{Grammar.SpellsNoNumber, Long.SpellsLarge, Long.SpellsLong};
+ghost use Rattle.decimal_numbers.specs.Long.{IsKept, IsLarge, IsLongValue, IsWide, off_fives};
 ghost use Rattle.decimal_numbers.specs.Reading.{parts_of};
 ghost use Rattle.decimal_numbers.specs.declared.decimal.DecimalError.TheVariants.{Malformed};
 ghost use Rattle.decimal_numbers.specs.declared.decimal.DecimalError.TheVariants.{TooLong};
 
-use crate::decimal::{Decimal, DecimalError, MAX_DIGITS, append_digits, raise};
+use crate::decimal::{MAX_DIGITS, append_digits, raise};
 use crate::parts::{Written, written_of};
+use crate::{Decimal, DecimalError};
 
 /// A number that may have more digits than fit. Where it is not exact, it has 18 digits, and the
 /// number that is written lies between the same multiples of five units of the last of them: so

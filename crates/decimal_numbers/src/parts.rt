@@ -1,11 +1,10 @@
 //! The parts of a number as it is written.
 ghost use Rattle.std.specs.Prelude.{◌≡◌, ◌++◌, IfSome, IfNone};
 ghost use Rattle.std.specs.Str.Parse.{AllDigits};
-ghost use Rattle.decimal_numbers.specs.Grammar.{SpellsNumber, SpellsNoNumber, SpellsInteger};
-ghost use Rattle.decimal_numbers.specs.Grammar.{IsPower};
-ghost use Rattle.decimal_numbers.specs.Reading.{NoDigitFirst, TakenSign, TakesPoint, IsNoInteger};
-ghost use Rattle.decimal_numbers.specs.Reading.{IsNoPower};
-ghost use Rattle.decimal_numbers.specs.Reading.{parts_of};
+ghost use Rattle.decimal_numbers.specs.Grammar.{IsPower, SpellsInteger, SpellsNoNumber};
+ghost use Rattle.decimal_numbers.specs.Grammar.{SpellsNumber};
+ghost use Rattle.decimal_numbers.specs.Reading.{IsNoInteger, IsNoPower, NoDigitFirst, parts_of};
+ghost use Rattle.decimal_numbers.specs.Reading.{TakenSign, TakesPoint};
 
 /// A number as it is written: digits before and behind the point, and those of the power of ten.
 #[derive(Clone, Copy)]

@@ -2,11 +2,12 @@
 ghost use Rattle.std.specs.Prelude.{◌≡◌, ◌+◌, ◌*◌, ◌<◌, ◌≤◌, ◌^◌, ◌↔◌};
 ghost use Rattle.std.specs.Prelude.{◌+ℤ◌, ◌-ℤ◌, ◌≤ℤ◌, ℤ, pos, neg_ℤ};
 ghost use Rattle.std.specs.Prelude.{IfOk, IsErrOf};
-ghost use Rattle.decimal_numbers.specs.Value.{IsTimesPower, IsRounded, IsWithin};
-ghost use Rattle.decimal_numbers.specs.Value.{IsOutOfReach, units_at};
-ghost use Rattle.decimal_numbers.specs.declared.scale.ScaleError.TheVariants.{TooFine, TooFar};
+ghost use Rattle.decimal_numbers.specs.Value.{IsOutOfReach, IsRounded, IsTimesPower, IsWithin};
+ghost use Rattle.decimal_numbers.specs.Value.{units_at};
+ghost use Rattle.decimal_numbers.specs.declared.scale.ScaleError.TheVariants.{TooFar, TooFine};
 
-use crate::decimal::{Decimal, raise};
+use crate::Decimal;
+use crate::decimal::raise;
 use thiserror::Error;
 
 /// The largest coordinate, and how far the least is below 0.

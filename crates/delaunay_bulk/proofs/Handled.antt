@@ -9,10 +9,9 @@ use Rattle.std.proofs.lemmas.List.{get_or-map, length-set, get_or-set_same, get_
 use Rattle.std.proofs.lemmas.Bool.{cases_eq}
 use Rattle.std.proofs.lemmas.Option.{slice_get-get_or, slice_get_within, get_or_from_slice_get}
 use Rattle.std.proofs.Math.Seq.{map-set_same}
-use Rattle.delaunay_interface.specs.plane.Fraction.{Point}
-use Rattle.delaunay_interface.specs.plane.Plain.{Plain, Inserts}
-use Rattle.delaunay_interface.specs.delaunay_legalization.Known.{point_at}
-use Rattle.delaunay_bulk.specs.Bulk.{HaveHandles, IsAt}
+use Rattle.plane.specs.{Inserts, Plain, Point}
+use Rattle.delaunay_legalization.specs.{point_at}
+use Rattle.delaunay_bulk.specs.{HaveHandles, IsAt}
 
 module _ {V : Type 0} (place : V → Point) where
   -- a vertex that is inserted moves no other

@@ -8,8 +8,7 @@ use Rattle.std.proofs.lemmas.List.Elements.{All-push, All-weaker}
 use Rattle.std.proofs.lemmas.List.Elements.{Contains-append_left, Contains-push}
 use Rattle.std.proofs.lemmas.List.Sorted.{All-permutation, Contains-permutation}
 use Rattle.std.proofs.lemmas.List.Sorted.{length_permutation}
-use Rattle.delaunay_interface.proofs.plane.Indexes.{below_or_last}
-use Rattle.delaunay_bulk.specs.Order.{IsOrder}
+use Rattle.{delaunay_bulk.specs.Order.IsOrder, plane.proofs.below_or_last}
 
 -- there is no place in an empty list
 pub no_place : IsOrder 0 []

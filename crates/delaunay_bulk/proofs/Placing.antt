@@ -16,10 +16,8 @@ use Rattle.std.proofs.lemmas.List.Elements.{All-map, All-push, All-weaker}
 use Rattle.std.proofs.lemmas.List.Sorted.{IsNonDecreasingBy-push}
 use Rattle.std.proofs.lemmas.List.Sorted.{IsPermutation-map, All-permutation, ties_still_rise}
 use Rattle.std.proofs.lemmas.Option.{slice_get-get_or}
-use Rattle.delaunay_interface.specs.plane.Fraction.{Point}
-use Rattle.delaunay_bulk.specs.Curve.{order_key}
-use Rattle.delaunay_bulk.specs.Order.{IsListed, IsOrder, entry_of}
-use Rattle.delaunay_bulk.specs.declared.order.Keyed.{Keyed}
+use Rattle.delaunay_bulk.specs.{Curve.order_key, Order.entry_of, Order.IsListed, Order.IsOrder}
+use Rattle.{delaunay_bulk.specs.declared.order.Keyed.Keyed, plane.specs.Point}
 use Rattle.delaunay_bulk.proofs.Orders.{no_place, one_place_more, reordered}
 
 -- where keys do not fall, and places do not fall where two neighbours have one key, places do not

@@ -8,22 +8,11 @@ use Rattle.std.specs.Prelude.{◌↔◌, All, IsErrOf, slice_get}
 use Rattle.std.proofs.lemmas.Bool.{cases_lt}
 use Rattle.std.proofs.lemmas.List.{get_or-take, length-set, length-take-le, length_push}
 use Rattle.std.proofs.lemmas.Option.{get_or_from_slice_get, slice_get_within}
-use Rattle.delaunay_interface.specs.half_edge_links.declared.room.TheConstants.{MAX_ELEMENTS}
-use Rattle.delaunay_interface.specs.plane.Fraction.{Point}
-use Rattle.delaunay_interface.specs.plane.Plain.{Inserts, Plain}
-use Rattle.delaunay_interface.specs.plane.Tests.{InRange}
-use Rattle.delaunay_interface.specs.delaunay_core.declared.math.InsertionError.{InsertionError}
-use Rattle.delaunay_interface.specs.delaunay_core.declared.math.InsertionError.TheVariants.{
-  TooLarge,
-  OutOfIndexes,
-  OutOfMemory,
-}
-use Rattle.delaunay_interface.specs.delaunay_legalization.State.{State}
-use Rattle.delaunay_interface.specs.delaunay_edit.Edits.{InsertsVertex}
-use Rattle.delaunay_bulk.specs.declared.error.BulkInsertionError.{BulkInsertionError}
-use Rattle.delaunay_bulk.specs.declared.error.BulkInsertionError.TheVariants.{Vertex, NoRoom}
-use Rattle.delaunay_bulk.specs.Order.{IsFirstOutside}
-use Rattle.delaunay_bulk.specs.Bulk.{RefusesWhere}
+use Rattle.plane.specs.{InRange, Inserts, Plain, Point}
+use Rattle.delaunay_core.specs.{InsertionError, OutOfIndexes, OutOfMemory, TooLarge}
+use Rattle.{delaunay_legalization.specs.State.State, half_edge_links.specs.MAX_ELEMENTS}
+use Rattle.delaunay_edit.specs.{InsertsVertex}
+use Rattle.delaunay_bulk.specs.{BulkInsertionError, IsFirstOutside, NoRoom, RefusesWhere, Vertex}
 
 -- an insertion makes at most one vertex more
 pub grows_by_one : {V : Type 0} (place : V → Point) (old new : Plain V) (v : V) (h : ℕ)

@@ -9,22 +9,16 @@ use Rattle.std.specs.Prelude.{All, slice_get, slice_set}
 use Rattle.std.proofs.lemmas.List.{length-map, length_push}
 use Rattle.std.proofs.lemmas.List.Elements.{All-head, All-rest}
 use Rattle.std.proofs.lemmas.Option.{slice_get_within, get_or_from_slice_get}
-use Rattle.delaunay_interface.specs.half_edge_links.declared.room.TheConstants.{MAX_ELEMENTS}
-use Rattle.delaunay_interface.specs.plane.Fraction.{Point}
-use Rattle.delaunay_interface.specs.plane.Plain.{IsSameState, Plain, Run, insert}
-use Rattle.delaunay_interface.specs.plane.Tests.{InRange}
-use Rattle.delaunay_interface.specs.delaunay_legalization.Constraints.{points_and_constraints_by}
-use Rattle.delaunay_interface.specs.delaunay_legalization.State.{State}
-use Rattle.delaunay_interface.specs.delaunay_edit.Headline.{AreSites}
+use Rattle.plane.specs.{InRange, insert, IsSameState, Plain, Point, Run}
+use Rattle.{delaunay_core.specs.OutOfMemory, delaunay_edit.specs.AreSites}
+use Rattle.delaunay_legalization.specs.{points_and_constraints_by, State.State}
 use Rattle.delaunay_interface.proofs.Stepping.{inserted_grows, inserted_here}
-use Rattle.delaunay_interface.specs.delaunay_core.declared.math.InsertionError.TheVariants.{OutOfMemory}
-use Rattle.delaunay_bulk.specs.declared.error.BulkInsertionError.{BulkInsertionError}
-use Rattle.delaunay_bulk.specs.declared.error.BulkInsertionError.TheVariants.{Vertex}
-use Rattle.delaunay_bulk.specs.Order.{IsListed}
-use Rattle.delaunay_bulk.specs.Bulk.{InsertsAll, InsertsInTurn, InsertsNext, InsertsOne}
-use Rattle.delaunay_bulk.specs.Bulk.{HaveHandles, RefusesOne, RefusesWhere, StopsAt}
+use Rattle.delaunay_bulk.specs.{BulkInsertionError, HaveHandles, InsertsAll, RefusesWhere, StopsAt}
+use Rattle.delaunay_bulk.specs.{Vertex}
+use Rattle.delaunay_bulk.specs.Bulk.{InsertsInTurn, InsertsNext, InsertsOne, RefusesOne}
+use Rattle.{delaunay_bulk.specs.Order.IsListed, half_edge_links.specs.MAX_ELEMENTS}
+use Rattle.delaunay_bulk.proofs.Handled.{all_handled, AreHandled, one_handled}
 use Rattle.delaunay_bulk.proofs.Refusals.{grows_by_one, refused_for_nothing, why_later}
-use Rattle.delaunay_bulk.proofs.Handled.{AreHandled, all_handled, one_handled}
 
 -- what all of a list have, the one at an index has
 pub one_of_all : {V : Type 0} (P : V → Type 0) (list : List V) (i : ℕ) (v : V) → All P list

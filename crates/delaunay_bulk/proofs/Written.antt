@@ -5,7 +5,7 @@ use Rattle.std.proofs.Common.{ap, subst, arith}
 use Rattle.std.specs.Prelude.{All, slice_set, get_or}
 use Rattle.std.proofs.lemmas.List.{at_drop_more, length-set}
 use Rattle.std.proofs.lemmas.List.Elements.{All-push}
-use Rattle.delaunay_bulk.specs.ByPlace.{written}
+use Rattle.delaunay_bulk.specs.{written}
 
 -- one item more, written last
 one_more_written : {X : Type 0} (items : List X) (waiting : List (ℕ × X)) (e : ℕ × X)

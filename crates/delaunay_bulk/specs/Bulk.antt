@@ -2,21 +2,13 @@
 use Rattle.std.specs.Prelude.{◌≡◌, ◌≢◌, ◌⊎◌, ◌↔◌, ◌+◌, ◌*◌, ◌<◌, [], ◌∷◌, ◌++◌, ℕ, List, length}
 use Rattle.std.specs.Prelude.{map, Option, None, Some, Result, Ok, Err, IfOk, IfErr, IsErrOf, All}
 use Rattle.std.specs.Prelude.{slice_get}
-use Rattle.delaunay_interface.specs.half_edge_links.declared.room.TheConstants.{MAX_ELEMENTS}
-use Rattle.delaunay_interface.specs.plane.Fraction.{Point}
-use Rattle.delaunay_interface.specs.plane.Plain.{Run, insert}
-use Rattle.delaunay_interface.specs.plane.Tests.{InRange}
-use Rattle.delaunay_interface.specs.delaunay_core.declared.math.InsertionError.{InsertionError}
-use Rattle.delaunay_interface.specs.delaunay_core.declared.math.InsertionError.TheVariants.{TooLarge}
-use Rattle.delaunay_interface.specs.delaunay_core.declared.math.InsertionError.TheVariants.{OutOfIndexes}
-use Rattle.delaunay_interface.specs.delaunay_core.declared.math.InsertionError.TheVariants.{OutOfMemory}
-use Rattle.delaunay_interface.specs.delaunay_legalization.Constraints.{points_and_constraints_by}
-use Rattle.delaunay_interface.specs.delaunay_legalization.Known.{point_at}
-use Rattle.delaunay_interface.specs.delaunay_legalization.State.{State}
-use Rattle.delaunay_interface.specs.delaunay_edit.Edits.{InsertsVertex}
-use Rattle.delaunay_bulk.specs.declared.error.BulkInsertionError.{BulkInsertionError}
-use Rattle.delaunay_bulk.specs.declared.error.BulkInsertionError.TheVariants.{Vertex, NoRoom}
+use Rattle.plane.specs.{InRange, insert, Point, Run}
+use Rattle.delaunay_core.specs.{InsertionError, OutOfIndexes, OutOfMemory, TooLarge}
+use Rattle.delaunay_legalization.specs.{point_at, points_and_constraints_by, State.State}
+use Rattle.{delaunay_edit.specs.InsertsVertex, half_edge_links.specs.MAX_ELEMENTS}
 use Rattle.delaunay_bulk.specs.Order.{IsFirstOutside, IsListed}
+use Rattle.delaunay_bulk.specs.declared.error.BulkInsertionError.{BulkInsertionError}
+use Rattle.delaunay_bulk.specs.declared.error.BulkInsertionError.TheVariants.{NoRoom, Vertex}
 
 module _ {V : Type 0} (place : V → Point) where
   -- before any insertion a list is refused for this: its first vertex that is out of range, or,

@@ -1,9 +1,7 @@
 -- The vertices of a list in the order of their insertion.
 use Rattle.std.specs.Prelude.{◌≡◌, ◌<◌, ◌≤◌, ℕ, List, length, map, All, AllPairs, Contains}
 use Rattle.std.specs.Prelude.{Some, slice_get, take}
-use Rattle.delaunay_interface.specs.plane.Fraction.{Point}
-use Rattle.delaunay_interface.specs.plane.Tests.{InRange}
-use Rattle.delaunay_bulk.specs.declared.order.Keyed.{Keyed}
+use Rattle.{delaunay_bulk.specs.declared.order.Keyed.Keyed, plane.specs.InRange, plane.specs.Point}
 
 -- these are the places of a list of so many, each of them once
 pub record IsOrder (count : ℕ) (order : List ℕ) : Type 0 where

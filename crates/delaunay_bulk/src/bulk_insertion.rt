@@ -1,19 +1,17 @@
 //! Vertices that are inserted one after another, as the caller asks.
 ghost use Rattle.std.specs.Prelude.{◌≡◌, ◌↔◌, [], length, map, All, IfErr, IfOk, IsErrOf, IsTrue};
 ghost use Rattle.std.specs.Prelude.{OnOk};
-ghost use Rattle.delaunay_interface.specs.plane.Tests.{InRange};
-ghost use Rattle.delaunay_interface.specs.delaunay_edit.Headline.{AreSites, IsDelaunay};
-ghost use Rattle.delaunay_interface.specs.delaunay_core.declared.math.InsertionError.TheVariants.{OutOfIndexes};
+ghost use Rattle.{delaunay_core.specs.OutOfIndexes, plane.specs.InRange};
+ghost use Rattle.delaunay_edit.specs.{AreSites, IsDelaunay};
+ghost use Rattle.delaunay_bulk.specs.{Bulk.InsertsNext, Bulk.RefusesList, Order.IsListed};
 ghost use Rattle.delaunay_bulk.specs.declared.error.BulkInsertionError.TheVariants.{NoRoom};
-ghost use Rattle.delaunay_bulk.specs.Order.{IsListed};
-ghost use Rattle.delaunay_bulk.specs.Bulk.{InsertsNext, RefusesList};
 
-use crate::error::BulkInsertionError;
+use crate::BulkInsertionError;
 use crate::order::{Keyed, along_curve, first_too_large};
+use delaunay_core::math::{InsertionError, PlaneTests};
+use delaunay_core::point::HasPosition;
 use delaunay_interface::Triangulation;
-use delaunay_interface::delaunay_core::math::{InsertionError, PlaneTests};
-use delaunay_interface::delaunay_core::point::HasPosition;
-use delaunay_interface::half_edge_mesh::FixedVertexHandle;
+use half_edge_links::FixedVertexHandle;
 use std::alloc::AllocError;
 use std::marker::Model;
 use std::vec::IntoIter;

@@ -1,8 +1,7 @@
 //! Where a point is on a Hilbert curve.
 ghost use Rattle.std.specs.Prelude.{◌≡◌, ◌<◌};
-ghost use Rattle.delaunay_bulk.specs.Curve.{doubled_by, joined_at, key_at, order_key, round_key, round_of};
-ghost use Rattle.delaunay_bulk.specs.Curve.{spread_of};
-ghost use Rattle.delaunay_bulk.specs.Curve.{turned_by_twice, turned_by_two};
+ghost use Rattle.delaunay_bulk.specs.Curve.{doubled_by, joined_at, key_at, order_key, round_key};
+ghost use Rattle.delaunay_bulk.specs.Curve.{round_of, spread_of, turned_by_twice, turned_by_two};
 
 /// Added to a coordinate in range it gives a number from 0 to 2^30.
 const SHIFT: i64 = 1 << 29;

@@ -1,6 +1,6 @@
 //! Why a list of vertices was not inserted.
 
-use delaunay_interface::delaunay_core::math::InsertionError;
+use delaunay_core::math::InsertionError;
 use thiserror::Error;
 
 /// Why a list of vertices was not inserted, or not to its end.

@@ -1,17 +1,16 @@
 //! The call of both triangulations that inserts the vertices of a list.
 ghost use Rattle.std.specs.Prelude.{◌≡◌, ◌+◌, ◌*◌, ◌<◌, length, slice_set, All, IfErr, IfOk};
-ghost use Rattle.delaunay_interface.specs.plane.Tests.{InRange};
-ghost use Rattle.delaunay_interface.specs.delaunay_edit.Headline.{AreSites, IsDelaunay};
+ghost use Rattle.plane.specs.{InRange};
+ghost use Rattle.delaunay_edit.specs.{AreSites, IsDelaunay};
 ghost use Rattle.delaunay_bulk.specs.Bulk.{InsertsAll, RefusesWhere, StopsAt};
 
-use crate::bulk_insertion::BulkInsertion;
 use crate::by_place::ByPlace;
-use crate::error::BulkInsertionError;
 use crate::order::first_too_large;
-use delaunay_interface::delaunay_core::math::{InsertionError, PlaneTests};
-use delaunay_interface::delaunay_core::point::HasPosition;
-use delaunay_interface::half_edge_mesh::FixedVertexHandle;
+use crate::{BulkInsertion, BulkInsertionError};
+use delaunay_core::math::{InsertionError, PlaneTests};
+use delaunay_core::point::HasPosition;
 use delaunay_interface::{Triangulation, VertexOf};
+use half_edge_links::FixedVertexHandle;
 
 /// The scalars of a triangulation's positions.
 pub type ScalarOf<T> = <VertexOf<T> as HasPosition>::Scalar;

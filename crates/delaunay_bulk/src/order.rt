@@ -1,11 +1,11 @@
 //! The order in which vertices are inserted.
 ghost use Rattle.std.specs.Prelude.{◌≡◌, ◌<◌, length, map, Some, slice_get, IfOk, MatchOption, All};
-ghost use Rattle.delaunay_interface.specs.plane.Tests.{InRange};
-ghost use Rattle.delaunay_bulk.specs.Order.{IsFirstOutside, IsListed, entry_of};
+ghost use Rattle.plane.specs.{InRange};
+ghost use Rattle.delaunay_bulk.specs.Order.{entry_of, IsFirstOutside, IsListed};
 
 use crate::curve::order_key;
-use delaunay_interface::delaunay_core::math::validate_vertex;
-use delaunay_interface::delaunay_core::point::{HasPosition, SpadeNum};
+use delaunay_core::math::validate_vertex;
+use delaunay_core::point::{HasPosition, SpadeNum};
 use std::alloc::AllocError;
 
 /// A vertex with its place in the list and the key that it is sorted by.

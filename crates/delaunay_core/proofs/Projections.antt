@@ -1,15 +1,13 @@
 -- Dot products of the ways between points in range fit their width.
--- Lemmas: product_bound, stays, way_passes, product_of_ways, sum_of_products, along_bound,
+-- Lemmas: product_bound, stays, vector_passes, product_of_vectors, sum_of_products, along_bound,
 -- rest_bound, gap_passes.
 use Rattle.std.proofs.Common.{◌≡◌, ◌≤◌, [], ◌∷◌}
 use Rattle.std.proofs.Common.{sym, subst, w64, to_z, of_z, arith, unsigned_abs, mul-le-mul}
 use Rattle.std.specs.Prelude.{ℤ, pos, ◌+ℤ◌, ◌-ℤ◌, ◌*ℤ◌}
 use Rattle.std.proofs.lemmas.Int.{ints, unsigned_abs-mul}
-use Rattle.plane.specs.Fraction.{Point, whole}
-use Rattle.plane.specs.Circle.{gap}
-use Rattle.plane.specs.Tests.{IsCoordinate, InRange}
-use Rattle.plane.proofs.Solver.{num, ◌⊕◌, ◌⊖◌, ◌⊗◌, ring_in}
-use Rattle.delaunay_core.specs.Projection.{along}
+use Rattle.plane.specs.{gap, InRange, IsCoordinate, Point, whole}
+use Rattle.plane.proofs.{◌⊕◌, ◌⊖◌, ◌⊗◌, num, ring_in}
+use Rattle.delaunay_core.specs.{along}
 
 -- a product of two ways
 pub product_bound : (a b : ℤ) → unsigned_abs a ≤ 1073741824 → unsigned_abs b ≤ 1073741824
@@ -21,22 +19,23 @@ pub stays : (a : ℤ) → unsigned_abs a ≤ 2305843009213693952 → to_z w64 (o
 stays a h = omega (arith, ints)
 
 -- a way that was passed on is no longer
-pub way_passes : (a : ℤ) → unsigned_abs a ≤ 1073741824
+pub vector_passes : (a : ℤ) → unsigned_abs a ≤ 1073741824
     → unsigned_abs (to_z w64 (of_z w64 a)) ≤ 1073741824
-way_passes a h = omega (arith, ints)
+vector_passes a h = omega (arith, ints)
 
 -- a way that was passed on
-way_is : (a x y : ℤ) → unsigned_abs a ≤ 1073741824 → a ≡ y *ℤ pos 1 -ℤ x *ℤ pos 1
+vector_is : (a x y : ℤ) → unsigned_abs a ≤ 1073741824 → a ≡ y *ℤ pos 1 -ℤ x *ℤ pos 1
     → to_z w64 (of_z w64 a) ≡ y -ℤ x
-way_is a x y h e = omega (arith, ints)
+vector_is a x y h e = omega (arith, ints)
 
 -- a product of two ways that were passed on
-pub product_of_ways : (a b r x y z : ℤ) → unsigned_abs a ≤ 1073741824 → unsigned_abs b ≤ 1073741824
+pub product_of_vectors : (a b r x y z : ℤ) → unsigned_abs a ≤ 1073741824 → unsigned_abs b ≤
+    1073741824
     → a ≡ y *ℤ pos 1 -ℤ x *ℤ pos 1 → b ≡ z *ℤ pos 1 -ℤ x *ℤ pos 1
     → r ≡ to_z w64 (of_z w64 a) *ℤ to_z w64 (of_z w64 b) → r ≡ (y -ℤ x) *ℤ (z -ℤ x)
-product_of_ways a b r x y z h i e f g =
-    let d = way_is a x y h e in
-    let k = way_is b x z i f in
+product_of_vectors a b r x y z h i e f g =
+    let d = vector_is a x y h e in
+    let k = vector_is b x z i f in
     cc
 
 -- the sum of two products
@@ -46,8 +45,8 @@ pub sum_of_products : (r s x y : ℤ) → unsigned_abs r ≤ 1152921504606846976
 sum_of_products r s x y h i e f = omega (arith, ints)
 
 -- the way between two coordinates
-way_bound : (x y : ℤ) → IsCoordinate x → IsCoordinate y → unsigned_abs (y -ℤ x) ≤ 1073741824
-way_bound x y h i = omega (arith, ints)
+vector_bound : (x y : ℤ) → IsCoordinate x → IsCoordinate y → unsigned_abs (y -ℤ x) ≤ 1073741824
+vector_bound x y h i = omega (arith, ints)
 
 -- a dot product
 dot_bound : (a b c d : ℤ) → unsigned_abs a ≤ 1073741824 → unsigned_abs b ≤ 1073741824
@@ -64,8 +63,8 @@ dot_bound a b c d h i j k =
 pub along_bound : (p q r : Point) → InRange p → InRange q → InRange r
     → unsigned_abs (along p q r) ≤ 2305843009213693952
 along_bound p q r h i j =
-    dot_bound (q.x -ℤ p.x) (r.x -ℤ p.x) (q.y -ℤ p.y) (r.y -ℤ p.y) (way_bound p.x q.x h.x i.x)
-    (way_bound p.x r.x h.x j.x) (way_bound p.y q.y h.y i.y) (way_bound p.y r.y h.y j.y)
+    dot_bound (q.x -ℤ p.x) (r.x -ℤ p.x) (q.y -ℤ p.y) (r.y -ℤ p.y) (vector_bound p.x q.x h.x i.x)
+    (vector_bound p.x r.x h.x j.x) (vector_bound p.y q.y h.y i.y) (vector_bound p.y r.y h.y j.y)
 
 -- and what it lacks of the squared length, which is the dot product from the other end
 rest_is : (p q r : Point) → gap (whole p) (whole q) -ℤ along p q r ≡ along q p r

@@ -1,8 +1,7 @@
 -- Points of the program and positions that are held.
 use Rattle.std.specs.Prelude.{◌≢◌, ℤ, List, map, AllPairs, Option, option_map}
-use Rattle.plane.specs.Fraction.{Point}
-use Rattle.delaunay_core.specs.declared.point.Point2.{Point2}
-use Rattle.delaunay_core.specs.Place.{place_of}
+use Rattle.plane.specs.{Point}
+use Rattle.delaunay_core.specs.{declared.point.Point2.Point2, Place.place_of}
 
 -- the position of a vertex that is swapped in, if one is
 abbrev pub place_if : {S : Type 0} → (S → ℤ) → Option (Point2 S) → Option Point

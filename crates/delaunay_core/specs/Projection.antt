@@ -1,6 +1,6 @@
 -- Where a point falls on the line of an edge.
 use Rattle.std.specs.Prelude.{ℤ, ◌+ℤ◌, ◌-ℤ◌, ◌*ℤ◌}
-use Rattle.plane.specs.Fraction.{Point}
+use Rattle.plane.specs.{Point}
 
 -- how far q falls along the way from p1 to p2, times the length of that way
 abbrev pub along : Point → Point → Point → ℤ

@@ -1,9 +1,8 @@
 //! The trait of hint generators.
 ghost use Rattle.std.specs.Prelude.{◌≡◌, All, Some};
-ghost use Rattle.plane.specs.Fraction.{Point};
-ghost use Rattle.plane.specs.Hint.{IsAtMost, IsAtMostOf, IsAtMostWith, IsAtMostWithout, IsNone};
-ghost use Rattle.delaunay_core.specs.Place.{place_of};
-ghost use Rattle.delaunay_core.specs.Held.{AreDistinct, place_if, places};
+ghost use Rattle.plane.specs.{IsAtMost, IsAtMostOf, IsAtMostWith, IsAtMostWithout, Point};
+ghost use Rattle.plane.specs.Hint.{IsNone};
+ghost use Rattle.delaunay_core.specs.{Held.AreDistinct, Held.place_if, Held.places, Place.place_of};
 
 use crate::math::PlaneTests;
 use crate::point::{Point2, SpadeNum};

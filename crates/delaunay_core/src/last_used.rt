@@ -1,11 +1,9 @@
 //! The generator that keeps the last vertex.
 ghost use Rattle.std.specs.Prelude.{◌≡◌, Some};
-ghost use Rattle.plane.specs.Fraction.{Point};
-ghost use Rattle.plane.specs.Hint.{IsAtMostWith, IsAtMostWithout};
-ghost use Rattle.delaunay_core.specs.Place.{place_of};
-ghost use Rattle.delaunay_core.specs.Held.{place_if};
+ghost use Rattle.plane.specs.{IsAtMostWith, IsAtMostWithout, Point};
+ghost use Rattle.{delaunay_core.specs.Held.place_if, delaunay_core.specs.Place.place_of};
 
-use crate::hint_generator::HintGenerator;
+use crate::HintGenerator;
 use crate::math::PlaneTests;
 use crate::point::{Point2, SpadeNum};
 use half_edge_links::FixedVertexHandle;

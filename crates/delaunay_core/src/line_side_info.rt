@@ -1,6 +1,6 @@
 //! The side of a directed line.
 ghost use Rattle.std.specs.Prelude.{◌≡◌, ◌≢◌, ◌↔◌, IsTrue};
-ghost use Rattle.plane.specs.Side.{left, right, on, opposite};
+ghost use Rattle.plane.specs.{left, on, opposite, right};
 
 use std::marker::Model;
 
@@ -24,7 +24,7 @@ pub struct LineSideInfo {
 }
 
 impl Model for LineSideInfo {
-    ghost use Rattle.plane.specs.Side.{Side};
+    ghost use Rattle.plane.specs.{Side};
     ghost use Rattle.delaunay_core.specs.Turned.{side_of, turn_of};
 
     ghost Value = { Side };

@@ -1,10 +1,7 @@
 //! Coordinates and their range, the errors of an insertion, and the tests that callers hand in.
 ghost use Rattle.std.specs.Prelude.{◌≡◌, ◌≢◌, ◌↔◌, IsTrue, IsOk, OnErr, IsErrOf};
-ghost use Rattle.plane.specs.Fraction.{Point, whole as fraction};
-ghost use Rattle.plane.specs.Side.{side, right, TurnsLeft};
-ghost use Rattle.plane.specs.Circle.{InsideCircle};
-ghost use Rattle.plane.specs.Tests.{IsCoordinate, InRange};
-ghost use Rattle.delaunay_core.specs.Place.{place_of};
+ghost use Rattle.plane.specs.{InRange, InsideCircle, IsCoordinate, Point, right, side, TurnsLeft};
+ghost use Rattle.{delaunay_core.specs.Place.place_of, plane.specs.whole as fraction};
 ghost use Rattle.delaunay_core.specs.declared.math.InsertionError.TheVariants.{TooLarge};
 
 use crate::line_side_info::LineSideInfo;

@@ -1,9 +1,7 @@
 //! Points of whole numbers, and values that have a position.
 ghost use Rattle.std.specs.Prelude.{◌≡◌, ◌≤◌, ◌∷◌, [], ℤ, pos, ◌-ℤ◌, ◌*ℤ◌, refl, unsigned_abs};
 ghost use Rattle.std.specs.Ordering.{int_cmp, int_eq, as_partial_cmp};
-ghost use Rattle.plane.specs.Fraction.{Point, whole as fraction};
-ghost use Rattle.plane.specs.Circle.{gap};
-ghost use Rattle.plane.specs.Tests.{IsCoordinate, InRange};
+ghost use Rattle.plane.specs.{gap, InRange, IsCoordinate, Point, whole as fraction};
 ghost use Rattle.delaunay_core.specs.Place.{place_of};
 
 /// A signed whole number that is read as an `i64`.

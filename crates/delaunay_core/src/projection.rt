@@ -1,11 +1,8 @@
 //! Where a point falls on the line of an edge.
 ghost use Rattle.std.specs.Prelude.{◌≡◌, ◌≢◌, ◌↔◌, ◌≤◌, ◌-ℤ◌, ◌*ℤ◌, ◌<ℤ◌, ◌≤ℤ◌, ⊤};
 ghost use Rattle.std.specs.Prelude.{pos, IsTrue, unsigned_abs};
-ghost use Rattle.plane.specs.Fraction.{whole as fraction};
-ghost use Rattle.plane.specs.Circle.{gap};
-ghost use Rattle.plane.specs.Tests.{InRange};
-ghost use Rattle.delaunay_core.specs.Place.{place_of};
-ghost use Rattle.delaunay_core.specs.Projection.{along};
+ghost use Rattle.plane.specs.{gap, InRange, whole as fraction};
+ghost use Rattle.{delaunay_core.specs.Place.place_of, delaunay_core.specs.Projection.along};
 
 use crate::point::{Point2, SpadeNum, difference};
 use std::alloc::AllocError;

@@ -5,27 +5,15 @@ use Rattle.std.proofs.Common.{◌≡◌, ◌⊎◌, ℕ, sym, subst, inl, inr, a
 use lib.IntN.{neg_ℤ, *ℤ_comm}
 use Rattle.std.specs.Prelude.{ℤ, pos, ◌+ℤ◌, ◌*ℤ◌, ◌≤ℤ◌, ◌<ℤ◌}
 use Rattle.std.proofs.lemmas.Int.{ints}
-use Rattle.delaunay_location.specs.plane.Fraction.{Fraction, IsSame, IsNotNegative, IsPositive}
-use Rattle.delaunay_location.specs.plane.Fraction.{OnSegment, WithinSegment}
-use Rattle.delaunay_location.specs.plane.Line.{Meets, IsBefore, across, at_vertex}
-use Rattle.delaunay_location.specs.plane.Tiling.{Triangulation, vertex}
-use Rattle.delaunay_location.proofs.plane.Bracket.{vec}
-use Rattle.delaunay_location.proofs.plane.IntegerOrder.{lt_or_ge_ℤ, mul-nonneg_ℤ, mul-pos_ℤ}
-use Rattle.delaunay_location.proofs.plane.IntegerOrder.{mul-neg_of_pos_neg_ℤ}
-use Rattle.delaunay_location.proofs.plane.IntegerOrder.{mul-nonpos_of_nonneg_nonpos_ℤ}
-use Rattle.delaunay_location.proofs.plane.IntegerOrder.{pos_of_mul-pos_ℤ, neg_of_mul-neg_ℤ}
-use Rattle.delaunay_location.proofs.plane.IntegerOrder.{zero-mul_ℤ}
-use Rattle.delaunay_location.proofs.plane.Means.{TwoWeights, bracket_of_two, two_weights}
-use Rattle.delaunay_location.proofs.plane.Segments.{same-sym}
-use Rattle.delaunay_location.proofs.plane.Steps.{both_signs, drop_zero, weak}
-use Rattle.delaunay_location.proofs.plane_theorems.Delaunay.Points.Bracket.{bracket, bracket-second}
-use Rattle.delaunay_location.proofs.plane_theorems.Delaunay.Points.Bracket.{bracket-swapped}
-use Rattle.delaunay_location.proofs.plane_theorems.Delaunay.Points.Bracket.{bracket-turned}
-use Rattle.delaunay_location.proofs.plane_theorems.Segments.Constraints.Pieces.{on_parts}
-use Rattle.delaunay_location.proofs.plane_theorems.Segments.Items.Begins.{Signs, above-same}
-use Rattle.delaunay_location.proofs.plane_theorems.Segments.Items.Begins.{after_crossing}
-use Rattle.delaunay_location.proofs.plane_theorems.Segments.Items.Begins.{before_crossing, met_if}
-use Rattle.delaunay_location.proofs.plane_theorems.Segments.Items.Begins.{signs_of}
+use Rattle.plane.specs.{across, at_vertex, Fraction, IsBefore, IsNotNegative, IsPositive, IsSame}
+use Rattle.plane.specs.{Meets, OnSegment, Triangulation, vertex, WithinSegment}
+use Rattle.plane.proofs.{both_signs, bracket_of_two, drop_zero, lt_or_ge_ℤ, mul-neg_of_pos_neg_ℤ}
+use Rattle.plane.proofs.{mul-nonneg_ℤ, mul-nonpos_of_nonneg_nonpos_ℤ, mul-pos_ℤ, neg_of_mul-neg_ℤ}
+use Rattle.plane.proofs.{pos_of_mul-pos_ℤ, same-sym, two_weights, TwoWeights, vec, weak, zero-mul_ℤ}
+use Rattle.plane_theorems.proofs.{bracket, bracket-second, bracket-swapped, on_parts}
+use Rattle.plane_theorems.proofs.Delaunay.Points.Bracket.{bracket-turned}
+use Rattle.plane_theorems.proofs.Segments.Items.Begins.{above-same, after_crossing, before_crossing}
+use Rattle.plane_theorems.proofs.Segments.Items.Begins.{met_if, Signs, signs_of}
 
 -- ---- a point of the segment that is not its start
 -- the weights of such a point: that of the end is above 0

@@ -1,18 +1,10 @@
 -- Where a position is, for the vertex that comes there.
 -- Lemmas: vertex_of_handle, not_on_vertex.
 use Rattle.std.proofs.Common.{◌≡◌, ℕ, ◌<◌, ◌≤◌, length, map, sym, subst}
-use Rattle.delaunay_edit.specs.half_edge_dcel.Contents.{Contents}
-use Rattle.delaunay_edit.specs.plane.Fraction.{Point}
-use Rattle.delaunay_edit.specs.delaunay_location.declared.position_in_triangulation.PositionInTriangulation.{PositionInTriangulation}
-use Rattle.delaunay_edit.specs.delaunay_location.declared.position_in_triangulation.PositionInTriangulation.TheVariants.{
-  OnVertex,
-  OnFace,
-}
-use Rattle.delaunay_edit.specs.Location.{Locates, IsApart}
-use Rattle.delaunay_edit.specs.delaunay_legalization.Shape.{IsTriangulated}
-use Rattle.delaunay_edit.specs.delaunay_legalization.State.{state_of}
-use Rattle.delaunay_vertices.proofs.EdgeSides.{vertex_of_face}
-use Rattle.delaunay_edit.proofs.delaunay_location_lemmas.Locating.{same_point}
+use Rattle.delaunay_legalization.specs.{IsApart, IsTriangulated, state_of}
+use Rattle.delaunay_location.specs.{Locates, OnFace, OnVertex, PositionInTriangulation}
+use Rattle.{delaunay_location.proofs.Locating.same_point, plane.specs.Point}
+use Rattle.{delaunay_vertices.proofs.EdgeSides.vertex_of_face, half_edge_dcel.specs.Contents}
 
 module _ {V D U F : Type 0} (at : V → Point) (c : Contents V D U F)
     (kept : IsTriangulated at (state_of c)) where

@@ -3,19 +3,13 @@
 -- Lemmas: plain_with_edges, unconstrained, other_data_as.
 use Rattle.std.proofs.Common.{◌≡◌, ◌≢◌, ℕ, ◌<◌, List, [], ◌∷◌, length, sym, ap, ◌∙◌, subst, arith}
 use Rattle.std.specs.List.{AllZip}
-use Rattle.delaunay_edit.specs.half_edge_links.Mesh.{origin, rev}
-use Rattle.delaunay_edit.proofs.half_edge_links_lemmas.Lists.Rev.{rev_within}
-use Rattle.delaunay_edit.specs.plane.Fraction.{Point}
-use Rattle.delaunay_edit.specs.plane.Pairs.{Joins}
-use Rattle.delaunay_edit.specs.plane.Plain.{IsPlain, Unconstrains}
-use Rattle.delaunay_edit.specs.delaunay_legalization.Drawn.{edges_of}
-use Rattle.delaunay_edit.specs.delaunay_legalization.declared.cdt_edge.CdtEdge.{CdtEdge}
-use Rattle.delaunay_edit.specs.delaunay_legalization.Shape.{IsTriangulated}
-use Rattle.delaunay_edit.specs.delaunay_legalization.State.{State, points_and_constraints}
-use Rattle.delaunay_edit.specs.Data.{HasOtherEdgeData}
-use Rattle.delaunay_edit.proofs.Counts.{plain_if_kept}
-use Rattle.delaunay_edit.proofs.Edges.{joins_edge}
-use Rattle.delaunay_edit.specs.Constrained.{constrained, constraints_of}
+use Rattle.plane.specs.{IsPlain, Joins, Point, Unconstrains}
+use Rattle.half_edge_links.specs.{origin, rev}
+use Rattle.half_edge_links.proofs.{rev_within}
+use Rattle.delaunay_legalization.specs.{edges_of, IsTriangulated, points_and_constraints}
+use Rattle.delaunay_legalization.specs.{declared.cdt_edge.CdtEdge.CdtEdge, State.State}
+use Rattle.delaunay_edit.specs.{constrained, constraints_of, HasOtherEdgeData}
+use Rattle.{delaunay_edit.proofs.Counts.plain_if_kept, delaunay_legalization.proofs.joins_edge}
 
 module _ {V D U F : Type 0} (place : V → Point) (s : State V D U F)
     (kept : IsTriangulated place s) where

@@ -7,27 +7,15 @@ use Rattle.std.proofs.Common.{refl, sym, ap, ◌∙◌, subst, arith, inl, inr}
 use Rattle.std.specs.Prelude.{Contains, if◌then◌else◌}
 use Rattle.std.specs.List.{AllZip}
 use Rattle.std.proofs.lemmas.List.{length-map}
-use Rattle.delaunay_edit.specs.half_edge_links.Mesh.{Mesh, origin, rev}
-use Rattle.delaunay_edit.proofs.half_edge_links_lemmas.Lists.Rev.{rev-rev, rev_within}
-use Rattle.delaunay_edit.specs.plane.Fraction.{Point}
-use Rattle.delaunay_edit.specs.plane.Pairs.{IsSamePair, Joins}
-use Rattle.delaunay_edit.specs.plane.Delaunay.{IsLocallyDelaunay}
-use Rattle.delaunay_edit.specs.delaunay_legalization.Drawn.{drawn}
-use Rattle.delaunay_edit.specs.delaunay_legalization.Legal.{pair_at}
-use Rattle.delaunay_edit.specs.delaunay_legalization.Stays.{GoSameWay}
-use Rattle.delaunay_edit.proofs.delaunay_legalization_lemmas.MeshLegal.{own_indexes}
-use Rattle.delaunay_edit.proofs.delaunay_legalization_lemmas.WorkLists.{contains_map}
-use Rattle.delaunay_edit.proofs.delaunay_legalization_lemmas.WorkLists.{contains_map_from}
-use Rattle.delaunay_edit.specs.half_edge_dcel.Contents.{Contents}
-use Rattle.delaunay_edit.specs.half_edge_dcel.Mapped.{IsMapped}
-use Rattle.delaunay_edit.specs.delaunay_legalization.Constraints.{marked_from, marked_edges}
-use Rattle.delaunay_edit.specs.delaunay_legalization.Constraints.{constraint_pairs, constraints_by}
-use Rattle.delaunay_edit.proofs.delaunay_legalization_lemmas.Constraints.{fixed_within}
-use Rattle.delaunay_edit.specs.delaunay_legalization.Shape.{IsTriangulated}
-use Rattle.delaunay_edit.specs.delaunay_legalization.Shape.{IsDelaunayTriangulation}
-use Rattle.delaunay_edit.specs.delaunay_legalization.State.{State, state_of}
-use Rattle.delaunay_edit.specs.Data.{HasOtherEdgeData}
-use Rattle.delaunay_edit.proofs.delaunay_legalization_lemmas.EdgePairs.{rev_of_even}
+use Rattle.plane.specs.{IsLocallyDelaunay, IsSamePair, Joins, Point}
+use Rattle.half_edge_links.specs.{Mesh, origin, rev}
+use Rattle.half_edge_links.proofs.{rev-rev, rev_within}
+use Rattle.{half_edge_dcel.specs.Contents, half_edge_dcel.specs.Mapped.IsMapped}
+use Rattle.delaunay_legalization.specs.{constraint_pairs, constraints_by, drawn, GoSameDirection}
+use Rattle.delaunay_legalization.specs.{IsDelaunayTriangulation, IsTriangulated, marked_edges}
+use Rattle.delaunay_legalization.specs.{marked_from, pair_at, State.State, state_of}
+use Rattle.delaunay_legalization.proofs.{contains_map, contains_map_from, fixed_within, own_indexes}
+use Rattle.{delaunay_edit.specs.HasOtherEdgeData, delaunay_legalization.proofs.rev_of_even}
 
 -- ---- how many there are
 abbrev add_mark : Bool → ℕ → ℕ
@@ -117,7 +105,7 @@ module _ {V D U F : Type 0} (place : V → Point) (marks : U → Bool) (constrai
       double j h = let f = kept.fits.undirected_fit in omega (arith, f, h)
 
       indexes : (g h : ℕ) → g < length s.mesh.half_edges → h < length s.mesh.half_edges
-          → GoSameWay s.mesh g s.mesh h → h ≡ g
+          → GoSameDirection s.mesh g s.mesh h → h ≡ g
       indexes = (own_indexes (map place s.vertices) s.mesh kept.valid kept.shape).edges
   same_edge k l v w (inr e) =
       let r = indexes (2 * k) (rev (2 * l)) (double k v)
@@ -129,7 +117,7 @@ module _ {V D U F : Type 0} (place : V → Point) (marks : U → Bool) (constrai
       double j h = let f = kept.fits.undirected_fit in omega (arith, f, h)
 
       indexes : (g h : ℕ) → g < length s.mesh.half_edges → h < length s.mesh.half_edges
-          → GoSameWay s.mesh g s.mesh h → h ≡ g
+          → GoSameDirection s.mesh g s.mesh h → h ≡ g
       indexes = (own_indexes (map place s.vertices) s.mesh kept.valid kept.shape).edges
 
       odd : (k l : ℕ) → rev (2 * l) ≡ 2 * k → l ≡ k

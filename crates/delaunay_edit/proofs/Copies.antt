@@ -6,16 +6,11 @@ use Rattle.std.specs.Prelude.{All}
 use Rattle.std.specs.List.{AllZip}
 use Rattle.std.proofs.lemmas.List.{length-map, get_or-map}
 use Rattle.std.proofs.lemmas.List.Elements.{All-head, All-map, All-tail}
-use Rattle.delaunay_edit.specs.half_edge_dcel.Copied.{IsCopied}
-use Rattle.delaunay_edit.specs.half_edge_dcel.Contents.{Contents}
-use Rattle.delaunay_edit.specs.plane.Fraction.{Point}
-use Rattle.delaunay_edit.specs.plane.Tests.{InRange}
-use Rattle.delaunay_edit.specs.delaunay_legalization.Constraints.{constraints_by, marked_edges}
-use Rattle.delaunay_edit.specs.delaunay_legalization.Constraints.{marked_from}
-use Rattle.delaunay_edit.specs.delaunay_legalization.Shape.{IsDelaunayTriangulation}
-use Rattle.delaunay_edit.specs.delaunay_legalization.State.{State, state_of}
-use Rattle.delaunay_edit.specs.Counting.{IsCounted}
-use Rattle.delaunay_edit.specs.Storage.{IsCopy, KeepsImage}
+use Rattle.half_edge_dcel.specs.{Contents}
+use Rattle.{half_edge_dcel.specs.Copied.IsCopied, plane.specs.InRange, plane.specs.Point}
+use Rattle.delaunay_legalization.specs.{constraints_by, IsDelaunayTriangulation, marked_edges}
+use Rattle.delaunay_legalization.specs.{marked_from, State.State, state_of}
+use Rattle.delaunay_edit.specs.{IsCopy, IsCounted, KeepsImage}
 
 -- a copy of the mesh is one of what it holds
 pub copied_as : {V D U F : Type 0} (RV : V → V → Type 0) (RD : D → D → Type 0)

@@ -6,29 +6,19 @@ use Rattle.std.proofs.Common.{ℕ, suc, Bool, List, length, map, refl, sym}
 use Rattle.std.proofs.Common.{ap, ◌∙◌, subst, inl, inr, arith}
 use Rattle.std.specs.Prelude.{Contains}
 use Rattle.std.specs.Borrow.{Bor}
-use Rattle.delaunay_edit.specs.half_edge_links.Mesh.{origin, rev}
-use Rattle.delaunay_edit.specs.half_edge_dcel.Contents.{Contents}
-use Rattle.delaunay_edit.specs.half_edge_dcel.Rounds.{GivesRound}
-use Rattle.delaunay_edit.specs.plane.Fraction.{Point}
-use Rattle.delaunay_edit.specs.plane.Pairs.{IsSamePair, Joins}
-use Rattle.delaunay_edit.proofs.plane.Indexes.{same_joined, turned_join}
-use Rattle.delaunay_edit.proofs.plane_theorems.Tiling.Totals.{Contains-head, Contains-later}
-use Rattle.delaunay_edit.proofs.plane_theorems.Tiling.Totals.{Contains-none}
-use Rattle.delaunay_edit.proofs.plane_theorems.Tiling.Totals.{Contains-cases}
-use Rattle.delaunay_edit.proofs.plane_theorems.Edits.LocalMesh.Changes.{IsOnce, once_head}
-use Rattle.delaunay_edit.proofs.delaunay_legalization_lemmas.MeshLegal.{own_indexes}
-use Rattle.delaunay_edit.proofs.delaunay_legalization_lemmas.WorkLists.{at_most_so_many}
-use Rattle.delaunay_edit.specs.delaunay_legalization.Stays.{KeepsIndexes}
-use Rattle.delaunay_edit.specs.delaunay_legalization.Constraints.{marked_edges, constraints_by}
-use Rattle.delaunay_edit.specs.delaunay_legalization.Shape.{IsTriangulated}
-use Rattle.delaunay_edit.specs.delaunay_legalization.State.{state_of}
-use Rattle.delaunay_edit.proofs.delaunay_legalization_lemmas.ConstraintEdges.{constraints_are_edges}
-use Rattle.delaunay_edit.proofs.delaunay_legalization_lemmas.Rounds.{IsLeftOfRound, IsWholeRound}
-use Rattle.delaunay_edit.proofs.delaunay_legalization_lemmas.Rounds.{whole_round, one_less_left}
-use Rattle.delaunay_edit.proofs.delaunay_legalization_lemmas.Rounds.{next_left, none_is_left}
-use Rattle.delaunay_edit.proofs.JoinedPairs.{edge_joins}
-use Rattle.delaunay_edit.specs.Counting.{EndsAt, HasPairs}
-use Rattle.delaunay_edit.proofs.Edges.{joins_edge}
+use Rattle.plane.specs.{IsSamePair, Joins, Point}
+use Rattle.plane.proofs.{same_joined, turned_join}
+use Rattle.half_edge_links.specs.{origin, rev}
+use Rattle.plane_theorems.proofs.{Contains-cases, Contains-head, Contains-later, Contains-none}
+use Rattle.plane_theorems.proofs.{IsOnce, once_head}
+use Rattle.half_edge_dcel.specs.{Contents, GivesRound}
+use Rattle.delaunay_legalization.specs.{constraints_by, IsTriangulated, KeepsIndexes, marked_edges}
+use Rattle.delaunay_legalization.specs.{state_of}
+use Rattle.delaunay_legalization.proofs.{at_most_so_many, constraints_are_edges, joins_edge}
+use Rattle.delaunay_legalization.proofs.Rounds.{IsLeftOfRound, IsWholeRound, next_left}
+use Rattle.delaunay_legalization.proofs.Rounds.{none_is_left, one_less_left, whole_round}
+use Rattle.delaunay_edit.specs.{EndsAt, HasPairs}
+use Rattle.{delaunay_edit.proofs.JoinedPairs.edge_joins, delaunay_legalization.proofs.own_indexes}
 use Rattle.delaunay_edit.proofs.PairCounts.{has_pairs_as, no_pairs, one_more}
 
 module _ {V D U F : Type 0} (constraints : List U → List ℕ) (c : Contents V D U F) where

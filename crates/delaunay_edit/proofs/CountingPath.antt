@@ -1,37 +1,30 @@
--- The pieces of a path that are no constraints are counted, one after another.
+-- The subconstraints of a path that are no constraints are counted, one after another.
 -- Notions: IsWalking; walk_begins, walk_ends, walk_shortens, walk_goes_past, walk_goes_on.
 use Rattle.std.proofs.Common.{◌≡◌, ◌≢◌, ◌⊎◌, ◌↔◌, ◌+◌, ◌<◌, ◌≤◌}
 use Rattle.std.proofs.Common.{ℕ, suc, List, sym, subst, inl, inr, arith}
 use Rattle.std.specs.Prelude.{All, nat_abs, pos}
 use Rattle.std.proofs.lemmas.Bool.{cases_eq}
 use Rattle.std.proofs.lemmas.List.Elements.{All-get_or}
-use Rattle.delaunay_edit.specs.plane.Fraction.{Point}
-use Rattle.delaunay_edit.specs.plane.Laws.{squared_way}
-use Rattle.delaunay_edit.specs.plane.Pairs.{IsIndex, IsSamePair, Joins, place}
-use Rattle.delaunay_edit.specs.plane.Tests.{InRange}
-use Rattle.delaunay_edit.proofs.plane.Indexes.{same_joined}
-use Rattle.delaunay_edit.specs.plane_theorems.Edits.Legal.{point_of}
-use Rattle.delaunay_edit.specs.plane_theorems.Segments.Constraints.{AreNextOn, ArePlacedApart}
-use Rattle.delaunay_edit.proofs.plane_theorems.Segments.Constraints.Pieces.{path_ends, path_goes_on}
-use Rattle.delaunay_edit.proofs.plane_theorems.Segments.Constraints.Shorter.{path_shortens}
-use Rattle.delaunay_edit.proofs.plane_theorems.Tiling.Edges.{turned_within}
-use Rattle.delaunay_edit.proofs.delaunay_core_lemmas.Projections.{along_bound}
-use Rattle.delaunay_edit.specs.Counting.{HasPairs, IsMissing}
+use Rattle.plane.specs.{InRange, IsIndex, IsSamePair, Joins, place, Point, squared_vector}
+use Rattle.plane_theorems.specs.{AreNextOn, ArePlacedApart, point_of}
+use Rattle.plane_theorems.proofs.{path_ends, path_goes_on, path_shortens, turned_within}
+use Rattle.delaunay_core.proofs.Projections.{along_bound}
+use Rattle.{delaunay_edit.specs.HasPairs, delaunay_edit.specs.IsMissing, plane.proofs.same_joined}
 use Rattle.delaunay_edit.proofs.PairCounts.{has_pairs_as, no_pairs, one_more}
 
--- the vertices of the path, as far as the walk has come, and how many pieces that are missing it
--- passed
+-- the vertices of the path, as far as the walk has come, and how many subconstraints that are
+-- missing it passed
 pub record IsWalking (points : List Point) (pairs : List (ℕ × ℕ))
     (from to at count : ℕ) : Type 0 where
   pub within : IsIndex points at
-  pub few : count + nat_abs (squared_way (point_of points at) (point_of points to))
+  pub few : count + nat_abs (squared_vector (point_of points at) (point_of points to))
       ≤ 2305843009213693952
   pub total : (k : ℕ) → HasPairs (IsMissing points pairs at to) k →
       HasPairs (IsMissing points pairs from to) (count + k)
 
 module _ (points : List Point) (distinct : ArePlacedApart points) (pairs : List (ℕ × ℕ)) (to : ℕ)
     (to_in : IsIndex points to) where
-  -- the first piece is not among the others
+  -- the first subconstraint is not among the others
   first_alone : (at next : ℕ) → IsIndex points at → at ≢ to → AreNextOn points at to at next →
       ¬ AreNextOn points next to at next
   first_alone at next within apart first again = elim (next_or_end next to) as (λ _. ⊥) [
@@ -55,7 +48,7 @@ module _ (points : List Point) (distinct : ArePlacedApart points) (pairs : List 
       next_or_end : (m n : ℕ) → (m ≡ n) ⊎ (m ≢ n)
       next_or_end m n = cases_eq m n
 
-  -- a walk begins at the start, before the first piece, with the count 0
+  -- a walk begins at the start, before the first subconstraint, with the count 0
   pub walk_begins : (from : ℕ) → IsIndex points from → All InRange points
       → IsWalking points pairs from to from 0
   walk_begins from within in_range = record {
@@ -72,7 +65,7 @@ module _ (points : List Point) (distinct : ArePlacedApart points) (pairs : List 
           All-get_or InRange points k (record { x = pos 0; y = pos 0 }) inside in_range
 
   module _ (from at count : ℕ) (p : IsWalking points pairs from to at count) where
-    -- at the end so many pieces of the path are missing
+    -- at the end so many subconstraints of the path are missing
     pub walk_ends : at ≡ to → HasPairs (IsMissing points pairs from to) count
     walk_ends e = subst (λ (n : ℕ). HasPairs (IsMissing points pairs from to) n) (omega arith)
         (p.total 0 (no_pairs (λ a b m. path_ends points to distinct a b
@@ -80,22 +73,22 @@ module _ (points : List Point) (distinct : ArePlacedApart points) (pairs : List 
 
     module _ (next : ℕ) (apart : at ≢ to) (first : AreNextOn points at to at next) where
       -- from the next vertex the way to the end is shorter
-      pub walk_shortens : nat_abs (squared_way (point_of points next) (point_of points to))
-          < nat_abs (squared_way (point_of points at) (point_of points to))
+      pub walk_shortens : nat_abs (squared_vector (point_of points next) (point_of points to))
+          < nat_abs (squared_vector (point_of points at) (point_of points to))
       walk_shortens = path_shortens points at to next distinct p.within to_in apart first
 
-      pieces : (a b : ℕ) → AreNextOn points at to a b
+      subconstraints : (a b : ℕ) → AreNextOn points at to a b
           ↔ (IsSamePair a b at next ⊎ AreNextOn points next to a b)
-      pieces = path_goes_on points at to next distinct to_in apart first
+      subconstraints = path_goes_on points at to next distinct to_in apart first
 
-      -- where the next piece is a pair of the list, the count stays
+      -- where the next subconstraint is a pair of the list, the count stays
       pub walk_goes_past : Joins pairs at next → IsWalking points pairs from to next count
       walk_goes_past joined = record {
         within = first.second_index;
         few = (let few = p.few in let falls = walk_shortens in omega (arith, few, falls));
         total = λ k has. p.total k (has_pairs_as has (λ a b. (
-          (λ m. ((pieces a b).1 (inr m.0), m.1)),
-          (λ m. elim ((pieces a b).0 m.0) [
+          (λ m. ((subconstraints a b).1 (inr m.0), m.1)),
+          (λ m. elim ((subconstraints a b).0 m.0) [
             | inl s ↦ absurd (m.1 (same_joined pairs a b at next s joined))
             | inr n ↦ (n, m.1)
           ]),
@@ -113,10 +106,10 @@ module _ (points : List Point) (distinct : ArePlacedApart points) (pairs : List 
             (one_more has at next (λ m. first_alone at next p.within apart first m.0))
             (λ a b. (
               (λ x. elim x [
-                | inl m ↦ ((pieces a b).1 (inr m.0), m.1)
-                | inr s ↦ ((pieces a b).1 (inl s), (λ j. missing (joined_back a b s j)))
+                | inl m ↦ ((subconstraints a b).1 (inr m.0), m.1)
+                | inr s ↦ ((subconstraints a b).1 (inl s), (λ j. missing (joined_back a b s j)))
               ]),
-              (λ m. elim ((pieces a b).0 m.0) [ inl s ↦ inr s | inr n ↦ inl (n, m.1) ]),
+              (λ m. elim ((subconstraints a b).0 m.0) [ inl s ↦ inr s | inr n ↦ inl (n, m.1) ]),
             ))));
       }
         where

@@ -3,35 +3,20 @@
 -- Lemmas: as_many, one_more_constraint, counted_split.
 use Rattle.std.proofs.Common.{◌≡◌, ◌+◌}
 use Rattle.std.proofs.Common.{ℕ, suc, Bool, List, length, map, refl, ap, inl, inr, arith}
-use Rattle.delaunay_edit.specs.half_edge_dcel.Contents.{Contents}
-use Rattle.delaunay_edit.specs.half_edge_links.Mesh.{origin, rev}
-use Rattle.delaunay_edit.specs.plane.Fraction.{Point, whole}
-use Rattle.delaunay_edit.specs.plane.Location.{Location, on_edge, IsLocation}
-use Rattle.delaunay_edit.specs.plane.Pairs.{EachPairOnce, Joins}
-use Rattle.delaunay_edit.specs.plane.Plain.{Carries, IsPlain}
-use Rattle.delaunay_edit.proofs.plane.Indexes.{same_joined}
-use Rattle.delaunay_edit.specs.plane_theorems.Tiling.Laws.{IsSameLocation}
-use Rattle.delaunay_edit.proofs.plane_theorems.Tiling.Locations.{each_point_has_one_location}
-use Rattle.delaunay_edit.specs.delaunay_legalization.Drawn.{edges_of, faces_of, outer_of}
-use Rattle.delaunay_edit.proofs.delaunay_legalization_lemmas.OwnEdges.{own_edges}
-use Rattle.delaunay_vertices.specs.Constraints.{SplitsConstraints}
-use Rattle.delaunay_edit.specs.delaunay_legalization.Constraints.{constraints_by, marked_edges}
-use Rattle.delaunay_edit.specs.delaunay_legalization.Constraints.{points_and_constraints_by}
-use Rattle.delaunay_edit.specs.delaunay_legalization.Shape.{IsDelaunayTriangulation}
-use Rattle.delaunay_edit.specs.delaunay_legalization.Shape.{IsTriangulated}
-use Rattle.delaunay_edit.specs.delaunay_legalization.State.{State, state_of, triangulation_of}
-use Rattle.delaunay_edit.proofs.delaunay_legalization_lemmas.ConstraintEdges.{constraints_are_edges}
-use Rattle.delaunay_edit.specs.delaunay_location.declared.position_in_triangulation.PositionInTriangulation.{PositionInTriangulation}
-use Rattle.delaunay_edit.specs.delaunay_location.declared.position_in_triangulation.PositionInTriangulation.TheVariants.{OnVertex}
-use Rattle.delaunay_edit.specs.delaunay_location.declared.position_in_triangulation.PositionInTriangulation.TheVariants.{OnEdge}
-use Rattle.delaunay_edit.specs.delaunay_location.declared.position_in_triangulation.PositionInTriangulation.TheVariants.{OnFace}
-use Rattle.delaunay_edit.specs.delaunay_location.declared.position_in_triangulation.PositionInTriangulation.TheVariants.{OutsideOfConvexHull}
-use Rattle.delaunay_edit.specs.delaunay_location.declared.position_in_triangulation.PositionInTriangulation.TheVariants.{NoTriangulation}
-use Rattle.delaunay_edit.proofs.JoinedPairs.{edge_joins}
-use Rattle.delaunay_edit.specs.Counting.{IsCounted, IsOnConstraint, IsSplitCount}
-use Rattle.delaunay_edit.specs.Location.{Locates, location_of}
-use Rattle.delaunay_edit.proofs.Constrained.{plain_with_edges}
-use Rattle.delaunay_edit.proofs.DifferentConstraints.{constraints_once}
+use Rattle.plane.specs.{Carries, EachPairOnce, IsLocation, IsPlain, Joins, Location, on_edge, Point}
+use Rattle.plane.specs.{whole}
+use Rattle.{plane.proofs.same_joined, plane_theorems.proofs.each_point_has_one_location}
+use Rattle.{half_edge_dcel.specs.Contents, half_edge_links.specs.origin, half_edge_links.specs.rev}
+use Rattle.delaunay_legalization.specs.{constraints_by, edges_of, faces_of, IsDelaunayTriangulation}
+use Rattle.delaunay_legalization.specs.{IsTriangulated, marked_edges, outer_of}
+use Rattle.delaunay_legalization.specs.{points_and_constraints_by, state_of, triangulation_of}
+use Rattle.{delaunay_legalization.specs.State.State, delaunay_vertices.specs.SplitsConstraints}
+use Rattle.delaunay_legalization.proofs.{constraints_are_edges, own_edges}
+use Rattle.delaunay_location.specs.{Locates, location_of, NoTriangulation, OnEdge, OnFace, OnVertex}
+use Rattle.delaunay_location.specs.{OutsideOfConvexHull, PositionInTriangulation}
+use Rattle.delaunay_edit.specs.{Counting.IsOnConstraint, Counting.IsSplitCount, IsCounted}
+use Rattle.{delaunay_edit.proofs.Constrained.plain_with_edges, plane_theorems.specs.IsSameLocation}
+use Rattle.delaunay_edit.proofs.{DifferentConstraints.constraints_once, JoinedPairs.edge_joins}
 use Rattle.delaunay_edit.proofs.EditCounts.{free_number, split_number}
 
 module _ {V D U F : Type 0} (place : V → Point) (marks : U → Bool) (constraints : List U → List ℕ)

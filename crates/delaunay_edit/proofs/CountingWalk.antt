@@ -1,5 +1,5 @@
--- A walk along the path between two vertices counts the pieces that are no constraints, and finds
--- the constraints that cross it.
+-- A walk along the path between two vertices counts the subconstraints that are no constraints, and
+-- finds the constraints that cross it.
 -- Notions: ArePathEnds, IsCountingPath; half_listed, half_unlisted, crossed_item, crossed_within,
 -- vertex_item, counting_path_begins, path_is_free, path_counted, crossed_half_in, path_is_barred,
 -- counting_crosses,
@@ -11,52 +11,30 @@ use Rattle.std.proofs.Common.{arith}
 use Rattle.std.specs.Prelude.{ℤ, Contains}
 use Rattle.std.specs.Borrow.{Bor}
 use Rattle.std.proofs.lemmas.List.Elements.{All-map, Contains-append_left, Contains-push_cases}
-use Rattle.delaunay_edit.specs.half_edge_dcel.declared.edge.DirectedEdgeHandle.{DirectedEdgeHandle}
-use Rattle.delaunay_edit.specs.half_edge_dcel.declared.vertex.VertexHandle.{VertexHandle}
-use Rattle.delaunay_edit.specs.half_edge_dcel.Contents.{Contents}
-use Rattle.delaunay_edit.specs.half_edge_links.Mesh.{origin, rev}
-use Rattle.delaunay_edit.proofs.half_edge_links_lemmas.Lists.Rev.{rev_within}
-use Rattle.delaunay_edit.specs.plane.Fraction.{Point, IsSame, OnSegment, WithinSegment}
-use Rattle.delaunay_edit.specs.plane.Line.{Item, IsLineList, Meets, across, along, at_vertex}
-use Rattle.delaunay_edit.specs.plane.Pairs.{Joins, IsIndex, place}
-use Rattle.delaunay_edit.specs.plane.Tests.{InRange}
-use Rattle.delaunay_edit.specs.plane.Tiling.{IsEdge, Triangulation}
-use Rattle.delaunay_edit.proofs.plane.Indexes.{turned_join}
-use Rattle.delaunay_edit.specs.plane_theorems.Segments.Constraints.{AreNextOn, ArePlacedApart}
-use Rattle.delaunay_edit.proofs.plane_theorems.Tiling.Locations.{no_edges_cross}
-use Rattle.delaunay_edit.proofs.plane_theorems.Tiling.Totals.{Contains-none}
-use Rattle.delaunay_edit.specs.delaunay_legalization.Drawn.{drawn, edges_of, faces_of, outer_of}
-use Rattle.delaunay_edit.proofs.delaunay_legalization_lemmas.MeshLegal.{IsListedEdge}
-use Rattle.delaunay_edit.proofs.delaunay_legalization_lemmas.MeshLegal.{joins_directed}
-use Rattle.delaunay_edit.proofs.delaunay_legalization_lemmas.MeshLegal.{listed_edge, own_indexes}
-use Rattle.delaunay_edit.proofs.delaunay_legalization_lemmas.OwnEdges.{own_edges}
-use Rattle.delaunay_edit.proofs.delaunay_legalization_lemmas.WorkLists.{contains_last}
-use Rattle.delaunay_edit.specs.delaunay_legalization.Constraints.{constraints_by, marked_edges}
-use Rattle.delaunay_edit.specs.delaunay_legalization.Known.{point_at}
-use Rattle.delaunay_edit.specs.delaunay_legalization.Shape.{IsTriangulated}
-use Rattle.delaunay_edit.specs.delaunay_legalization.State.{State, state_of}
-use Rattle.delaunay_edit.proofs.delaunay_legalization_lemmas.ConstraintEdges.{constraints_are_edges}
-use Rattle.delaunay_edit.proofs.delaunay_legalization_lemmas.Constraints.{fixed_within}
-use Rattle.delaunay_edit.specs.delaunay_location.declared.intersection.Intersection.{Intersection}
-use Rattle.delaunay_edit.specs.delaunay_location.declared.intersection.Intersection.TheVariants.{EdgeIntersection}
-use Rattle.delaunay_edit.specs.delaunay_location.declared.intersection.Intersection.TheVariants.{VertexIntersection}
-use Rattle.delaunay_edit.specs.delaunay_location.declared.iterator.LineIntersectionIterator.{LineIntersectionIterator}
-use Rattle.delaunay_edit.specs.delaunay_location.Conflicts.{HasNoConflict, IsConflict}
-use Rattle.delaunay_edit.specs.delaunay_location.Items.{item_in, mesh_of}
-use Rattle.delaunay_edit.specs.delaunay_location.Walk.{GivesNext, IsReady, WalksLine}
-use Rattle.delaunay_edit.proofs.delaunay_location_lemmas.EitherWay.{crossed_either_way}
-use Rattle.delaunay_edit.specs.Adding.{CanAddPath}
-use Rattle.delaunay_edit.proofs.InTheWay.{meets_is_cross}
-use Rattle.delaunay_edit.proofs.NextVertex.{two}
-use Rattle.delaunay_edit.proofs.Passing.{HasPassed, all_passed, list_with, none_passed}
-use Rattle.delaunay_edit.proofs.Passing.{one_more_passed, passed_kept}
+use Rattle.plane.specs.{across, along, at_vertex, InRange, IsEdge, IsIndex, IsLineList, IsSame}
+use Rattle.plane.specs.{Item, Joins, Meets, OnSegment, place, Point, Triangulation, WithinSegment}
+use Rattle.{half_edge_links.specs.origin, half_edge_links.specs.rev, plane.proofs.turned_join}
+use Rattle.half_edge_links.proofs.{rev_within}
+use Rattle.plane_theorems.specs.{AreNextOn, ArePlacedApart}
+use Rattle.plane_theorems.proofs.{Contains-none, no_edges_cross}
+use Rattle.half_edge_dcel.specs.{Contents, DirectedEdgeHandle, VertexHandle}
+use Rattle.delaunay_legalization.specs.{constraints_by, drawn, edges_of, faces_of, IsTriangulated}
+use Rattle.delaunay_legalization.specs.{marked_edges, outer_of, point_at, state_of}
+use Rattle.delaunay_legalization.proofs.{constraints_are_edges, contains_last, fixed_within}
+use Rattle.delaunay_legalization.proofs.{IsListedEdge, joins_directed, listed_edge, own_edges}
+use Rattle.{delaunay_legalization.proofs.own_indexes, delaunay_legalization.specs.State.State}
+use Rattle.delaunay_location.specs.{EdgeIntersection, GivesNext, HasNoConflict, Intersection}
+use Rattle.delaunay_location.specs.{IsConflict, IsReady, item_in, LineIntersectionIterator, mesh_of}
+use Rattle.delaunay_location.specs.{VertexIntersection, WalksLine}
+use Rattle.delaunay_location.proofs.EitherWay.{crossed_either_way}
+use Rattle.delaunay_edit.specs.{Adding.CanAddPath, HasPairs, IsMissing}
+use Rattle.delaunay_edit.proofs.CountingPath.{IsWalking, walk_begins, walk_ends, walk_goes_on}
+use Rattle.delaunay_edit.proofs.{CountingPath.walk_goes_past, Walking.in_map, Walking.placed_apart}
+use Rattle.delaunay_edit.proofs.{InTheWay.meets_is_cross, NextVertex.two}
 use Rattle.delaunay_edit.proofs.PassedVertices.{HasReached, next_after, not_at_end, reached_begins}
 use Rattle.delaunay_edit.proofs.PassedVertices.{reached_ends, reached_next, reached_stays}
-use Rattle.delaunay_edit.proofs.Places.{no_same_place}
-use Rattle.delaunay_edit.proofs.Walking.{in_map, placed_apart}
-use Rattle.delaunay_edit.specs.Counting.{HasPairs, IsMissing}
-use Rattle.delaunay_edit.proofs.CountingPath.{IsWalking, walk_begins, walk_ends, walk_goes_on}
-use Rattle.delaunay_edit.proofs.CountingPath.{walk_goes_past}
+use Rattle.delaunay_edit.proofs.Passing.{all_passed, HasPassed, list_with, none_passed}
+use Rattle.delaunay_edit.proofs.{Passing.one_more_passed, Passing.passed_kept, Places.no_same_place}
 
 -- the ends of an item
 abbrev first_end : Item → ℕ
@@ -143,8 +121,8 @@ module _ {V D U F : Type 0} (at : V → Point) (marks : U → Bool) (constraints
     pub apart : i ≢ j
 
   module _ {P S : Type 0} (number : S → ℤ) (IsSite IsCovered : P → Point → Type 0) where
-    -- vertex v is the last that the walk has passed, so many pieces up to it are missing, and no
-    -- edge that was passed is a constraint that crosses
+    -- vertex v is the last that the walk has passed, so many subconstraints up to it are missing,
+    -- and no edge that was passed is a constraint that crosses
     pub record IsCountingPath (v count : ℕ)
         (now : LineIntersectionIterator V D U F P S) : Type 0 where
       pub ends : ArePathEnds
@@ -298,7 +276,7 @@ module _ {V D U F : Type 0} (at : V → Point) (marks : U → Bool) (constraints
       pub path_is_free : CanAddPath at constraints c i j
       path_is_free = free_if_clear counting.ends counting.passed all counting.clear
 
-      -- and so many of its pieces are missing
+      -- and so many of its subconstraints are missing
       pub path_counted : HasPairs (IsMissing points pairs i j) count
       path_counted = walk_ends points apart pairs j last i v count counting.walking
           (reached_ends points c.mesh apart i j first last differ counting.passed v
@@ -418,7 +396,7 @@ module _ {V D U F : Type 0} (at : V → Point) (marks : U → Bool) (constraints
           (λ conflict. no_crossed_vertex v (origin c.mesh conflict.0)
           (origin c.mesh (rev conflict.0)) (sym is ∙ conflict.2))
 
-      -- another vertex ends the next piece
+      -- another vertex ends the next subconstraint
       module _ (w : ℕ) (is : item_in x ≡ at_vertex w) (other : w ≢ v) where
         w_line : IsLineList t (place points i) (place points j)
             ((counting.passed ++ at_vertex w ∷ []) ++ line.0)
@@ -430,8 +408,8 @@ module _ {V D U F : Type 0} (at : V → Point) (marks : U → Bool) (constraints
         w_met = subst (λ (k : Item). Meets t (place points i) (place points j) k) is
             (line.1.met (ends_apart counting.ends) (item_in x) here)
 
-        next_piece : AreNextOn points v j v w
-        next_piece = next_after points c.mesh apart i j first last differ
+        next_subconstraint : AreNextOn points v j v w
+        next_subconstraint = next_after points c.mesh apart i j first last differ
             counting.passed v counting.reached w other w_met.0 w_met.1 line.0 w_line
 
         before_end : v ≢ j
@@ -459,11 +437,11 @@ module _ {V D U F : Type 0} (at : V → Point) (marks : U → Bool) (constraints
             → IsCountingPath number IsSite IsCovered w count after
         counting_goes_past ready joined = counted_on ready count
             (walk_goes_past points apart pairs j last i v count
-            counting.walking w before_end next_piece joined)
+            counting.walking w before_end next_subconstraint joined)
 
         -- or none, and is counted
         pub counting_goes_on : IsReady at number IsSite IsCovered after → ¬ Joins pairs v w
             → IsCountingPath number IsSite IsCovered w (count + 1) after
         counting_goes_on ready missing = counted_on ready (count + 1)
             (walk_goes_on points apart pairs j last i v count
-            counting.walking w before_end next_piece missing)
+            counting.walking w before_end next_subconstraint missing)

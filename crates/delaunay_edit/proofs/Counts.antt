@@ -6,30 +6,15 @@ use Rattle.std.specs.Prelude.{pos, List}
 use Rattle.std.specs.Borrow.{Bor}
 use Rattle.std.specs.List.{range_with_len}
 use Rattle.std.proofs.lemmas.List.{length-map, get_or-map}
-use Rattle.delaunay_edit.specs.half_edge_links.Triangles.{triangle_at, triangles}
-use Rattle.delaunay_edit.specs.half_edge_links.Outline.{ends}
-use Rattle.delaunay_edit.proofs.half_edge_links_lemmas.Sound.Ends.{length-ends_twice}
-use Rattle.delaunay_edit.specs.half_edge_dcel.Contents.{Contents}
-use Rattle.delaunay_edit.specs.half_edge_dcel.Left.{each_in}
-use Rattle.delaunay_edit.specs.plane.Fraction.{Point}
-use Rattle.delaunay_edit.specs.plane.Plain.{IsPlain}
-use Rattle.delaunay_edit.specs.delaunay_legalization.Drawn.{corners_of, pair_of, faces_of, edges_of}
-use Rattle.delaunay_edit.specs.delaunay_legalization.Drawn.{outer_of}
-use Rattle.delaunay_edit.proofs.delaunay_legalization_lemmas.EdgePairs.{no_joins}
-use Rattle.delaunay_edit.specs.delaunay_location.declared.position_in_triangulation.PositionInTriangulation.{PositionInTriangulation}
-use Rattle.delaunay_edit.specs.delaunay_location.declared.position_in_triangulation.PositionInTriangulation.TheVariants.{
-  OnVertex,
-  OnEdge,
-  OnFace,
-  OutsideOfConvexHull,
-  NoTriangulation,
-}
-use Rattle.delaunay_edit.specs.delaunay_legalization.State.{State, state_of}
-use Rattle.delaunay_edit.specs.delaunay_legalization.State.{points_and_constraints}
-use Rattle.delaunay_edit.specs.delaunay_legalization.Shape.{IsTriangulated}
-use Rattle.delaunay_edit.specs.Location.{HasHandle}
-use Rattle.delaunay_edit.specs.Elements.{GivesElements, HasElement, HasOuterEdge}
-use Rattle.delaunay_edit.proofs.delaunay_legalization_lemmas.Shapes.{laid_out_distinct}
+use Rattle.half_edge_links.specs.{ends, triangle_at, triangles}
+use Rattle.{half_edge_links.proofs.length-ends_twice, plane.specs.IsPlain, plane.specs.Point}
+use Rattle.half_edge_dcel.specs.{Contents, each_in}
+use Rattle.delaunay_legalization.specs.{corners_of, edges_of, faces_of, IsTriangulated, outer_of}
+use Rattle.delaunay_legalization.specs.{pair_of, points_and_constraints, State.State, state_of}
+use Rattle.delaunay_legalization.proofs.{no_joins, Shapes.laid_out_distinct}
+use Rattle.delaunay_location.specs.{HasHandle, NoTriangulation, OnEdge, OnFace, OnVertex}
+use Rattle.delaunay_location.specs.{OutsideOfConvexHull, PositionInTriangulation}
+use Rattle.delaunay_edit.specs.{Elements.HasOuterEdge, GivesElements, HasElement}
 
 module _ {V D U F : Type 0} (place : V → Point) (s : State V D U F)
     (kept : IsTriangulated place s) where

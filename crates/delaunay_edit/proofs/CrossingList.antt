@@ -1,5 +1,5 @@
 -- The list of the edges that cross a segment, where one of them is turned.
--- Lemmas: one_way, starts_ahead, ends_behind, way_is, way_crosses, way_ends, made_clear,
+-- Lemmas: one_way, starts_ahead, ends_behind, vector_is, way_crosses, way_ends, made_clear,
 -- made_clear_back, others_are_all, others_still, taken, put_waiting.
 use Rattle.std.proofs.Common.{◌≡◌, ◌≢◌, ◌⊎◌, ◌*◌, ◌/◌, ◌<◌, [], ◌∷◌, ◌++◌, ◌∙◌}
 use Rattle.std.proofs.Common.{ℕ, List, length, refl, sym, ap, subst}
@@ -7,22 +7,14 @@ use mathlib.Core.Logic.{inl, inr}
 use Rattle.std.specs.Prelude.{Contains}
 use Rattle.std.proofs.lemmas.Bool.{cases_eq}
 use Rattle.std.proofs.lemmas.List.Elements.{Contains-push_cases}
-use Rattle.delaunay_location.specs.half_edge_links.Mesh.{Mesh, IsValidMesh, origin, rev}
-use Rattle.delaunay_location.specs.half_edge_links.Flip.{IsFlippable, Flips}
-use Rattle.delaunay_location.proofs.half_edge_links_lemmas.Lists.Rev.{rev-rev}
-use Rattle.delaunay_location.specs.plane.Fraction.{Point}
-use Rattle.delaunay_location.specs.plane.Pairs.{place}
-use Rattle.delaunay_location.specs.plane.Side.{side, left, right, TurnsLeft}
-use Rattle.delaunay_location.specs.delaunay_legalization.Stays.{GoSameWay}
-use Rattle.delaunay_location.proofs.delaunay_legalization_lemmas.MeshStays.{halved}
-use Rattle.delaunay_location.proofs.delaunay_legalization_lemmas.WorkLists.{contains_before}
-use Rattle.delaunay_location.proofs.delaunay_legalization_lemmas.WorkLists.{contains_last}
-use Rattle.delaunay_location.proofs.delaunay_legalization_lemmas.WorkLists.{last_not_before}
-use Rattle.delaunay_location.proofs.delaunay_legalization_lemmas.WorkLists.{once_after, once_before}
-use Rattle.delaunay_edit.specs.Crossing.{AreAllCrossing, AreOthersCrossing, CrossesFromRight}
-use Rattle.delaunay_edit.specs.Crossing.{GoesFromRight, ahead, behind}
-use Rattle.delaunay_edit.specs.Lists.{AreOnce, IsIn}
-use Rattle.delaunay_edit.proofs.Towards.{others_stay}
+use Rattle.plane.specs.{left, place, Point, right, side, TurnsLeft}
+use Rattle.half_edge_links.specs.{Flips, IsFlippable, IsValidMesh, Mesh, origin, rev}
+use Rattle.half_edge_links.proofs.{rev-rev}
+use Rattle.delaunay_legalization.proofs.{contains_before, contains_last, halved, once_after}
+use Rattle.delaunay_legalization.proofs.WorkLists.{last_not_before, once_before}
+use Rattle.delaunay_edit.specs.{ahead, AreAllCrossing, behind, CrossesFromRight, GoesFromRight}
+use Rattle.delaunay_edit.specs.{Crossing.AreOthersCrossing, Lists.AreOnce, Lists.IsIn}
+use Rattle.{delaunay_edit.proofs.Towards.others_stay, delaunay_legalization.specs.GoSameDirection}
 
 left_not_right : left ≡ right → ⊥
 left_not_right e = cc
@@ -43,7 +35,7 @@ module _ (points : List Point) (m : Mesh) (s : IsValidMesh m) (i j e : ℕ)
     | inr q ↦ elim o [ inl r ↦ inr (r ∙ q) | inr r ↦ inl (r ∙ ap rev q ∙ rev-rev e) ]
   ]
 
-  other_stays : (h : ℕ) → h ≢ e → h ≢ rev e → GoSameWay m h new h
+  other_stays : (h : ℕ) → h ≢ e → h ≢ rev e → GoSameDirection m h new h
   other_stays h n o = others_stay m new (2 * (e / 2)) s.sound can moves h
       (λ q. elim (twins h (inl q)) as (λ _. ⊥) [ inl r ↦ n r | inr r ↦ o r ])
       (λ q. elim (twins h (inr q)) as (λ _. ⊥) [ inl r ↦ n r | inr r ↦ o r ])
@@ -85,9 +77,9 @@ module _ (points : List Point) (m : Mesh) (s : IsValidMesh m) (i j e : ℕ)
   Way f = ((f ≡ e) × GoesFromRight points i j (ahead m e) (behind m e))
       ⊎ ((f ≡ rev e) × GoesFromRight points i j (behind m e) (ahead m e))
 
-  pub way_is : (f : ℕ) → Way f → (f ≡ e) ⊎ (f ≡ rev e)
-  way_is f (inl way) = inl way.0
-  way_is f (inr way) = inr way.0
+  pub vector_is : (f : ℕ) → Way f → (f ≡ e) ⊎ (f ≡ rev e)
+  vector_is f (inl way) = inl way.0
+  vector_is f (inr way) = inr way.0
 
   pub way_crosses : (f : ℕ) → Way f → CrossesFromRight points new i j f
   way_crosses f (inl way) = subst (λ (h : ℕ). CrossesFromRight points new i j h) (sym way.0)

@@ -4,25 +4,16 @@
 use Rattle.std.proofs.Common.{◌≡◌, ◌∙◌, ◌<◌, []}
 use Rattle.std.proofs.Common.{ℕ, Bool, List, length, map, sym, ap, subst, slice_set}
 use Rattle.std.proofs.Common.{None, Some, refl, arith}
-use Rattle.delaunay_edit.specs.half_edge_links.Mesh.{IsValidMesh, empty}
-use Rattle.delaunay_edit.specs.half_edge_dcel.Contents.{Contents}
-use Rattle.delaunay_edit.specs.plane.Fraction.{Point}
-use Rattle.delaunay_edit.specs.plane.Tiling.{IsFace}
-use Rattle.delaunay_edit.specs.plane.Delaunay.{IsConstrainedDelaunay, IsLocallyDelaunay}
-use Rattle.delaunay_edit.specs.plane.Delaunay.{IsStrictlyEmpty}
-use Rattle.delaunay_edit.proofs.plane_theorems.Delaunay.Circles.EmptyCircles.{local_gives_constrained_delaunay}
-use Rattle.delaunay_edit.proofs.plane_theorems.Delaunay.Circles.EmptyCircles.{strictly_empty_is_face}
-use Rattle.delaunay_edit.specs.delaunay_legalization.Drawn.{drawn, faces_of}
-use Rattle.delaunay_edit.specs.delaunay_legalization.Legal.{pairs_at}
-use Rattle.delaunay_edit.proofs.delaunay_legalization_lemmas.MeshLegal.{line_has_none}
-use Rattle.delaunay_edit.specs.delaunay_legalization.Constraints.{marked_edges, constraint_pairs}
-use Rattle.delaunay_edit.specs.delaunay_legalization.Constraints.{constraints_by}
-use Rattle.delaunay_edit.specs.delaunay_legalization.Known.{point_at}
-use Rattle.delaunay_edit.specs.delaunay_legalization.Shape.{IsDelaunayTriangulation}
-use Rattle.delaunay_edit.specs.delaunay_legalization.State.{State, state_of, triangulation_of}
-use Rattle.delaunay_edit.proofs.delaunay_legalization_lemmas.ConstraintEdges.{constraints_are_edges}
-use Rattle.delaunay_edit.proofs.delaunay_legalization_lemmas.Shapes.{laid_out_tiles, kept_empty}
-use Rattle.delaunay_edit.specs.Counting.{IsCounted}
+use Rattle.plane.specs.{IsConstrainedDelaunay, IsFace, IsLocallyDelaunay, IsStrictlyEmpty, Point}
+use Rattle.half_edge_links.specs.{empty, IsValidMesh}
+use Rattle.plane_theorems.proofs.Delaunay.Circles.EmptyCircles.{local_gives_constrained_delaunay}
+use Rattle.plane_theorems.proofs.Delaunay.Circles.EmptyCircles.{strictly_empty_is_face}
+use Rattle.half_edge_dcel.specs.{Contents}
+use Rattle.delaunay_legalization.specs.{constraint_pairs, constraints_by, drawn, faces_of}
+use Rattle.delaunay_legalization.specs.{IsDelaunayTriangulation, marked_edges, pairs_at, point_at}
+use Rattle.delaunay_legalization.specs.{State.State, state_of, triangulation_of}
+use Rattle.delaunay_legalization.proofs.{constraints_are_edges, laid_out_tiles, line_has_none}
+use Rattle.{delaunay_edit.specs.IsCounted, delaunay_legalization.proofs.Shapes.kept_empty}
 use Rattle.delaunay_edit.proofs.Overwriting.{kept_overwritten, same_places}
 
 -- the marked edges are the constraints, whatever is marked

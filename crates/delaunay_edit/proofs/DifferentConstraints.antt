@@ -6,14 +6,10 @@ use Rattle.std.specs.Prelude.{All, AllPairs, if◌then◌else◌, slice_index_or
 use Rattle.std.proofs.lemmas.List.{length-map, get_or-map}
 use Rattle.std.proofs.lemmas.List.Elements.{All-cons, All-nil, All-contains_itself}
 use Rattle.std.proofs.lemmas.List.Kept.{AllPairs-cons}
-use Rattle.delaunay_edit.specs.plane.Fraction.{Point}
-use Rattle.delaunay_edit.specs.plane.Pairs.{IsSamePair, EachPairOnce}
-use Rattle.delaunay_edit.specs.delaunay_legalization.Legal.{pair_at}
-use Rattle.delaunay_edit.specs.delaunay_legalization.Constraints.{marked_from, marked_edges}
-use Rattle.delaunay_edit.specs.delaunay_legalization.Constraints.{constraints_by}
-use Rattle.delaunay_edit.proofs.delaunay_legalization_lemmas.Constraints.{fixed_within}
-use Rattle.delaunay_edit.specs.delaunay_legalization.Shape.{IsTriangulated}
-use Rattle.delaunay_edit.specs.delaunay_legalization.State.{State}
+use Rattle.plane.specs.{EachPairOnce, IsSamePair, Point}
+use Rattle.delaunay_legalization.specs.{constraints_by, IsTriangulated, marked_edges, marked_from}
+use Rattle.delaunay_legalization.specs.{pair_at}
+use Rattle.{delaunay_legalization.proofs.fixed_within, delaunay_legalization.specs.State.State}
 use Rattle.delaunay_edit.proofs.ConstraintEdges.{count_of_fixed, few_marks, same_edge}
 
 -- ---- each edge is marked once

@@ -5,16 +5,13 @@ use Rattle.std.proofs.Common.{ℕ, suc, Bool, length, refl, sym, ap, subst, inl,
 use Rattle.std.specs.Prelude.{nat_eq, cond}
 use Rattle.std.proofs.lemmas.Bool.{cases_eq}
 use Rattle.std.proofs.lemmas.Bool.Decides.{eqb_tells}
-use Rattle.delaunay_edit.specs.plane.Fraction.{Point, whole}
-use Rattle.delaunay_edit.specs.plane.Pairs.{Joins, IsSamePair, EachPairOnce, place}
-use Rattle.delaunay_edit.specs.plane.Plain.{Plain, Adds, AreNeighboursOn, Carries, IsHalf, IsPlain}
-use Rattle.delaunay_edit.specs.plane.Plain.{Releases, TakesOut, points_of}
-use Rattle.delaunay_edit.proofs.plane.Indexes.{pair_turned, same_joined}
-use Rattle.delaunay_edit.proofs.plane_theorems.Tiling.Edges.{turned_within}
-use Rattle.delaunay_edit.proofs.plane_theorems.Edits.Legalization.Flipping.{joins_or_not}
+use Rattle.plane.specs.{Adds, AreNeighboursOn, Carries, EachPairOnce, IsHalf, IsPlain, IsSamePair}
+use Rattle.plane.specs.{Joins, place, Plain, Point, points_of, Releases, TakesOut, whole}
+use Rattle.plane.proofs.{pair_turned, same_joined}
+use Rattle.plane_theorems.proofs.{joins_or_not, turned_within}
+use Rattle.delaunay_edit.specs.{EndsAt, HasPairs}
+use Rattle.delaunay_edit.proofs.PairCounts.{both, listed_pairs, one_more, renamed, same_number}
 use Rattle.delaunay_edit.proofs.Releasing.{same_pair_or_not}
-use Rattle.delaunay_edit.specs.Counting.{EndsAt, HasPairs}
-use Rattle.delaunay_edit.proofs.PairCounts.{same_number, listed_pairs, one_more, both, renamed}
 
 module _ {V : Type 0} (position : V → Point) (old new : Plain V)
     (was : EachPairOnce old.constraints) (now : EachPairOnce new.constraints) where
@@ -32,7 +29,7 @@ module _ {V : Type 0} (position : V → Point) (old new : Plain V)
         ]),
       ))
 
-  -- each piece of a path that was none is one more
+  -- each subconstraint of a path that was none is one more
   pub added_number : (i j k : ℕ) → Adds position old new i j
       → HasPairs (λ a b. AreNeighboursOn position (points_of position old) i j a b
       × ¬ Joins old.constraints a b) k → length new.constraints ≡ k + length old.constraints
@@ -232,17 +229,17 @@ module _ {V : Type 0} (position : V → Point) (old new : Plain V)
       half x y h = elim
           (only x h.1.0 h.1.1 h.1.2) [ inl s ↦ inl (inl (s.0, h.0)) | inr s ↦ inr (inl (s.0, h.0)) ]
 
-      placed : (x y : ℕ) → IsSamePair x y a n ⊎ IsSamePair x y b n → Halves x y
-      placed x y (inl s) = inl (inr s)
-      placed x y (inr s) = inr s
+      embedding : (x y : ℕ) → IsSamePair x y a n ⊎ IsSamePair x y b n → Halves x y
+      embedding x y (inl s) = inl (inr s)
+      embedding x y (inr s) = inr s
 
       forth : (x y : ℕ) → Joins new.constraints x y ⊎ IsSamePair x y a b → Halves x y
       forth x y (inr s) = inl (inl (same_joined old.constraints x y a b s joined))
       forth x y (inl h) = elim ((splits x y).0 h) [
         | inl o ↦ inl (inl o.0)
         | inr o ↦ elim o [
-          | inl p ↦ placed x y (half x y p)
-          | inr p ↦ placed x y (elim (half y x p) [
+          | inl p ↦ embedding x y (half x y p)
+          | inr p ↦ embedding x y (elim (half y x p) [
             | inl s ↦ inl (pair_turned y x a n s)
             | inr s ↦ inr (pair_turned y x b n s)
           ])

@@ -5,23 +5,17 @@ use Rattle.std.proofs.Common.{◌≡◌, ◌⊎◌, ◌<◌, []}
 use Rattle.std.proofs.Common.{ℕ, Bool, true, false, List, length, map, refl, sym, ap}
 use Rattle.std.proofs.Common.{subst, inl, inr}
 use Rattle.std.specs.Prelude.{Contains, Result, Ok}
-use Rattle.delaunay_edit.specs.half_edge_dcel.Contents.{Contents}
-use Rattle.delaunay_edit.specs.plane.Fraction.{Point}
-use Rattle.delaunay_edit.specs.plane.Pairs.{SamePairs}
-use Rattle.delaunay_edit.specs.plane.Plain.{Adds, AreNeighboursOn, CanAdd}
-use Rattle.delaunay_edit.specs.plane_theorems.Segments.Constraints.{AreNextOn}
-use Rattle.delaunay_edit.specs.delaunay_legalization.declared.cdt_edge.CdtEdge.{CdtEdge}
-use Rattle.delaunay_edit.specs.delaunay_legalization.CdtEdge.{is_constraint, with_mark}
-use Rattle.delaunay_edit.specs.delaunay_legalization.State.{State, state_of}
-use Rattle.delaunay_edit.proofs.delaunay_legalization_lemmas.Questions.{both_ways}
+use Rattle.plane.specs.{Adds, AreNeighboursOn, CanAdd, Point, SamePairs}
+use Rattle.half_edge_dcel.specs.{Contents}
+use Rattle.delaunay_legalization.specs.{is_constraint, State.State, state_of, with_mark}
+use Rattle.delaunay_legalization.specs.declared.cdt_edge.CdtEdge.{CdtEdge}
+use Rattle.{delaunay_legalization.proofs.both_ways, plane_theorems.specs.AreNextOn}
+use Rattle.delaunay_edit.specs.{AddsConstraint, AddsConstraints, AddsPathIfFree, constrained}
+use Rattle.delaunay_edit.specs.{constraint_edges, constraints_of, IsDelaunay, ReleasesConstraint}
+use Rattle.delaunay_edit.specs.{ConstraintEdits.FreesEdge, ConstraintEdits.MarksEdges, ReleasesEdge}
 use Rattle.delaunay_edit.specs.PathEdges.{AreJoinedAlong, HasPath}
-use Rattle.delaunay_edit.specs.Releasing.{AddsConstraints, ReleasesEdge}
-use Rattle.delaunay_edit.specs.Constrained.{constrained, constraint_edges, constraints_of}
-use Rattle.delaunay_edit.specs.ConstraintEdits.{AddsConstraint, AddsPathIfFree, FreesEdge}
-use Rattle.delaunay_edit.specs.ConstraintEdits.{MarksEdges, ReleasesConstraint}
-use Rattle.delaunay_edit.specs.Headline.{IsDelaunay}
 
--- ---- pieces of a path are neighbours on its segment
+-- ---- subconstraints of a path are neighbours on its segment
 module _ {V : Type 0} (place : V → Point) (points : List Point) (i j a b : ℕ) where
   -- neighbours on the segment in the words of plain states are so by the points
   pub next_of : AreNeighboursOn place points i j a b → AreNextOn points i j a b
@@ -52,7 +46,7 @@ module _ {V D U F : Type 0} (place : V → Point) where
     pub unmarked : MarksEdges s s
     unmarked = record { rest = refl; each = λ k d is. inl is }
 
-    -- where each piece of the path is a constraint, nothing changes
+    -- where each subconstraint of the path is a constraint, nothing changes
     pub nothing_added : {E : Type 0} (from to : ℕ) (result : Result Bool E) → result ≡ Ok false
         → from < length s.vertices → to < length s.vertices → CanAdd place (constrained s) from to
         → AreJoinedAlong (map place s.vertices) (constraints_of s) from to
@@ -83,7 +77,7 @@ module _ {V D U F : Type 0} (place : V → Point) where
   -- ---- a path is added
   module _ (old new : State V D (CdtEdge U) F) (from to : ℕ)
       (adds : Adds place (constrained old) (constrained new) from to) where
-    -- where a piece was no constraint, there are other constraints afterwards
+    -- where a subconstraint was no constraint, there are other constraints afterwards
     pub pairs_differ : ¬ AreJoinedAlong (map place old.vertices) (constraints_of old) from to →
         ¬ SamePairs (constraints_of old) (constraints_of new)
     pairs_differ some same = some (λ a b next. (same a b).0
@@ -103,7 +97,7 @@ module _ {V D U F : Type 0} (place : V → Point) where
           err = tt;
         })
 
-    -- each of its pieces is an edge
+    -- each of its subconstraints is an edge
     pub path_is_there : IsDelaunay place constraint_edges new
         → HasPath (map place new.vertices) new.mesh from to
     path_is_there headline a b next = headline.delaunay.kept a b

@@ -2,17 +2,12 @@
 -- Lemmas: none_counted, put_in_free.
 use Rattle.std.proofs.Common.{◌≡◌, ◌∙◌, ℕ, Bool, List, [], map, sym, subst}
 use Rattle.std.proofs.lemmas.List.{length-map, nil_from_length}
-use Rattle.delaunay_edit.specs.plane.Fraction.{Point}
-use Rattle.delaunay_edit.specs.plane.Delaunay.{IsConstrainedDelaunay}
-use Rattle.delaunay_edit.proofs.plane_theorems.Delaunay.Circles.Nearest.{circles_are_empty}
-use Rattle.delaunay_edit.specs.plane_theorems.Edits.EmptyRound.{IsEmptyRound}
-use Rattle.delaunay_edit.specs.delaunay_legalization.Drawn.{faces_of}
-use Rattle.delaunay_edit.specs.delaunay_legalization.Constraints.{marked_edges, constraints_by}
-use Rattle.delaunay_edit.specs.delaunay_legalization.Shape.{IsDelaunayTriangulation}
-use Rattle.delaunay_edit.specs.delaunay_legalization.State.{State, triangulation_of}
-use Rattle.delaunay_vertices.specs.Growth.{GainsVertex}
-use Rattle.delaunay_vertices.proofs.EmptyRound.{grown_is_empty}
-use Rattle.delaunay_edit.specs.Counting.{IsCounted}
+use Rattle.{plane.specs.IsConstrainedDelaunay, plane.specs.Point, plane_theorems.specs.IsEmptyRound}
+use Rattle.plane_theorems.proofs.Delaunay.Circles.Nearest.{circles_are_empty}
+use Rattle.delaunay_legalization.specs.{constraints_by, faces_of, IsDelaunayTriangulation}
+use Rattle.delaunay_legalization.specs.{marked_edges, State.State, triangulation_of}
+use Rattle.{delaunay_vertices.proofs.EmptyRound.grown_is_empty, delaunay_vertices.specs.GainsVertex}
+use Rattle.delaunay_edit.specs.{IsCounted}
 use Rattle.delaunay_edit.proofs.Delaunay.{marked_constrained_delaunay}
 
 -- where their number is none there are no constraints

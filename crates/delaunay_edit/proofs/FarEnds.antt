@@ -7,37 +7,21 @@ use Rattle.std.proofs.Common.{ℕ, Bool, List, length, map, refl, sym, ap, subst
 use Rattle.std.specs.Prelude.{swap_remove}
 use Rattle.std.proofs.lemmas.Bool.Decides.{nat_tests}
 use Rattle.std.proofs.lemmas.List.{length-map}
-use Rattle.delaunay_edit.specs.half_edge_dcel.Contents.{Contents}
-use Rattle.delaunay_edit.specs.half_edge_links.Renames.{moved}
-use Rattle.delaunay_edit.proofs.half_edge_links_lemmas.Removing.OpenSound.{length-swap_remove}
-use Rattle.delaunay_edit.specs.plane.Crossing.{Cross}
-use Rattle.delaunay_edit.specs.plane.Fraction.{Fraction, Point, WithinSegment, whole}
-use Rattle.delaunay_edit.specs.plane.Pairs.{Joins, place as at}
-use Rattle.delaunay_edit.specs.plane.Plain.{AreStraightHalves, IsPlain}
-use Rattle.delaunay_edit.specs.plane.Tiling.{Triangulation}
-use Rattle.delaunay_edit.proofs.plane.Indexes.{turned_join}
-use Rattle.delaunay_edit.specs.plane_theorems.Tiling.Laws.{EdgesMeetAtVertices}
-use Rattle.delaunay_edit.proofs.plane_theorems.Tiling.Locations.{no_edges_cross}
-use Rattle.delaunay_edit.specs.plane_theorems.Segments.PathSteps.{CanBeJoined}
-use Rattle.delaunay_edit.proofs.plane_theorems.Segments.Constraints.HalvesJoin.{straight_halves_join_after_removal}
-use Rattle.delaunay_edit.proofs.plane_theorems.Segments.Constraints.Splits.{straight_halves_join}
-use Rattle.delaunay_edit.specs.delaunay_legalization.Drawn.{edges_of, faces_of, outer_of}
-use Rattle.delaunay_edit.proofs.half_edge_links_lemmas.Removing.ShrinkTriangles.{map-swap_remove}
-use Rattle.delaunay_edit.proofs.delaunay_legalization_lemmas.OwnEdges.{own_edges}
-use Rattle.delaunay_edit.specs.delaunay_legalization.Constraints.{constraints_by, marked_edges}
-use Rattle.delaunay_edit.specs.delaunay_legalization.Constraints.{points_and_constraints_by}
-use Rattle.delaunay_edit.specs.delaunay_legalization.Known.{point_at}
-use Rattle.delaunay_edit.specs.delaunay_legalization.Shape.{IsDelaunayTriangulation}
-use Rattle.delaunay_edit.specs.delaunay_legalization.Shape.{IsTriangulated}
-use Rattle.delaunay_edit.specs.delaunay_legalization.State.{State, state_of}
-use Rattle.delaunay_edit.proofs.delaunay_legalization_lemmas.ConstraintEdges.{constraints_are_edges}
-use Rattle.delaunay_edit.specs.Adding.{HasFreeWay}
-use Rattle.delaunay_edit.proofs.Walking.{in_map, placed_apart}
-use Rattle.delaunay_vertices.specs.Pairs.{former_index}
-use Rattle.delaunay_vertices.specs.Removal.{TakesVertexOut}
-use Rattle.delaunay_vertices.proofs.Passing.{left_point}
-use Rattle.delaunay_edit.proofs.Constrained.{plain_with_edges}
-use Rattle.delaunay_edit.proofs.JoinedHalves.{former_of_new}
+use Rattle.plane.specs.{AreStraightHalves, Cross, Fraction, IsPlain, Joins, place as at, Point}
+use Rattle.plane.specs.{Triangulation, whole, WithinSegment}
+use Rattle.{half_edge_links.specs.moved, plane.proofs.turned_join}
+use Rattle.half_edge_links.proofs.{length-swap_remove, map-swap_remove}
+use Rattle.plane_theorems.specs.{EdgesMeetAtVertices, Segments.PathSteps.CanBeJoined}
+use Rattle.plane_theorems.proofs.{no_edges_cross, Segments.Constraints.Splits.straight_halves_join}
+use Rattle.plane_theorems.proofs.Segments.Constraints.HalvesJoin.{straight_halves_join_after_removal}
+use Rattle.delaunay_legalization.specs.{constraints_by, edges_of, faces_of, IsDelaunayTriangulation}
+use Rattle.delaunay_legalization.specs.{IsTriangulated, marked_edges, outer_of, point_at}
+use Rattle.delaunay_legalization.specs.{points_and_constraints_by, State.State, state_of}
+use Rattle.delaunay_legalization.proofs.{constraints_are_edges, own_edges}
+use Rattle.delaunay_vertices.specs.{former_index, TakesVertexOut}
+use Rattle.{delaunay_vertices.proofs.Passing.left_point, half_edge_dcel.specs.Contents}
+use Rattle.delaunay_edit.proofs.{Constrained.plain_with_edges, Walking.in_map, Walking.placed_apart}
+use Rattle.{delaunay_edit.proofs.JoinedHalves.former_of_new, delaunay_edit.specs.HasFreeWay}
 
 -- where v has gone, the index of another vertex is below the last
 moved_below : (v last k n : ℕ) → v < n → k < n → k ≢ v → n - 1 ≡ last → moved last v k < last
@@ -126,9 +110,9 @@ module _ {V D U F : Type 0} (place : V → Point) (marks : U → Bool) (constrai
         ∙ map-swap_remove place old.vertices v value
 
     -- each other vertex is where it was
-    pub placed : (k : ℕ) → k < length old.vertices → k ≢ v
+    pub embedding : (k : ℕ) → k < length old.vertices → k ≢ v
         → at after (moved last v k) ≡ at before k
-    placed k hk other =
+    embedding k hk other =
         let size = length-map old.vertices place in
         let within = here in
         let below = moved_below v last k (length old.vertices) here hk other refl in
@@ -187,8 +171,8 @@ module _ {V D U F : Type 0} (place : V → Point) (marks : U → Bool) (constrai
           joined_before.2 c d edge nc nd
           (subst (λ (q : Fraction × Fraction × Fraction × Fraction). Cross q.0 q.1 q.2 q.3)
           (λ o. (
-            placed a first_in.0 first_in.1 o,
-            placed b second_in.0 second_in.1 o,
-            placed c ends.0 nc o,
-            placed d ends.1 nd o,
+            embedding a first_in.0 first_in.1 o,
+            embedding b second_in.0 second_in.1 o,
+            embedding c ends.0 nc o,
+            embedding d ends.1 nd o,
           )) x)

@@ -1,17 +1,11 @@
 -- Without constraints no side of a vertex's hole is left to test.
 -- Lemmas: free_circles, sides_settle.
 use Rattle.std.proofs.Common.{◌≡◌, ◌⊎◌, ◌<◌, ℕ, Bool, List, [], length, map, inl, inr, subst}
-use Rattle.delaunay_edit.specs.plane.Circle.{InsideCircle}
-use Rattle.delaunay_edit.specs.plane.Fraction.{Point}
-use Rattle.delaunay_edit.specs.plane.Pairs.{place as at}
-use Rattle.delaunay_edit.specs.plane_theorems.Edits.Change.{IsFaceOf}
-use Rattle.delaunay_edit.specs.plane.Delaunay.{IsConstrainedDelaunay}
-use Rattle.delaunay_edit.proofs.plane_theorems.Delaunay.Circles.Nearest.{circles_are_empty}
-use Rattle.delaunay_edit.specs.delaunay_legalization.Drawn.{faces_of}
-use Rattle.delaunay_edit.specs.delaunay_legalization.Constraints.{marked_edges, constraints_by}
-use Rattle.delaunay_edit.specs.delaunay_legalization.Shape.{IsDelaunayTriangulation}
-use Rattle.delaunay_edit.specs.delaunay_legalization.State.{State, triangulation_of}
-use Rattle.delaunay_vertices.specs.Pairs.{HasBorder}
+use Rattle.plane.specs.{InsideCircle, IsConstrainedDelaunay, place as at, Point}
+use Rattle.plane_theorems.proofs.Delaunay.Circles.Nearest.{circles_are_empty}
+use Rattle.delaunay_legalization.specs.{constraints_by, faces_of, IsDelaunayTriangulation}
+use Rattle.delaunay_legalization.specs.{marked_edges, State.State, triangulation_of}
+use Rattle.{delaunay_vertices.specs.HasBorder, plane_theorems.specs.IsFaceOf}
 use Rattle.delaunay_vertices.proofs.Passing.{AreSettled, border_settles}
 use Rattle.delaunay_edit.proofs.Delaunay.{marked_constrained_delaunay}
 

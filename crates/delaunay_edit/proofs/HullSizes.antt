@@ -6,25 +6,17 @@ use mathlib.Core.Logic.{◌≢◌}
 use Rattle.std.specs.Prelude.{ℤ, pos, ◌+ℤ◌, Contains, AllPairs}
 use Rattle.std.proofs.lemmas.Int.{ints}
 use Rattle.std.proofs.lemmas.List.{length-map}
-use Rattle.delaunay_edit.specs.half_edge_links.Mesh.{Mesh, IsValidMesh}
-use Rattle.delaunay_edit.specs.plane.Fraction.{Point}
-use Rattle.delaunay_edit.specs.plane.Tiling.{Face, IsEdge, HasFace}
-use Rattle.delaunay_edit.specs.plane.Location.{IsOuter}
-use Rattle.delaunay_edit.specs.plane_theorems.Tiling.Local.{total, IsMesh, AreEdgesOf}
-use Rattle.delaunay_edit.proofs.plane_theorems.Tiling.Totals.{total-sum}
-use Rattle.delaunay_edit.proofs.plane_theorems.Tiling.Rising.{total_ones}
-use Rattle.delaunay_edit.proofs.plane_theorems.Tiling.Counts.{hull_edges_count, line_edges_count}
-use Rattle.delaunay_edit.proofs.plane_theorems.Tiling.Loops as L
-use Rattle.delaunay_edit.specs.delaunay_legalization.Drawn.{faces_of, edges_of, outer_of}
-use Rattle.delaunay_edit.proofs.delaunay_legalization_lemmas.OwnEdges.{own_edges}
-use Rattle.delaunay_edit.proofs.delaunay_legalization_lemmas.OuterEdges.{real}
-use Rattle.delaunay_edit.specs.delaunay_legalization.State.{State, triangulation_of}
-use Rattle.delaunay_edit.specs.delaunay_legalization.Shape.{IsTriangulated}
+use Rattle.plane.specs.{Face, HasFace, IsEdge, IsOuter, Point}
+use Rattle.half_edge_links.specs.{IsValidMesh, Mesh}
+use Rattle.plane_theorems.specs.{AreEdgesOf, IsMesh, total}
+use Rattle.plane_theorems.proofs.{hull_edges_count, line_edges_count, Tiling.Rising.total_ones}
+use Rattle.delaunay_legalization.specs.{edges_of, faces_of, IsTriangulated, outer_of}
+use Rattle.{delaunay_legalization.specs.triangulation_of, half_edge_dcel.proofs.Outlines.empty_list}
+use Rattle.{delaunay_legalization.specs.State.State, plane_theorems.proofs.Tiling.Totals.total-sum}
+use Rattle.delaunay_legalization.proofs.{edge_joins, outer_bare, own_edges, real}
 use Rattle.delaunay_edit.specs.Hull.{CountsHullEdges, HasHullSize}
 use Rattle.delaunay_edit.proofs.Counts.{count_of_edges, count_of_faces}
-use Rattle.delaunay_edit.proofs.Edges.{edge_joins}
-use Rattle.delaunay_edit.proofs.delaunay_legalization_lemmas.MeshParts.{outer_bare}
-use Rattle.delaunay_edit.proofs.half_edge_dcel_lemmas.Outlines.{empty_list}
+use Rattle.plane_theorems.proofs.Tiling.Loops as L
 
 each_once : (points : List Point) (faces : List Face) (outer : List (ℕ × ℕ))
     → IsMesh points faces outer → AllPairs (λ d e. d ≢ e) outer

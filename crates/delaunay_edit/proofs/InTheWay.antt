@@ -4,29 +4,18 @@ use Rattle.std.proofs.Common.{◌≡◌, ◌⊎◌, ◌↔◌, ◌<◌}
 use Rattle.std.proofs.Common.{ℕ, Bool, true, false, IsTrue, List, length, map, Option, Some, None}
 use Rattle.std.proofs.Common.{is_some, refl, subst, inl, inr}
 use Rattle.std.specs.Prelude.{ℤ, not}
-use Rattle.delaunay_location.specs.half_edge_dcel.declared.edge.DirectedEdgeHandle.{DirectedEdgeHandle}
-use Rattle.delaunay_location.specs.half_edge_dcel.Contents.{Contents}
-use Rattle.delaunay_location.specs.plane.Crossing.{Cross, MeetsWithin}
-use Rattle.delaunay_location.specs.plane.Fraction.{Point, Fraction, whole, IsSame, WithinSegment}
-use Rattle.delaunay_location.specs.plane.Pairs.{place, Joins}
-use Rattle.delaunay_location.proofs.plane.Decisions.{decide_point}
-use Rattle.delaunay_location.proofs.plane.Meetings.{cross_at_point}
-use Rattle.delaunay_location.proofs.plane.Segments.{same-refl, within_segment-same}
-use Rattle.delaunay_location.proofs.plane_theorems.Tiling.Locations.{no_edges_cross}
-use Rattle.delaunay_location.proofs.plane_theorems.Segments.Constraints.Pieces.{on_parts}
-use Rattle.delaunay_location.specs.delaunay_legalization.Drawn.{edges_of, faces_of, outer_of}
-use Rattle.delaunay_location.proofs.delaunay_legalization_lemmas.OwnEdges.{own_edges}
-use Rattle.delaunay_location.specs.delaunay_legalization.Constraints.{marked_edges, constraints_by}
-use Rattle.delaunay_location.specs.delaunay_legalization.Known.{point_at}
-use Rattle.delaunay_location.specs.delaunay_legalization.Shape.{IsTriangulated}
-use Rattle.delaunay_location.specs.delaunay_legalization.State.{state_of, triangulation_of}
-use Rattle.delaunay_location.proofs.delaunay_legalization_lemmas.ConstraintEdges.{constraints_are_edges}
-use Rattle.delaunay_location.specs.declared.iterator.LineIntersectionIterator.{LineIntersectionIterator}
-use Rattle.delaunay_location.specs.Conflicts.{GivesConflict, IntersectsConstraint}
-use Rattle.delaunay_location.specs.Walk.{IsReady, WalksLine}
-use Rattle.delaunay_location.proofs.Intersecting.{crosses_one, crosses_none}
-use Rattle.delaunay_edit.specs.Adding.{CanAddPath}
-use Rattle.delaunay_edit.proofs.Walking.{in_map}
+use Rattle.plane.specs.{Cross, Fraction, IsSame, Joins, MeetsWithin, place, Point, whole}
+use Rattle.plane.proofs.{decide_point, Meetings.cross_at_point, same-refl, within_segment-same}
+use Rattle.plane_theorems.proofs.{no_edges_cross, on_parts}
+use Rattle.half_edge_dcel.specs.{Contents, DirectedEdgeHandle}
+use Rattle.delaunay_legalization.specs.{constraints_by, edges_of, faces_of, IsTriangulated}
+use Rattle.delaunay_legalization.specs.{marked_edges, outer_of, point_at, state_of}
+use Rattle.delaunay_legalization.proofs.{constraints_are_edges, own_edges}
+use Rattle.delaunay_location.specs.{GivesConflict, IntersectsConstraint, IsReady}
+use Rattle.delaunay_location.specs.{LineIntersectionIterator, WalksLine}
+use Rattle.delaunay_location.proofs.Intersecting.{crosses_none, crosses_one}
+use Rattle.{delaunay_edit.specs.Adding.CanAddPath, delaunay_legalization.specs.triangulation_of}
+use Rattle.{delaunay_edit.proofs.Walking.in_map, plane.specs.WithinSegment}
 
 -- a yes where nothing was found, and a no where something was
 yes_if_none : (b : Bool) → false ≡ not b → b ≡ true

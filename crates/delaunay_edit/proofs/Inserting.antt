@@ -6,32 +6,18 @@ use Rattle.std.proofs.Common.{slice_set, Result, Ok, Err}
 use Rattle.std.specs.Prelude.{◌↔◌, IsErrOf, IsOk}
 use Rattle.std.proofs.lemmas.Bool.{false≢true}
 use Rattle.std.proofs.lemmas.List.{length-map}
-use Rattle.delaunay_edit.specs.half_edge_links.declared.room.TheConstants.{MAX_ELEMENTS}
-use Rattle.delaunay_edit.specs.half_edge_dcel.Contents.{Contents, edges}
-use Rattle.delaunay_edit.specs.plane.Fraction.{Point}
-use Rattle.delaunay_edit.specs.plane.Pairs.{Joins}
-use Rattle.delaunay_edit.specs.plane.Plain.{Replaces}
-use Rattle.delaunay_edit.specs.plane.Tests.{InRange}
-use Rattle.delaunay_edit.specs.delaunay_core.declared.math.InsertionError.{InsertionError}
-use Rattle.delaunay_edit.specs.delaunay_core.declared.math.InsertionError.TheVariants.{TooLarge}
-use Rattle.delaunay_edit.specs.delaunay_core.declared.math.InsertionError.TheVariants.{OutOfIndexes}
-use Rattle.delaunay_edit.specs.delaunay_legalization.Constraints.{marked_edges}
-use Rattle.delaunay_edit.specs.delaunay_legalization.Constraints.{points_and_constraints_by}
-use Rattle.delaunay_edit.specs.delaunay_legalization.Known.{IsKnown, point_at}
-use Rattle.delaunay_edit.specs.delaunay_legalization.Legalized.{Legalizes}
-use Rattle.delaunay_edit.specs.delaunay_legalization.Shape.{IsTriangulated}
-use Rattle.delaunay_edit.specs.delaunay_legalization.State.{State, state_of}
-use Rattle.delaunay_edit.specs.delaunay_location.declared.position_in_triangulation.PositionInTriangulation.{PositionInTriangulation}
-use Rattle.delaunay_edit.specs.Counting.{IsOnConstraint, IsSplitCount}
-use Rattle.delaunay_edit.specs.Edits.{AppendsVertex, InsertsVertex}
-use Rattle.delaunay_edit.specs.Location.{IsApart, Locates}
-use Rattle.delaunay_edit.proofs.CountingSplits.{counted_split}
-use Rattle.delaunay_vertices.specs.Constraints.{SplitsConstraints}
-use Rattle.delaunay_vertices.specs.Edges.{AddsOnly}
-use Rattle.delaunay_vertices.specs.Growth.{GainsVertex}
-use Rattle.delaunay_vertices.proofs.Appending.{inserted}
+use Rattle.plane.specs.{InRange, Joins, Point, Replaces}
+use Rattle.half_edge_dcel.specs.{Contents, edges}
+use Rattle.delaunay_core.specs.{InsertionError, OutOfIndexes, TooLarge}
+use Rattle.delaunay_legalization.specs.{IsApart, IsKnown, IsTriangulated, Legalizes, marked_edges}
+use Rattle.delaunay_legalization.specs.{point_at, points_and_constraints_by, State.State, state_of}
+use Rattle.delaunay_location.specs.{Locates, PositionInTriangulation}
+use Rattle.delaunay_vertices.specs.{AddsOnly, GainsVertex, SplitsConstraints}
+use Rattle.delaunay_vertices.proofs.{Appending.inserted, SplitConstraints.adding_splits_none}
 use Rattle.delaunay_vertices.proofs.DataKept.{appended_keeps, overwritten_keeps}
-use Rattle.delaunay_vertices.proofs.SplitConstraints.{adding_splits_none}
+use Rattle.delaunay_edit.specs.{InsertsVertex}
+use Rattle.delaunay_edit.specs.{Counting.IsOnConstraint, Counting.IsSplitCount, Edits.AppendsVertex}
+use Rattle.{delaunay_edit.proofs.CountingSplits.counted_split, half_edge_links.specs.MAX_ELEMENTS}
 
 ok_is_no_error : {T E : Type 0} (i : T) (e : E) → ¬ (Ok i ≡ Err e)
 ok_is_no_error i e h = cc

@@ -8,17 +8,13 @@ use Rattle.std.proofs.Common.{inl, inr, arith}
 use Rattle.std.specs.Bool.{then_some}
 use Rattle.std.specs.Prelude.{IsTrue}
 use Rattle.std.proofs.lemmas.Bool.Decides.{nat_tests}
-use Rattle.delaunay_edit.specs.plane.Fraction.{Point, WithinSegment}
-use Rattle.delaunay_edit.specs.plane.Pairs.{IsSamePair, Joins, place}
-use Rattle.delaunay_edit.specs.plane.Plain.{AreStraightHalves, IsPlain, Plain, Removes, TakesOut}
-use Rattle.delaunay_edit.specs.plane.Plain.{points_of}
-use Rattle.delaunay_edit.proofs.plane.Indexes.{at_most_last, one_more_than_last}
-use Rattle.delaunay_edit.specs.plane_theorems.Edits.Removal.{new_index}
-use Rattle.delaunay_edit.proofs.plane_theorems.Edits.Removal.Renumbering.{new_below}
-use Rattle.delaunay_edit.proofs.plane_theorems.Tiling.Edges.{turned_within}
-use Rattle.delaunay_vertices.specs.Pairs.{former_index}
-use Rattle.delaunay_edit.proofs.delaunay_legalization_lemmas.Questions.{both_ways}
-use Rattle.delaunay_edit.specs.Halves.{AreHalvesAt, AreOnlyEnds}
+use Rattle.plane.specs.{AreStraightHalves, IsPlain, IsSamePair, Joins, place, Plain, Point}
+use Rattle.plane.specs.{points_of, Removes, TakesOut, WithinSegment}
+use Rattle.plane.proofs.{at_most_last, one_more_than_last}
+use Rattle.plane_theorems.specs.{new_index}
+use Rattle.plane_theorems.proofs.{Edits.Removal.Renumbering.new_below, turned_within}
+use Rattle.{delaunay_edit.specs.AreHalvesAt, delaunay_vertices.specs.former_index}
+use Rattle.{delaunay_edit.specs.Halves.AreOnlyEnds, delaunay_legalization.proofs.both_ways}
 
 -- the former index of a vertex other than v, by the one that it has when v has gone, and back
 pub former_of_new : (v last k : ℕ) → k ≢ v → former_index v last (new_index v last k) ≡ k

@@ -5,25 +5,17 @@ use Rattle.std.proofs.Common.{ℕ, List, length, refl, sym, ap, subst, inl, inr,
 use Rattle.std.specs.Borrow.{Bor}
 use Rattle.std.specs.Prelude.{Bool, false, Contains, IsTrue}
 use Rattle.std.proofs.lemmas.Option.{slice_get_within}
-use Rattle.delaunay_location.specs.half_edge_links.Mesh.{origin, rev}
-use Rattle.delaunay_location.proofs.half_edge_links_lemmas.Lists.Rev.{rev-rev, rev_within}
-use Rattle.delaunay_location.specs.half_edge_dcel.Contents.{Contents, IsMeshWithData}
-use Rattle.delaunay_location.specs.plane.Fraction.{Point}
-use Rattle.delaunay_location.specs.plane.Pairs.{Joins, IsSamePair}
-use Rattle.delaunay_location.specs.delaunay_legalization.Drawn.{edges_of}
-use Rattle.delaunay_location.proofs.delaunay_legalization_lemmas.EdgePairs as E
-use Rattle.delaunay_location.proofs.delaunay_legalization_lemmas.MeshLegal.{joins_edge, same_joined}
-use Rattle.delaunay_location.specs.delaunay_legalization.Constraints.{marked_edges}
-use Rattle.delaunay_location.specs.delaunay_legalization.Constraints.{constraint_pairs}
-use Rattle.delaunay_location.specs.delaunay_legalization.Shape.{IsTriangulated}
-use Rattle.delaunay_location.specs.delaunay_legalization.State.{state_of}
-use Rattle.delaunay_location.proofs.delaunay_legalization_lemmas.Constraints.{is_constraint_edge}
-use Rattle.delaunay_location.proofs.delaunay_legalization_lemmas.MarkedPairs.{JoinsByMark}
-use Rattle.delaunay_location.proofs.delaunay_legalization_lemmas.MarkedPairs.{mark_joins}
-use Rattle.delaunay_location.proofs.delaunay_legalization_lemmas.MarkedPairs.{same_as_third}
-use Rattle.delaunay_location.proofs.delaunay_legalization_lemmas.Questions.{both_ways}
-use Rattle.delaunay_edit.proofs.AddingPieces.{half_ends}
-use Rattle.delaunay_edit.proofs.Releasing.{one_edge, double}
+use Rattle.{plane.proofs.same_joined, plane.specs.IsSamePair, plane.specs.Joins, plane.specs.Point}
+use Rattle.half_edge_links.specs.{origin, rev}
+use Rattle.half_edge_links.proofs.{rev-rev, rev_within}
+use Rattle.half_edge_dcel.specs.{Contents, IsMeshWithData}
+use Rattle.delaunay_legalization.specs.{constraint_pairs, edges_of, IsTriangulated, marked_edges}
+use Rattle.delaunay_legalization.specs.{state_of}
+use Rattle.delaunay_legalization.proofs.{both_ways, JoinsByMark, mark_joins, MeshLegal.joins_edge}
+use Rattle.delaunay_legalization.proofs.{Constraints.is_constraint_edge, MarkedPairs.same_as_third}
+use Rattle.delaunay_edit.proofs.AddingSubconstraints.{half_ends}
+use Rattle.delaunay_edit.proofs.Releasing.{double, one_edge}
+use Rattle.delaunay_legalization.proofs.EdgePairs as E
 
 -- what the view of an edge says of its ends is so of its name
 pub index_found : {V D U F : Type 0} {b d : Bor (Contents V D U F)} {i j k h : ℕ}

@@ -1,15 +1,9 @@
 -- What a path leaves to the circle test where a list of edges was left before.
 -- Lemmas: path_leaves, path_renamed.
 use Rattle.std.proofs.Common.{◌≡◌, ℕ, Bool, List, map, sym, ap, subst, subst₂, inl}
-use Rattle.delaunay_edit.specs.half_edge_dcel.Contents.{Contents}
-use Rattle.delaunay_edit.specs.plane.Fraction.{Point}
-use Rattle.delaunay_edit.specs.plane_theorems.Edits.Legal.{AllPassBut}
-use Rattle.delaunay_edit.specs.delaunay_legalization.Drawn.{faces_of}
-use Rattle.delaunay_edit.specs.delaunay_legalization.Legal.{pairs_at}
-use Rattle.delaunay_edit.specs.delaunay_legalization.Constraints.{constraint_pairs}
-use Rattle.delaunay_edit.specs.delaunay_legalization.Sides.{AreLeftToTest}
-use Rattle.delaunay_edit.specs.Adding.{AddsPath}
-use Rattle.delaunay_edit.specs.Leaving.{LeavesToTest}
+use Rattle.{half_edge_dcel.specs.Contents, plane_theorems.specs.AllPassBut}
+use Rattle.delaunay_legalization.specs.{AreLeftToTest, constraint_pairs, faces_of, pairs_at}
+use Rattle.{delaunay_edit.specs.AddsPath, delaunay_edit.specs.LeavesToTest, plane.specs.Point}
 
 -- with more constraints no more edges are to be tested
 pub path_leaves : {V D U F : Type 0} {place : V → Point} {marks : U → Bool} {mark : U → U}

@@ -6,34 +6,18 @@ use Rattle.std.proofs.Common.{ℕ, Bool, List, length, map, get_or, Some, None}
 use Rattle.std.proofs.Common.{sym, ap, subst, inl, inr, arith}
 use Rattle.std.specs.Prelude.{true, false, slice_get}
 use Rattle.std.proofs.lemmas.Option.{slice_get_cases}
-use Rattle.delaunay_edit.specs.half_edge_dcel.Contents.{Contents}
-use Rattle.delaunay_edit.specs.half_edge_links.Mesh.{origin, rev}
-use Rattle.delaunay_edit.specs.half_edge_links.Renames.{moved}
-use Rattle.delaunay_edit.specs.half_edge_links.Triangles.{Triangle, triangles}
-use Rattle.delaunay_edit.specs.plane.Crossing.{Cross}
-use Rattle.delaunay_edit.specs.plane.Fraction.{Point}
-use Rattle.delaunay_edit.specs.plane.Pairs.{IsSamePair, Joins, place as at}
-use Rattle.delaunay_edit.specs.plane.Plain.{AreStraightHalves}
-use Rattle.delaunay_edit.proofs.plane.Indexes.{turned_join}
-use Rattle.delaunay_edit.specs.plane_theorems.Edits.Change.{IsFaceOf}
-use Rattle.delaunay_edit.proofs.plane_theorems.Edits.Removal.Renumbering.{new_apart}
-use Rattle.delaunay_edit.specs.delaunay_legalization.Drawn.{edges_of, faces_of}
-use Rattle.delaunay_edit.proofs.delaunay_legalization_lemmas.EdgePairs.{edge_joins as joins_ends}
-use Rattle.delaunay_edit.proofs.delaunay_legalization_lemmas.FaceChanges.{turned_faces}
-use Rattle.delaunay_edit.proofs.delaunay_legalization_lemmas.MeshStays.{face_there}
-use Rattle.delaunay_edit.proofs.delaunay_legalization_lemmas.MeshStars.{edge_of_face}
-use Rattle.delaunay_edit.specs.delaunay_legalization.Constraints.{marked_edges, not_both}
-use Rattle.delaunay_edit.specs.delaunay_legalization.Constraints.{points_and_constraints_by}
-use Rattle.delaunay_edit.specs.delaunay_legalization.Shape.{IsDelaunayTriangulation}
-use Rattle.delaunay_edit.specs.delaunay_legalization.State.{State, state_of}
-use Rattle.delaunay_edit.proofs.delaunay_legalization_lemmas.Constraints.{fixed_edge_is}
-use Rattle.delaunay_edit.proofs.delaunay_legalization_lemmas.Constraints.{is_constraint_edge}
-use Rattle.delaunay_edit.specs.Adding.{AddsPath}
-use Rattle.delaunay_edit.proofs.JoinedPairs.{edge_joins}
-use Rattle.delaunay_vertices.specs.RemovalData.{HasDataOfEdge, HasDataOfFace, KeepsDataBeside}
-use Rattle.delaunay_vertices.specs.RemovalData.{renumbered_corners}
-use Rattle.delaunay_vertices.specs.Removal.{TakesVertexOut}
+use Rattle.plane.specs.{AreStraightHalves, Cross, IsSamePair, Joins, place as at, Point}
+use Rattle.half_edge_links.specs.{moved, origin, rev, Triangle, triangles}
+use Rattle.delaunay_legalization.specs.{edges_of, faces_of, IsDelaunayTriangulation, marked_edges}
+use Rattle.delaunay_legalization.specs.{not_both, points_and_constraints_by, State.State, state_of}
+use Rattle.delaunay_legalization.proofs.{edge_joins as joins_ends, edge_of_face, face_there}
+use Rattle.delaunay_legalization.proofs.{fixed_edge_is, turned_faces}
+use Rattle.{delaunay_legalization.proofs.Constraints.is_constraint_edge, plane.proofs.turned_join}
+use Rattle.delaunay_vertices.specs.{HasDataOfEdge, HasDataOfFace, KeepsDataBeside, TakesVertexOut}
+use Rattle.{delaunay_vertices.specs.RemovalData.renumbered_corners, half_edge_dcel.specs.Contents}
+use Rattle.{delaunay_edit.specs.AddsPath, plane_theorems.proofs.Edits.Removal.Renumbering.new_apart}
 use Rattle.delaunay_edit.proofs.FarEnds.{can_join, none_crosses, not_joined, plain_before}
+use Rattle.{delaunay_edit.proofs.JoinedPairs.edge_joins, plane_theorems.specs.IsFaceOf}
 
 module _ {V D U F : Type 0} (place : V → Point) (marks : U → Bool) (mark : U → U)
     (constraints : List U → List ℕ)
@@ -135,7 +119,7 @@ module _ {V D U F : Type 0} (place : V → Point) (marks : U → Bool) (mark : U
                   in_mid was.starts was.ends).1 j))
               | inr n ↦ not_new (origin old.mesh g) (origin old.mesh (rev g)) edge starts ends
                   (((can_join place marks constraints marked old legal mid v value turned takes a b
-                  halves).one_piece (moved last v (origin old.mesh g))
+                  halves).one_subconstraint (moved last v (origin old.mesh g))
                   (moved last v (origin old.mesh (rev g)))).0 n)
             ]
           where

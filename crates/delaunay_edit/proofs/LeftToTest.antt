@@ -3,42 +3,22 @@
 use Rattle.std.proofs.Common.{◌≡◌, ◌≢◌, ◌⊎◌, ◌/◌, [], ◌∷◌, ◌∙◌}
 use Rattle.std.proofs.Common.{ℕ, List, length, refl, sym, subst, inl, inr}
 use Rattle.std.specs.Prelude.{Contains}
-use Rattle.delaunay_location.specs.half_edge_links.Mesh.{Mesh, IsValidMesh, origin, next, prev, rev}
-use Rattle.delaunay_location.specs.half_edge_links.Flip.{IsFlippable, Flips}
-use Rattle.delaunay_location.proofs.half_edge_links_lemmas.Faces.FlipSound.{origin_kept}
-use Rattle.delaunay_location.proofs.half_edge_links_lemmas.Sound.Triangles as T
-use Rattle.delaunay_location.specs.half_edge_links.Places.{AreSixPlaces}
-use Rattle.delaunay_location.specs.plane.Crossing.{Cross}
-use Rattle.delaunay_location.specs.plane.Fraction.{Point, IsSame, OnSegment}
-use Rattle.delaunay_location.specs.plane.Pairs.{place, Joins, IsSamePair}
-use Rattle.delaunay_location.specs.plane.Tiling.{Face, face as corners, IsEdge}
-use Rattle.delaunay_location.proofs.plane.Segments.{end_on_segment, same-sym, start_on_segment}
-use Rattle.delaunay_location.proofs.plane.Segments.{within_segment-same}
-use Rattle.delaunay_location.proofs.plane.Indexes.{turned_join}
-use Rattle.delaunay_location.specs.plane_theorems.Tiling.Local.{IsMesh}
-use Rattle.delaunay_location.proofs.plane_theorems.Tiling.Locations.{no_edges_cross}
-use Rattle.delaunay_location.specs.plane_theorems.Edits.Change.{FacesChange, IsFaceOf}
-use Rattle.delaunay_location.specs.plane_theorems.Edits.Legal.{AllPassBut, Pass}
-use Rattle.delaunay_location.proofs.plane_theorems.Edits.LocalMesh.Changes.{each, each_none}
-use Rattle.delaunay_location.proofs.plane_theorems.Edits.LocalMesh.Changes.{face_from}
-use Rattle.delaunay_location.proofs.plane_theorems.Edits.LocalMesh.Changes.{turn_of_all}
-use Rattle.delaunay_location.specs.delaunay_legalization.Drawn.{drawn, edges_of, faces_of, outer_of}
-use Rattle.delaunay_location.specs.delaunay_legalization.Legal.{GainsRound, pairs_at}
-use Rattle.delaunay_location.proofs.delaunay_legalization_lemmas.EdgePairs.{edge_joins}
-use Rattle.delaunay_location.proofs.delaunay_legalization_lemmas.FaceChanges.{turned_faces}
-use Rattle.delaunay_location.proofs.delaunay_legalization_lemmas.MeshEdits.{start_of_twin}
-use Rattle.delaunay_location.proofs.delaunay_legalization_lemmas.MeshEdits.{end_of_twin}
-use Rattle.delaunay_location.proofs.delaunay_legalization_lemmas.MeshLegal.{joins_directed}
-use Rattle.delaunay_location.proofs.delaunay_legalization_lemmas.MeshLegal.{listed_edge}
-use Rattle.delaunay_location.proofs.delaunay_legalization_lemmas.MeshStars.{edge_of_face}
-use Rattle.delaunay_location.proofs.delaunay_legalization_lemmas.OwnEdges.{own_edges}
-use Rattle.delaunay_location.proofs.delaunay_legalization_lemmas.TurnedEnds.{KeepsOtherOrigins}
-use Rattle.delaunay_location.proofs.delaunay_legalization_lemmas.TurnedEnds.{other_ends_stay}
-use Rattle.delaunay_location.proofs.delaunay_legalization_lemmas.TurnedEnds.{ends_at_next}
-use Rattle.delaunay_location.specs.delaunay_legalization.Known.{point_at}
-use Rattle.delaunay_edit.specs.Kept.{KeepsUncrossed}
-use Rattle.delaunay_edit.specs.Leaving.{AllPassAway, IsCrossedFace}
-use Rattle.delaunay_edit.proofs.Walking.{not_start}
+use Rattle.plane.specs.{Cross, Face, face as corners, IsEdge, IsSame, IsSamePair, Joins, OnSegment}
+use Rattle.plane.proofs.{end_on_segment, same-sym, start_on_segment, turned_join}
+use Rattle.half_edge_links.specs.{AreSixPlaces, Flips, IsFlippable, IsValidMesh, Mesh, next, origin}
+use Rattle.{half_edge_links.specs.prev, half_edge_links.specs.rev, plane.proofs.within_segment-same}
+use Rattle.{half_edge_links.proofs.origin_kept, plane.specs.place, plane.specs.Point}
+use Rattle.plane_theorems.specs.{AllPassBut, FacesChange, IsFaceOf, IsMesh, Pass}
+use Rattle.plane_theorems.proofs.{face_from, no_edges_cross, turn_of_all}
+use Rattle.plane_theorems.proofs.Edits.LocalMesh.Changes.{each, each_none}
+use Rattle.delaunay_legalization.specs.{drawn, edges_of, faces_of, GainsRound, outer_of, pairs_at}
+use Rattle.delaunay_legalization.proofs.{edge_joins, edge_of_face, joins_directed, listed_edge}
+use Rattle.delaunay_legalization.proofs.{own_edges, turned_faces, TurnedEnds.other_ends_stay}
+use Rattle.delaunay_legalization.proofs.MeshEdits.{end_of_twin, start_of_twin}
+use Rattle.delaunay_legalization.proofs.TurnedEnds.{ends_at_next, KeepsOtherOrigins}
+use Rattle.delaunay_edit.specs.{KeepsUncrossed, Leaving.AllPassAway, Leaving.IsCrossedFace}
+use Rattle.{delaunay_edit.proofs.Walking.not_start, delaunay_legalization.specs.point_at}
+use Rattle.half_edge_links.proofs.Sound.Triangles as T
 
 -- ---- one flip
 module _ (m : Mesh) (s : IsValidMesh m) (e : ℕ) (can : IsFlippable m e) (after : Mesh)

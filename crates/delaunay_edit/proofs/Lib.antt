@@ -1,9 +1,9 @@
-pub use Rattle.delaunay_location.proofs.plane as plane
-pub use Rattle.delaunay_location.proofs.plane_theorems as plane_theorems
-pub use Rattle.delaunay_location.proofs.half_edge_links_lemmas as half_edge_links_lemmas
-pub use Rattle.delaunay_location.proofs.half_edge_dcel_lemmas as half_edge_dcel_lemmas
-pub use Rattle.delaunay_location.proofs.delaunay_core_lemmas as delaunay_core_lemmas
-pub use Rattle.delaunay_location.proofs.delaunay_legalization_lemmas as delaunay_legalization_lemmas
+pub use Rattle.plane.proofs as plane
+pub use Rattle.plane_theorems.proofs as plane_theorems
+pub use Rattle.half_edge_links.proofs as half_edge_links_lemmas
+pub use Rattle.half_edge_dcel.proofs as half_edge_dcel_lemmas
+pub use Rattle.delaunay_core.proofs as delaunay_core_lemmas
+pub use Rattle.delaunay_legalization.proofs as delaunay_legalization_lemmas
 pub use Rattle.delaunay_location.proofs as delaunay_location_lemmas
 pub use Rattle.delaunay_vertices.proofs as delaunay_vertices_lemmas
 -- What answers to tests say of points.
@@ -21,11 +21,11 @@ pub mod Towards
 pub mod OneTurn
 pub mod Making
 pub mod LeftToTest
--- The pieces of a path, one after another.
+-- The subconstraints of a path, one after another.
 pub mod Passing
 pub mod NextVertex
-pub mod AddingPieces
-pub mod OnePiece
+pub mod AddingSubconstraints
+pub mod OneSubconstraint
 pub mod InTheWay
 pub mod PassedVertices
 pub mod ListingPath
@@ -54,7 +54,7 @@ pub mod Constrained
 pub mod ConstraintEdges
 pub mod EditingConstraints
 pub mod JoinedPath
-pub mod OnePieceAdded
+pub mod OneSubconstraintAdded
 -- How many constraints there are.
 pub mod PairCounts
 pub mod EditCounts

@@ -1,7 +1,7 @@
--- The edges that cross a piece of a path are listed by the walk along it, each once.
--- Notions: IsMet, AreListed, IsTwin, IsListingPiece; not_before_itself, none_listed, other_item,
--- few_listed, not_listed, edge_more, room_for_more, piece_listed, twin_of, piece_walk_begins,
--- piece_walk_has_room, piece_walk_crosses, piece_walk_stays, piece_walk_along, piece_walk_ends.
+-- The edges that cross a subconstraint of a path are listed by the walk along it, each once.
+-- Notions: IsMet, AreListed, IsTwin, IsListingSubconstraint; not_before_itself, none_listed, other_item,
+-- few_listed, not_listed, edge_more, room_for_more, subconstraint_listed, twin_of, subconstraint_walk_begins,
+-- subconstraint_walk_has_room, subconstraint_walk_crosses, subconstraint_walk_stays, subconstraint_walk_along, subconstraint_walk_ends.
 use Rattle.std.proofs.Common.{◌≡◌, ◌≢◌, ◌*◌, ◌/◌, ◌<◌, ◌≤◌, [], ◌∷◌, ◌++◌, ◌∙◌}
 use Rattle.std.proofs.Common.{◌⊎◌, ℕ, List, length, map, Some, sym, ap, subst}
 use Rattle.std.proofs.Common.{refl, arith, vec_capacity}
@@ -11,51 +11,29 @@ use Rattle.std.proofs.lemmas.List.{length-map}
 use Rattle.std.proofs.lemmas.List.Elements.{Contains-append_cases, Contains-append_left}
 use Rattle.std.proofs.lemmas.List.Elements.{Contains-push_cases}
 use Rattle.std.specs.Borrow.{Bor}
-use Rattle.delaunay_location.specs.half_edge_dcel.Contents.{Contents, IsMeshWithData}
-use Rattle.delaunay_location.specs.half_edge_links.Mesh.{Mesh, IsValidMesh, origin, rev}
-use Rattle.delaunay_location.proofs.half_edge_links_lemmas.Lists.Rev.{rev-rev, rev_within}
-use Rattle.delaunay_location.specs.plane.Fraction.{Fraction, Point, IsSame}
-use Rattle.delaunay_location.specs.plane.Line.{Item, IsBefore, IsLineList, Meets, across, along}
-use Rattle.delaunay_location.specs.plane.Line.{at_vertex}
-use Rattle.delaunay_location.specs.plane.Pairs.{place, IsIndex}
-use Rattle.delaunay_location.specs.plane.Tiling.{Triangulation}
-use Rattle.delaunay_location.proofs.plane_theorems.Edits.LocalMesh.Changes.{once_none, once_head}
-use Rattle.delaunay_location.proofs.plane_theorems.Edits.LocalMesh.Changes.{once_tail}
-use Rattle.delaunay_location.proofs.plane_theorems.Edits.LocalMesh.Changes.{once_cons}
-use Rattle.delaunay_location.specs.plane_theorems.Segments.Constraints.{AreNextOn, ArePlacedApart}
-use Rattle.delaunay_location.specs.plane_theorems.Segments.Path.{IsFreeOfVertices}
-use Rattle.delaunay_location.proofs.plane_theorems.Segments.Crossing.PathFlips.{piece_is_free}
-use Rattle.delaunay_location.specs.plane_theorems.Tiling.Local.{IsMesh}
-use Rattle.delaunay_location.proofs.plane_theorems.Tiling.Totals.{Contains-head, Contains-later}
-use Rattle.delaunay_location.proofs.plane_theorems.Tiling.Totals.{Contains-none}
-use Rattle.delaunay_location.specs.delaunay_legalization.Drawn.{drawn, faces_of, outer_of}
-use Rattle.delaunay_location.specs.delaunay_legalization.Legal.{AreEdges}
-use Rattle.delaunay_location.proofs.delaunay_legalization_lemmas.MeshLegal.{few_edges, own_indexes}
-use Rattle.delaunay_location.proofs.delaunay_legalization_lemmas.MeshLegal.{room_for_one}
-use Rattle.delaunay_location.proofs.delaunay_legalization_lemmas.MeshStays.{half_same}
-use Rattle.delaunay_location.proofs.delaunay_legalization_lemmas.WorkLists.{contains_before}
-use Rattle.delaunay_location.proofs.delaunay_legalization_lemmas.WorkLists.{contains_last}
-use Rattle.delaunay_location.proofs.delaunay_legalization_lemmas.WorkLists.{contains_map_from}
-use Rattle.delaunay_location.proofs.delaunay_legalization_lemmas.WorkLists.{once_after}
-use Rattle.delaunay_location.specs.delaunay_legalization.State.{State, state_of}
-use Rattle.delaunay_location.proofs.delaunay_legalization_lemmas.Legalizing.{half_within}
-use Rattle.delaunay_location.specs.half_edge_dcel.declared.edge.DirectedEdgeHandle.{DirectedEdgeHandle}
-use Rattle.delaunay_location.specs.declared.intersection.Intersection.{Intersection}
-use Rattle.delaunay_location.specs.declared.intersection.Intersection.TheVariants.{EdgeIntersection}
-use Rattle.delaunay_location.specs.declared.iterator.LineIntersectionIterator.{LineIntersectionIterator}
-use Rattle.delaunay_location.specs.Items.{item_in, mesh_of}
-use Rattle.delaunay_location.specs.Walk.{GivesNext, IsReady}
-use Rattle.delaunay_edit.specs.Crossing.{AreAllCrossing, CrossesFromRight}
-use Rattle.delaunay_edit.specs.Lists.{HaveRoom, KeepRoom, ListPiece}
-use Rattle.delaunay_edit.specs.declared.crossing.CrossingLists.{CrossingLists}
+use Rattle.plane.specs.{across, along, at_vertex, Fraction, IsBefore, IsIndex, IsLineList, IsSame}
+use Rattle.plane.specs.{Item, Meets, place, Point, Triangulation}
+use Rattle.half_edge_links.specs.{IsValidMesh, Mesh, origin, rev}
+use Rattle.half_edge_links.proofs.{rev-rev, rev_within}
+use Rattle.plane_theorems.specs.{AreNextOn, ArePlacedApart, IsFreeOfVertices, IsMesh}
+use Rattle.plane_theorems.proofs.{Contains-head, Contains-later, Contains-none, once_cons}
+use Rattle.plane_theorems.proofs.{once_head, once_none, once_tail}
+use Rattle.plane_theorems.proofs.Segments.Crossing.PathFlips.{subconstraint_is_free}
+use Rattle.half_edge_dcel.specs.{Contents, DirectedEdgeHandle, IsMeshWithData}
+use Rattle.delaunay_legalization.specs.{AreEdges, drawn, faces_of, outer_of, state_of}
+use Rattle.delaunay_legalization.proofs.{contains_before, contains_last, contains_map_from}
+use Rattle.delaunay_legalization.proofs.{half_same, Legalizing.half_within, once_after, own_indexes}
+use Rattle.delaunay_legalization.proofs.MeshLegal.{few_edges, room_for_one}
+use Rattle.delaunay_location.specs.{EdgeIntersection, GivesNext, Intersection, IsReady, item_in}
+use Rattle.delaunay_location.specs.{LineIntersectionIterator, mesh_of}
+use Rattle.delaunay_edit.specs.{AreAllCrossing, CrossesFromRight, CrossingLists, HaveRoom, KeepRoom}
+use Rattle.{delaunay_edit.specs.Lists.ListSubconstraint, delaunay_legalization.specs.State.State}
 use Rattle.delaunay_edit.proofs.Beginning.{crossed_one_way, met_before, part_meets, whole_meets}
 use Rattle.delaunay_edit.proofs.MetEdges.{crossed_twin, crosses_if_met, met_if_crosses}
-use Rattle.delaunay_edit.proofs.MovedEdges.{ListsAllCrossing, crossing_begins, room_on, room_stays}
-use Rattle.delaunay_edit.proofs.NextVertex.{SeeksNext, list_on, seeking_finds, seeking_goes_on}
-use Rattle.delaunay_edit.proofs.NextVertex.{two_ends}
+use Rattle.delaunay_edit.proofs.MovedEdges.{crossing_begins, ListsAllCrossing, room_on, room_stays}
+use Rattle.delaunay_edit.proofs.NextVertex.{list_on, seeking_finds, seeking_goes_on, SeeksNext}
+use Rattle.delaunay_edit.proofs.{NextVertex.two_ends, Places.no_same_place, Walking.placed_apart}
 use Rattle.delaunay_edit.proofs.Passing.{earlier_ones, later_ones, passed_kept}
-use Rattle.delaunay_edit.proofs.Places.{no_same_place}
-use Rattle.delaunay_edit.proofs.Walking.{placed_apart}
 
 -- ---- no crossed edge comes before itself
 pub not_before_itself : (t : Triangulation) (p q : Fraction) (a b : ℕ)
@@ -237,13 +215,13 @@ module _ (points : List Point) (m : Mesh) (s : IsValidMesh m)
           not_listed (subst (Contains hs) (same_half r.0 f f_in (listed.cross r.0 r.1).1 met r.2)
           r.1)))
 
-  -- ---- the piece up to the vertex that is met next
+  -- ---- the subconstraint up to the vertex that is met next
   module _ (passed others : List Item) (v : ℕ) (hs : List ℕ)
       (listed : AreListed points m i j n passed hs)
       (list : IsLineList (drawn points m) (place points i) (place points j)
       ((passed ++ at_vertex v ∷ []) ++ others)) (next : AreNextOn points i j i v) where
     free : IsFreeOfVertices (drawn points m) i v
-    free = piece_is_free (drawn points m) i j i v next
+    free = subconstraint_is_free (drawn points m) i j i v next
 
     away : ¬ IsSame (place points v) (place points i)
     away = no_same_place points distinct v i next.second_index next.first_index
@@ -271,12 +249,13 @@ module _ (points : List Point) (m : Mesh) (s : IsValidMesh m)
         go (Contains-append_cases (passed ++ at_vertex v ∷ []) others (crossed_twin m h)
         (list.complete ends_apart (crossed_twin m h) met))
       where
-        met_by_piece : Meets (drawn points m) (place points i) (place points v) (crossed_twin m h)
-        met_by_piece = met_if_crosses points m s i v shape vertices free h within crosses
+        met_by_subconstraint : Meets (drawn points m) (place points i) (place points v)
+            (crossed_twin m h)
+        met_by_subconstraint = met_if_crosses points m s i v shape vertices free h within crosses
 
         met : IsMet points m i j n h
         met = whole_meets (drawn points m) (place points i) (place points j) ends_apart
-            (origin m (rev h)) (origin m h) (ends h within) v next.second away met_by_piece
+            (origin m (rev h)) (origin m h) (ends h within) v next.second away met_by_subconstraint
 
         go : Contains (passed ++ at_vertex v ∷ []) (crossed_twin m h)
             ⊎ Contains others (crossed_twin m h) → Contains hs h
@@ -287,12 +266,13 @@ module _ (points : List Point) (m : Mesh) (s : IsValidMesh m)
             ]
         go (inr later) = absurd (met_before (drawn points m) (place points i) (place points j)
             ends_apart (origin m (rev h)) (origin m h) (ends h within) v next.second away
-            met_by_piece (later_ones (IsBefore (drawn points m) (place points i) (place points j))
+            met_by_subconstraint (later_ones (IsBefore (drawn points m) (place points i)
+            (place points j))
             passed (at_vertex v) others (list.ordered ends_apart) (crossed_twin m h) later))
 
     -- so these are all that do
-    pub piece_listed : AreAllCrossing points m i v (Contains hs)
-    piece_listed = record { cross = listed_crosses; all = crossing_listed }
+    pub subconstraint_listed : AreAllCrossing points m i v (Contains hs)
+    subconstraint_listed = record { cross = listed_crosses; all = crossing_listed }
 
 -- ---- an edge that is crossed
 -- the item is edge e, whose twin is h
@@ -329,7 +309,7 @@ module _ {V D U F : Type 0} {x : Intersection V D U F} {e : DirectedEdgeHandle V
 
 -- ---- the walk
 -- no other vertex than i was passed, and the edges so far wait
-pub record IsListingPiece {V D U F P S : Type 0} (at : V → Point) (number : S → ℤ)
+pub record IsListingSubconstraint {V D U F P S : Type 0} (at : V → Point) (number : S → ℤ)
     (IsSite IsCovered : P → Point → Type 0) (c : Contents V D U F) (i j : ℕ)
     (was l : CrossingLists) (now : LineIntersectionIterator V D U F P S) : Type 0 where
   pub whole : IsMeshWithData c
@@ -340,12 +320,12 @@ pub record IsListingPiece {V D U F P S : Type 0} (at : V → Point) (number : S 
   pub room : KeepRoom was l
 
 -- at the beginning there is none
-pub piece_walk_begins : {V D U F P S : Type 0} {at : V → Point} {number : S → ℤ}
+pub subconstraint_walk_begins : {V D U F P S : Type 0} {at : V → Point} {number : S → ℤ}
     {IsSite IsCovered : P → Point → Type 0} {c : Contents V D U F} {i j : ℕ} {was l : CrossingLists}
     {it : LineIntersectionIterator V D U F P S} → SeeksNext at number IsSite IsCovered c i j [] it
     → KeepRoom was l → l.waiting.items ≡ [] → l.unseen.items ≡ []
-    → IsListingPiece at number IsSite IsCovered c i j was l it
-piece_walk_begins {at = at} {c = c} {i = i} {j = j} seeks room none_waits none =
+    → IsListingSubconstraint at number IsSite IsCovered c i j was l it
+subconstraint_walk_begins {at = at} {c = c} {i = i} {j = j} seeks room none_waits none =
     let kept = passed_kept seeks.so_far in record {
       whole = record { valid = kept.valid; fits = kept.fits };
       passed = [];
@@ -359,7 +339,7 @@ piece_walk_begins {at = at} {c = c} {i = i} {j = j} seeks room none_waits none =
 module _ {V D U F P S : Type 0} {at : V → Point} {number : S → ℤ}
     {IsSite IsCovered : P → Point → Type 0} {c : Contents V D U F} {i j : ℕ} {was l : CrossingLists}
     {now after : LineIntersectionIterator V D U F P S} {x : Intersection V D U F}
-    (listing : IsListingPiece at number IsSite IsCovered c i j was l now)
+    (listing : IsListingSubconstraint at number IsSite IsCovered c i j was l now)
     (gives : GivesNext at number now (Some x) after) where
   abbrev hs : List ℕ
   hs = l.waiting.items
@@ -406,9 +386,10 @@ module _ {V D U F P S : Type 0} {at : V → Point} {number : S → ℤ}
         (line.1.ordered ends_apart)
 
     -- a list with room for each edge has room for it
-    pub piece_walk_has_room : {len : ℕ} → len ≡ length hs → HaveRoom (length c.undirected) was
+    pub subconstraint_walk_has_room : {len : ℕ} → len ≡ length hs → HaveRoom (length c.undirected)
+        was
         → len < vec_capacity l.waiting
-    piece_walk_has_room {len = len} count fits =
+    subconstraint_walk_has_room {len = len} count fits =
         below len (length hs) (length c.undirected) (vec_capacity was.waiting)
         (vec_capacity l.waiting) count
         (room_for_more points_of_mesh c.mesh listing.whole.valid listing.seeks.shape i j
@@ -421,11 +402,12 @@ module _ {V D U F P S : Type 0} {at : V → Point} {number : S → ℤ}
         below len a n given room is less fits stays = omega arith
 
     -- it is one more
-    pub piece_walk_crosses : {longer : CrossingLists} → IsReady at number IsSite IsCovered after
+    pub subconstraint_walk_crosses : {longer : CrossingLists} → IsReady at number IsSite IsCovered
+        after
         → KeepRoom l longer → longer.waiting.items ≡ hs ++ h ∷ []
         → longer.unseen.items ≡ l.unseen.items
-        → IsListingPiece at number IsSite IsCovered c i j was longer after
-    piece_walk_crosses {longer = longer} ready room_now pushed same = record {
+        → IsListingSubconstraint at number IsSite IsCovered c i j was longer after
+    subconstraint_walk_crosses {longer = longer} ready room_now pushed same = record {
       whole = listing.whole;
       passed = listing.passed ++ item_in x ∷ [];
       seeks = seeking_goes_on listing.seeks gives ready
@@ -445,7 +427,7 @@ module _ {V D U F P S : Type 0} {at : V → Point} {number : S → ℤ}
   -- where it is no other vertex and no such edge, all stays
   passes : IsReady at number IsSite IsCovered after
       → ((v : ℕ) → item_in x ≡ at_vertex v → v ≡ i) → ((a b : ℕ) → ¬ (item_in x ≡ across a b))
-      → IsListingPiece at number IsSite IsCovered c i j was l after
+      → IsListingSubconstraint at number IsSite IsCovered c i j was l after
   passes ready none uncrossed = record {
     whole = listing.whole;
     passed = listing.passed ++ item_in x ∷ [];
@@ -457,14 +439,14 @@ module _ {V D U F P S : Type 0} {at : V → Point} {number : S → ℤ}
     room = listing.room;
   }
 
-  pub piece_walk_stays : IsReady at number IsSite IsCovered after → item_in x ≡ at_vertex i
-      → IsListingPiece at number IsSite IsCovered c i j was l after
-  piece_walk_stays ready is = passes ready (λ v e. ap first_end (sym e ∙ is))
+  pub subconstraint_walk_stays : IsReady at number IsSite IsCovered after → item_in x ≡ at_vertex i
+      → IsListingSubconstraint at number IsSite IsCovered c i j was l after
+  subconstraint_walk_stays ready is = passes ready (λ v e. ap first_end (sym e ∙ is))
       (λ a b e. not_crossed i a b (sym is ∙ e))
 
-  pub piece_walk_along : IsReady at number IsSite IsCovered after → (a b : ℕ)
-      → item_in x ≡ along a b → IsListingPiece at number IsSite IsCovered c i j was l after
-  piece_walk_along ready a b is = passes ready (λ v e. absurd (no_vertex v (sym e ∙ is)))
+  pub subconstraint_walk_along : IsReady at number IsSite IsCovered after → (a b : ℕ)
+      → item_in x ≡ along a b → IsListingSubconstraint at number IsSite IsCovered c i j was l after
+  subconstraint_walk_along ready a b is = passes ready (λ v e. absurd (no_vertex v (sym e ∙ is)))
       (λ u v e. no_overlap u v (sym e ∙ is))
     where
       no_vertex : (v : ℕ) → ¬ (at_vertex v ≡ along a b)
@@ -473,12 +455,12 @@ module _ {V D U F P S : Type 0} {at : V → Point} {number : S → ℤ}
       no_overlap : (u v : ℕ) → ¬ (across u v ≡ along a b)
       no_overlap u v e = cc
 
-  -- where it is another vertex, all that cross the piece up to it are listed
+  -- where it is another vertex, all that cross the subconstraint up to it are listed
   module _ {v : ℕ} (is : item_in x ≡ at_vertex v) (other : v ≢ i) where
     all_listed : ListsAllCrossing points_of_mesh c i v hs
     all_listed = record {
       once = listing.listed.once;
-      all = piece_listed points_of_mesh c.mesh listing.whole.valid listing.seeks.shape i j
+      all = subconstraint_listed points_of_mesh c.mesh listing.whole.valid listing.seeks.shape i j
           (length c.directed) listing.whole.fits.directed_fit vertices_of_mesh ends_apart
           listing.passed line.0 v hs listing.listed (subst (λ (k : Item).
           IsLineList (drawn points_of_mesh c.mesh) (place points_of_mesh i)
@@ -489,13 +471,14 @@ module _ {V D U F P S : Type 0} {at : V → Point} {number : S → ℤ}
           listing.passed hs listing.listed (length c.undirected) listing.whole.fits.undirected_fit;
     }
 
-    pub piece_walk_ends : HaveRoom (length c.undirected) was → ListPiece points_of_mesh c i j v l
-    piece_walk_ends fits = record {
+    pub subconstraint_walk_ends : HaveRoom (length c.undirected) was → ListSubconstraint
+        points_of_mesh c i j v l
+    subconstraint_walk_ends fits = record {
       next = seeking_finds listing.seeks gives is other;
       turn = record {
-        piece = record {
+        subconstraint = record {
           whole = listing.whole;
-          free = piece_is_free (drawn points_of_mesh c.mesh) i j i v
+          free = subconstraint_is_free (drawn points_of_mesh c.mesh) i j i v
               (seeking_finds listing.seeks gives is other);
           shape = listing.seeks.shape;
         };

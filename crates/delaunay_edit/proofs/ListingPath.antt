@@ -10,35 +10,22 @@ use Rattle.std.specs.Prelude.{ℤ, pos, negsuc, ◌*ℤ◌, ◌≤ℤ◌, ◌<�
 use Rattle.std.proofs.lemmas.List.Elements.{Contains-append_left}
 use Rattle.std.proofs.lemmas.Bool.{cases_eq}
 use Rattle.std.proofs.lemmas.Int.{ints}
-use Rattle.delaunay_location.specs.half_edge_dcel.Contents.{Contents, IsMeshWithData}
-use Rattle.delaunay_location.specs.half_edge_links.Mesh.{Mesh, origin, rev}
-use Rattle.delaunay_location.specs.plane.Circle.{gap, IsNearer}
-use Rattle.delaunay_location.specs.plane.Fraction.{Point, whole, OnSegment}
-use Rattle.delaunay_location.specs.plane.Laws.{squared_way}
-use Rattle.delaunay_location.specs.plane.Line.{Item, IsLineList, at_vertex, across, along}
-use Rattle.delaunay_location.specs.plane.Pairs.{IsIndex, place}
-use Rattle.delaunay_location.specs.plane_theorems.Delaunay.Nearer.{nearer_count}
-use Rattle.delaunay_location.proofs.plane_theorems.Delaunay.Circles.NearerCount.{nearer_count_falls}
-use Rattle.delaunay_location.specs.plane_theorems.Edits.Legal.{point_of}
-use Rattle.delaunay_location.specs.plane_theorems.Segments.Constraints.{AreNextOn, ArePlacedApart}
-use Rattle.delaunay_location.proofs.plane_theorems.Segments.Constraints.Pieces.{path_begins}
-use Rattle.delaunay_location.proofs.plane_theorems.Segments.Constraints.Pieces.{path_ends}
-use Rattle.delaunay_location.proofs.plane_theorems.Segments.Constraints.Pieces.{path_goes_on}
-use Rattle.delaunay_location.proofs.plane_theorems.Segments.Constraints.Shorter.{path_shortens}
-use Rattle.delaunay_location.specs.plane_theorems.Tiling.Local.{IsMesh}
-use Rattle.delaunay_location.specs.delaunay_legalization.Drawn.{drawn, faces_of, outer_of}
-use Rattle.delaunay_location.proofs.plane_theorems.Edits.Legalization.Legal.{squared_way_nonneg}
-use Rattle.delaunay_location.proofs.delaunay_legalization_lemmas.WorkLists.{contains_last}
-use Rattle.delaunay_location.specs.delaunay_legalization.Known.{point_at}
-use Rattle.delaunay_location.specs.delaunay_legalization.State.{state_of}
-use Rattle.delaunay_location.specs.declared.intersection.Intersection.{Intersection}
-use Rattle.delaunay_location.specs.declared.iterator.LineIntersectionIterator.{LineIntersectionIterator}
-use Rattle.delaunay_location.specs.Items.{item_in}
-use Rattle.delaunay_location.specs.Walk.{GivesNext, IsReady, WalksLine}
-use Rattle.delaunay_edit.specs.PathEdges.{LeadAlong}
+use Rattle.plane.specs.{across, along, at_vertex, gap, IsIndex, IsLineList, IsNearer, Item}
+use Rattle.plane.specs.{OnSegment, place, Point, squared_vector, whole}
+use Rattle.half_edge_links.specs.{Mesh, origin, rev}
+use Rattle.plane_theorems.specs.{AreNextOn, ArePlacedApart, IsMesh, nearer_count, point_of}
+use Rattle.plane_theorems.proofs.{path_ends, path_goes_on, path_shortens}
+use Rattle.plane_theorems.proofs.Delaunay.Circles.NearerCount.{nearer_count_falls}
+use Rattle.plane_theorems.proofs.Edits.Legalization.Legal.{squared_way_nonneg}
+use Rattle.plane_theorems.proofs.Segments.Constraints.Subconstraints.{path_begins}
+use Rattle.half_edge_dcel.specs.{Contents, IsMeshWithData}
+use Rattle.delaunay_legalization.specs.{drawn, faces_of, outer_of, point_at, state_of}
+use Rattle.delaunay_location.specs.{GivesNext, Intersection, IsReady, item_in}
+use Rattle.delaunay_location.specs.{LineIntersectionIterator, WalksLine}
+use Rattle.{delaunay_edit.specs.LeadAlong, delaunay_legalization.proofs.contains_last}
 use Rattle.delaunay_edit.proofs.PassedVertices.{HasReached, next_after, reached_begins}
 use Rattle.delaunay_edit.proofs.PassedVertices.{reached_ends, reached_next, reached_stays}
-use Rattle.delaunay_edit.proofs.Passing.{HasPassed, all_passed, list_with, none_passed}
+use Rattle.delaunay_edit.proofs.Passing.{all_passed, HasPassed, list_with, none_passed}
 use Rattle.delaunay_edit.proofs.Passing.{one_more_passed, passed_kept}
 use Rattle.delaunay_edit.proofs.Places.{gap_is_way_back, no_same_place}
 use Rattle.delaunay_edit.proofs.Walking.{in_map, placed_apart}
@@ -52,7 +39,7 @@ less_of_abs (negsuc a) y h k l = absurd (omega (arith, ints, h))
 by_one : (x : ℤ) → x *ℤ (pos 1 *ℤ pos 1) ≡ x
 by_one x = omega (arith, ints)
 
-nearer_by_way : (j v w : Point) → squared_way v j <ℤ squared_way w j
+nearer_by_way : (j v w : Point) → squared_vector v j <ℤ squared_vector w j
     → IsNearer (whole j) (whole v) (whole w)
 nearer_by_way j v w h = record {
   nearer = subst (λ (x : ℤ × ℤ). x.0 <ℤ x.1)
@@ -70,8 +57,8 @@ module _ (points : List Point) (m : Mesh) (distinct : ArePlacedApart points) whe
   falls j w v hj hw on_way next =
       nearer_count_falls (drawn points m) (place points j) w v hw next.second_index
       (nearer_by_way (point_of points j) (point_of points v) (point_of points w)
-      (less_of_abs (squared_way (point_of points v) (point_of points j))
-      (squared_way (point_of points w) (point_of points j))
+      (less_of_abs (squared_vector (point_of points v) (point_of points j))
+      (squared_vector (point_of points w) (point_of points j))
       (squared_way_nonneg (point_of points v) (point_of points j))
       (squared_way_nonneg (point_of points w) (point_of points j))
       (path_shortens points w j v distinct hw hj on_way next)))
@@ -270,7 +257,7 @@ module _ {V D U F P S : Type 0} {at : V → Point} {number : S → ℤ}
         → IsListingWalk at number IsSite IsCovered c i j v listed room_was room after
     listing_walk_stays ready is = stays ready (λ w e. same_vertex (sym e ∙ is))
 
-    -- another vertex ends the next piece
+    -- another vertex ends the next subconstraint
     module _ {w : ℕ} (is : item_in x ≡ at_vertex w) (other : w ≢ v) where
       w_line : IsLineList (drawn points c.mesh) (place points i) (place points j)
           ((walk.passed ++ at_vertex w ∷ []) ++ line.0)

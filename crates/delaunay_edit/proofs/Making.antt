@@ -8,38 +8,25 @@ use Rattle.std.proofs.Common.{ℕ, List, length, map, refl, sym, ap, subst}
 use mathlib.Core.Logic.{inl, inr}
 use Rattle.std.specs.Prelude.{Contains}
 use Rattle.std.proofs.lemmas.List.{length-map}
-use Rattle.delaunay_location.specs.half_edge_links.Mesh.{Mesh, IsValidMesh, origin, rev}
-use Rattle.delaunay_location.specs.half_edge_links.Flip.{IsFlippable, Flips, flipped}
-use Rattle.delaunay_location.specs.half_edge_links.Outline.{KeepsOuter}
-use Rattle.delaunay_location.specs.half_edge_links.Triangles.{FlipsTriangles}
-use Rattle.delaunay_location.specs.half_edge_dcel.Contents.{Contents, FitsMesh, IsMeshWithData}
-use Rattle.delaunay_location.proofs.half_edge_links_lemmas.Faces.FlipLemmas.{flips_is}
-use Rattle.delaunay_location.proofs.half_edge_links_lemmas.Lists.Rev.{rev-rev, rev_within}
-use Rattle.delaunay_location.specs.plane.Crossing.{Cross}
-use Rattle.delaunay_location.specs.plane.Fraction.{Point, whole}
-use Rattle.delaunay_location.specs.plane.Pairs.{place}
-use Rattle.delaunay_location.specs.plane.Tiling.{IsEdge}
-use Rattle.delaunay_location.specs.plane_theorems.Tiling.Local.{LocalMesh, IsMesh}
-use Rattle.delaunay_location.specs.plane_theorems.Segments.Measure.{crossing_sum}
-use Rattle.delaunay_location.specs.plane_theorems.Segments.Path.{IsFreeOfVertices}
-use Rattle.delaunay_location.specs.plane_theorems.Edits.Legal.{AllPassBut}
-use Rattle.delaunay_location.specs.delaunay_legalization.Drawn.{drawn, faces_of, outer_of}
-use Rattle.delaunay_location.specs.delaunay_legalization.Legal.{AreEdges, GainsRound, pairs_at}
-use Rattle.delaunay_location.proofs.delaunay_legalization_lemmas.MeshEdits.{flipped_faces}
-use Rattle.delaunay_location.proofs.delaunay_legalization_lemmas.MeshStays.{halved}
-use Rattle.delaunay_location.specs.delaunay_legalization.Known.{point_at}
-use Rattle.delaunay_location.specs.delaunay_legalization.Placed.{IsPlaced}
-use Rattle.delaunay_edit.specs.Crossing.{AreAllCrossing, AreOthersCrossing, CrossesFromRight}
-use Rattle.delaunay_edit.specs.Crossing.{GoesFromRight, TurnsNearer, ahead, behind}
-use Rattle.delaunay_edit.specs.Kept.{KeepsUncrossed, KeepsUncrossedFaces}
-use Rattle.delaunay_edit.specs.declared.crossing.CrossingLists.{CrossingLists}
+use Rattle.plane.specs.{Cross, IsEdge, place, Point, whole}
+use Rattle.half_edge_links.specs.{flipped, Flips, FlipsTriangles, IsFlippable, IsValidMesh}
+use Rattle.half_edge_links.specs.{KeepsOuter, Mesh, origin, rev}
+use Rattle.half_edge_links.proofs.{flips_is, rev-rev, rev_within}
+use Rattle.plane_theorems.specs.{AllPassBut, crossing_sum, IsFreeOfVertices, IsMesh, LocalMesh}
+use Rattle.half_edge_dcel.specs.{Contents, FitsMesh, IsMeshWithData}
+use Rattle.delaunay_legalization.specs.{AreEdges, drawn, faces_of, GainsRound, IsEmbedding}
+use Rattle.delaunay_legalization.specs.{outer_of, pairs_at, point_at}
+use Rattle.delaunay_legalization.proofs.{halved}
+use Rattle.delaunay_legalization.proofs.MeshEdits.{flipped_faces}
+use Rattle.delaunay_edit.specs.{ahead, AreAllCrossing, AreToTurn, behind, CrossesFromRight}
+use Rattle.delaunay_edit.specs.{CrossingLists, GoesFromRight, HasAsEdge, IsOneSubconstraint}
+use Rattle.delaunay_edit.specs.{KeepRoom, KeepsUncrossed, KeepsUncrossedFaces, TurnsNearer}
+use Rattle.delaunay_edit.specs.{Crossing.AreOthersCrossing, Lists.TurnsOne}
 use Rattle.delaunay_edit.specs.Leaving.{AllPassAway, IsWorkList, LeavesFailing, TurnsTowards}
-use Rattle.delaunay_edit.specs.Lists.{AreToTurn, HasAsEdge, IsOnePiece, KeepRoom, TurnsOne}
 use Rattle.delaunay_edit.proofs.CrossingList.{made_clear, made_clear_back, others_are_all}
-use Rattle.delaunay_edit.proofs.CrossingList.{others_still, way_crosses, way_ends, way_is}
+use Rattle.delaunay_edit.proofs.CrossingList.{others_still, vector_is, way_crosses, way_ends}
 use Rattle.delaunay_edit.proofs.LeftToTest.{crossing_leaves, flip_leaves, passing_ends}
-use Rattle.delaunay_edit.proofs.MovedEdges.{room_on}
-use Rattle.delaunay_edit.proofs.Walking.{placed_apart}
+use Rattle.delaunay_edit.proofs.{MovedEdges.room_on, Walking.placed_apart}
 use Rattle.delaunay_edit.proofs.Towards as T
 
 -- whether vertices are between others does not depend on the edges
@@ -213,7 +200,7 @@ module _ {V D U F : Type 0} (at : V → Point) (c : Contents V D U F) (mesh : Is
               ⊎ ((f ≡ rev e) × GoesFromRight points i j (behind c.mesh e) (ahead c.mesh e))) where
             made_in : f < length new.mesh.half_edges
             made_in =
-                new_in f (way_is points c.mesh mesh.valid i j e can new.mesh same_moves f way)
+                new_in f (vector_is points c.mesh mesh.valid i j e can new.mesh same_moves f way)
 
             crosses : CrossesFromRight points new.mesh i j f
             crosses = way_crosses points c.mesh mesh.valid i j e can new.mesh same_moves f way
@@ -266,7 +253,7 @@ module _ {V D U F : Type 0} (at : V → Point) (c : Contents V D U F) (mesh : Is
             -- they and it are all, where it does
             pub others_and_made : AreOthersCrossing points new.mesh i j f In
             others_and_made = others_still points c.mesh mesh.valid i j e can new.mesh same_moves In
-                others f (way_is points c.mesh mesh.valid i j e can new.mesh same_moves f way)
+                others f (vector_is points c.mesh mesh.valid i j e can new.mesh same_moves f way)
                 made_in crosses
 
 -- where none crosses, the segment is an edge
@@ -340,26 +327,27 @@ module _ {V D U F : Type 0} {at : V → Point} {old now : Contents V D U F} {i j
         (sym (ap (λ (c : Contents V D U F). c.undirected) making.contents)) work.room);
   }
 
-  -- the segment is a piece of the mesh of these vertices
-  piece : IsOnePiece (map at old.vertices) now i j
-  piece = subst (λ (vs : List V). IsOnePiece (map at vs) now i j) same making.turn.piece
+  -- the segment is a subconstraint of the mesh of these vertices
+  subconstraint : IsOneSubconstraint (map at old.vertices) now i j
+  subconstraint = subst (λ (vs : List V). IsOneSubconstraint (map at vs) now i j) same
+      making.turn.subconstraint
 
   -- so the mesh is that of a triangulation with the same sites
   pub making_placed : {P : Type 0} {IsSite : P → Point → Type 0} {t : P}
-      → IsPlaced at IsSite old t → IsPlaced at IsSite now t
-  making_placed {P = P} {IsSite = IsSite} {t = t} placed =
-      subst (λ (c : Contents V D U F). IsPlaced at IsSite c t) (sym making.contents) (record {
+      → IsEmbedding at IsSite old t → IsEmbedding at IsSite now t
+  making_placed {P = P} {IsSite = IsSite} {t = t} embedding =
+      subst (λ (c : Contents V D U F). IsEmbedding at IsSite c t) (sym making.contents) (record {
         kept = record {
-          in_range = placed.kept.in_range;
-          few_edges = placed.kept.few_edges;
-          few_faces = placed.kept.few_faces;
-          valid = making.turn.piece.whole.valid;
+          in_range = embedding.kept.in_range;
+          few_edges = embedding.kept.few_edges;
+          few_faces = embedding.kept.few_faces;
+          valid = making.turn.subconstraint.whole.valid;
           fits = subst (λ (c : Contents V D U F). FitsMesh now.mesh (length c.vertices)
               (length c.directed) (length c.undirected) (length c.faces)) making.contents
-              making.turn.piece.whole.fits;
-          shape = piece.shape;
+              making.turn.subconstraint.whole.fits;
+          shape = subconstraint.shape;
         };
-        sites = placed.sites;
+        sites = embedding.sites;
       })
 
   -- where it is an edge, it is made one
@@ -368,19 +356,21 @@ module _ {V D U F : Type 0} {at : V → Point} {old now : Contents V D U F} {i j
   making_ends ended = record {
     contents = making.contents;
     whole = ended.whole;
-    shape = piece.shape;
+    shape = subconstraint.shape;
     edge = ended.edge;
     kept = making.kept;
     faces_kept = making.faces_kept;
     edges = making.edges;
     leaves = λ constraints passing. passing_ends (map at old.vertices) now.mesh
-        ended.whole.valid piece.shape i j apart constraints (pairs_at now.mesh left) ended.edge
+        ended.whole.valid subconstraint.shape i j apart constraints (pairs_at now.mesh left)
+        ended.edge
         (making.leaves constraints passing);
   }
     where
       apart : ¬ (point_at (map at old.vertices) i ≡ point_at (map at old.vertices) j)
       apart e = placed_apart (map at old.vertices) (faces_of now.mesh) (outer_of now.mesh)
-          piece.shape i j piece.free.first piece.free.second piece.free.apart (ap whole e)
+          subconstraint.shape i j subconstraint.free.first subconstraint.free.second
+          subconstraint.free.apart (ap whole e)
 
   module _ {new : Contents V D U F} {more : List ℕ} {given after : CrossingLists}
       (one : TurnsOne (map at now.vertices) now new i j left more given after) where

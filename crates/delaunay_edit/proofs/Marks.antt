@@ -5,12 +5,9 @@ use Rattle.std.proofs.Common.{ℕ, zero, suc, Bool, true, false, List, set, refl
 use Rattle.std.proofs.Common.{inl, inr}
 use Rattle.std.specs.Prelude.{Some, slice_get}
 use Rattle.std.proofs.lemmas.Bool.{cases_eq}
-use Rattle.delaunay_location.proofs.delaunay_legalization_lemmas.Entries.{one_value}
-use Rattle.delaunay_location.proofs.delaunay_legalization_lemmas.MeshStays.{slice_get-set_other}
-use Rattle.delaunay_location.specs.delaunay_legalization.Constraints.{not_both}
-use Rattle.delaunay_location.specs.half_edge_dcel.Contents.{Contents}
-use Rattle.delaunay_edit.specs.Adding.{MarksEdge, MarksSome}
-use Rattle.delaunay_location.proofs.delaunay_legalization_lemmas.MarkedPairs.{set_entry}
+use Rattle.{delaunay_legalization.specs.not_both, half_edge_dcel.specs.Contents}
+use Rattle.delaunay_legalization.proofs.{MarkedPairs.set_entry, one_value, slice_get-set_other}
+use Rattle.delaunay_edit.specs.{MarksEdge, MarksSome}
 
 -- a list stays where an entry is written over by itself
 set_same : {X : Type 0} (xs : List X) (k : ℕ) (d : X) → slice_get xs k ≡ Some d → set xs k d ≡ xs

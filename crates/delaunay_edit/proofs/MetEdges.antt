@@ -2,33 +2,19 @@
 -- Notions: crossed_twin; crosses_if_met, met_if_crosses.
 use Rattle.std.proofs.Common.{◌≡◌, ◌⊎◌, ◌<◌, ◌∙◌}
 use Rattle.std.proofs.Common.{ℕ, List, length, sym, subst, inl, inr}
-use Rattle.delaunay_location.specs.half_edge_links.Mesh.{Mesh, IsValidMesh, origin, rev}
-use Rattle.delaunay_location.proofs.half_edge_links_lemmas.Lists.Rev.{rev_within}
-use Rattle.delaunay_location.specs.plane.Crossing.{Cross}
-use Rattle.delaunay_location.specs.plane.Fraction.{Point, IsSame, WithinSegment}
-use Rattle.delaunay_location.specs.plane.Laws.{Parts}
-use Rattle.delaunay_location.specs.plane.Line.{Item, Meets, across}
-use Rattle.delaunay_location.specs.plane.Pairs.{place}
-use Rattle.delaunay_location.specs.plane.Side.{side, left, right, on}
-use Rattle.delaunay_location.specs.plane.Tiling.{IsEdge}
-use Rattle.delaunay_location.proofs.plane.Meetings.{crossing_is_sides}
-use Rattle.delaunay_location.proofs.plane.Segments.{same-sym}
-use Rattle.delaunay_location.specs.plane_theorems.Tiling.Local.{IsMesh}
-use Rattle.delaunay_location.proofs.plane_theorems.Tiling.Locations.{no_edges_cross}
-use Rattle.delaunay_location.proofs.plane_theorems.Tiling.Loops.{mesh_tiles}
-use Rattle.delaunay_location.specs.plane_theorems.Segments.Constraints.{ArePlacedApart}
-use Rattle.delaunay_location.specs.plane_theorems.Segments.Path.{IsCrossing, IsFreeOfVertices}
-use Rattle.delaunay_location.proofs.plane_theorems.Segments.Crossing.EitherWay.{crossing_is_either_way}
-use Rattle.delaunay_location.proofs.plane_theorems.Segments.Crossing.EitherWay.{edge_back}
-use Rattle.delaunay_location.specs.delaunay_legalization.Drawn.{drawn, edges_of, faces_of, outer_of}
-use Rattle.delaunay_location.proofs.delaunay_legalization_lemmas.EdgePairs.{edge_joins}
-use Rattle.delaunay_location.proofs.delaunay_legalization_lemmas.OwnEdges.{own_edges}
+use Rattle.plane.specs.{across, Cross, IsEdge, IsSame, Item, left, Meets, on, Parts, place, Point}
+use Rattle.plane.specs.{right, side, WithinSegment}
+use Rattle.plane.proofs.{Meetings.crossing_is_sides, same-sym, turned_join as edge_back}
+use Rattle.half_edge_links.specs.{IsValidMesh, Mesh, origin, rev}
+use Rattle.plane_theorems.specs.{ArePlacedApart, IsCrossing, IsFreeOfVertices, IsMesh}
+use Rattle.plane_theorems.proofs.{mesh_tiles, no_edges_cross}
+use Rattle.plane_theorems.proofs.Segments.Crossing.EitherWay.{crossing_is_either_way}
+use Rattle.delaunay_legalization.specs.{drawn, edges_of, faces_of, outer_of}
+use Rattle.delaunay_legalization.proofs.{edge_joins, own_edges}
 use Rattle.delaunay_location.proofs.EitherWay.{crossed_either_way}
-use Rattle.delaunay_edit.specs.Crossing.{CrossesFromRight}
-use Rattle.delaunay_edit.proofs.InTheWay.{meets_is_cross}
-use Rattle.delaunay_edit.proofs.Places.{no_same_place}
-use Rattle.delaunay_edit.proofs.Towards.{crossing, local_if_crossed}
-use Rattle.delaunay_edit.proofs.Walking.{placed_apart}
+use Rattle.{delaunay_edit.specs.CrossesFromRight, half_edge_links.proofs.rev_within}
+use Rattle.delaunay_edit.proofs.{InTheWay.meets_is_cross, Walking.placed_apart}
+use Rattle.delaunay_edit.proofs.{Places.no_same_place, Towards.crossing, Towards.local_if_crossed}
 
 -- the segment crosses the twin of directed edge h
 abbrev pub crossed_twin : Mesh → ℕ → Item

@@ -9,20 +9,13 @@ use Rattle.std.proofs.Common.{length-append, vec_len, vec_capacity}
 use mathlib.Core.Logic.{inl, inr}
 use Rattle.std.specs.Prelude.{AllPairs, Contains}
 use Rattle.std.proofs.lemmas.List.Elements.{Contains-push_cases}
-use Rattle.delaunay_location.specs.half_edge_dcel.Contents.{Contents}
-use Rattle.delaunay_location.specs.half_edge_links.Mesh.{Mesh}
-use Rattle.delaunay_location.specs.plane.Fraction.{Point}
-use Rattle.delaunay_location.proofs.plane_theorems.Edits.LocalMesh.Changes.{once_none}
-use Rattle.delaunay_location.proofs.plane_theorems.Tiling.Totals.{Contains-none}
-use Rattle.delaunay_location.proofs.delaunay_legalization_lemmas.WorkLists.{contains_before}
-use Rattle.delaunay_location.proofs.delaunay_legalization_lemmas.WorkLists.{contains_last}
-use Rattle.delaunay_location.proofs.delaunay_legalization_lemmas.WorkLists.{last_not_before}
-use Rattle.delaunay_location.proofs.delaunay_legalization_lemmas.WorkLists.{once_after, once_before}
-use Rattle.delaunay_location.proofs.delaunay_legalization_lemmas.Legalizing.{drained}
-use Rattle.delaunay_edit.specs.declared.crossing.CrossingLists.{CrossingLists}
-use Rattle.delaunay_edit.specs.Crossing.{AreAllCrossing}
-use Rattle.delaunay_edit.specs.Lists.{AreHeld, AreOnce, AreToTurn, HaveRoom, IsIn}
-use Rattle.delaunay_edit.specs.Lists.{KeepEntries, KeepRoom, ListCrossing, ListOthers}
+use Rattle.{plane.specs.Point, plane_theorems.proofs.Contains-none, plane_theorems.proofs.once_none}
+use Rattle.half_edge_links.specs.{Mesh}
+use Rattle.delaunay_legalization.proofs.{contains_before, contains_last, once_after}
+use Rattle.{delaunay_legalization.proofs.Legalizing.drained, half_edge_dcel.specs.Contents}
+use Rattle.delaunay_legalization.proofs.WorkLists.{last_not_before, once_before}
+use Rattle.delaunay_edit.specs.{AreAllCrossing, AreToTurn, CrossingLists, HaveRoom, KeepRoom}
+use Rattle.delaunay_edit.specs.Lists.{AreHeld, AreOnce, IsIn, KeepEntries, ListCrossing, ListOthers}
 use Rattle.delaunay_edit.proofs.CrossingList.{put_waiting, taken}
 
 -- ---- of two lists of numbers
@@ -145,7 +138,11 @@ crossing_on lists same = record {
 pub turn_on : {V D U F : Type 0} {points : List Point} {c : Contents V D U F} {i j : ℕ}
     {old new : CrossingLists} → AreToTurn points c i j old → KeepEntries old new
     → AreToTurn points c i j new
-turn_on turn same = record { piece = turn.piece; crossing = crossing_on turn.crossing same }
+turn_on turn same = record {
+  subconstraint = turn.subconstraint;
+  crossing = crossing_on
+      turn.crossing same;
+}
 
 -- a list has the directed edges that cross the segment from the right, each once, and is no longer
 -- than the list of undirected edges

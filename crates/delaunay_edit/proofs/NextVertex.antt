@@ -6,39 +6,21 @@ use Rattle.std.proofs.Common.{ℕ, List, length, map, Some, None, sym, ap, subst
 use Rattle.std.specs.Prelude.{ℤ, Contains}
 use Rattle.std.proofs.lemmas.List.Elements.{Contains-append_cases, Contains-append_left}
 use Rattle.std.proofs.lemmas.List.Elements.{Contains-append_right, Contains-push_cases}
-use Rattle.delaunay_location.specs.half_edge_links.Mesh.{Mesh}
-use Rattle.delaunay_location.specs.half_edge_dcel.Contents.{Contents}
-use Rattle.delaunay_location.specs.plane.Circle.{IsNearer}
-use Rattle.delaunay_location.specs.plane.Fraction.{Point, Fraction, whole, IsSame, OnSegment}
-use Rattle.delaunay_location.specs.plane.Fraction.{WithinSegment}
-use Rattle.delaunay_location.specs.plane.Line.{Item, IsLineList, IsBefore, IsVertexThenOverlap}
-use Rattle.delaunay_location.specs.plane.Line.{at_vertex, across, along}
-use Rattle.delaunay_location.specs.plane.Pairs.{place}
-use Rattle.delaunay_location.specs.plane.Tiling.{Triangulation}
-use Rattle.delaunay_location.proofs.plane.Segments.{on_of_within, start_on_segment, end_on_segment}
-use Rattle.delaunay_location.proofs.plane.Segments.{within_segment_is}
-use Rattle.delaunay_location.proofs.plane_theorems.Delaunay.Points.AlongSegment.{nearer_if}
-use Rattle.delaunay_location.proofs.plane_theorems.Delaunay.Points.AlongSegment.{not_both_nearer}
-use Rattle.delaunay_location.specs.plane_theorems.Tiling.Local.{IsMesh}
-use Rattle.delaunay_location.proofs.plane_theorems.Tiling.Totals.{Contains-head, Contains-none}
-use Rattle.delaunay_location.specs.plane_theorems.Segments.Constraints.{AreNextOn, ArePlacedApart}
-use Rattle.delaunay_location.proofs.plane_theorems.Segments.Crossing.EitherWay.{one_point}
-use Rattle.delaunay_location.proofs.plane_theorems.Segments.Items.Orders.{nearer-same_first}
-use Rattle.delaunay_location.proofs.plane_theorems.Segments.Items.Orders.{nearer-same_second}
-use Rattle.delaunay_location.proofs.plane_theorems.Segments.Constraints.Pieces.{on_parts}
-use Rattle.delaunay_location.specs.delaunay_legalization.Drawn.{drawn, faces_of, outer_of}
-use Rattle.delaunay_location.specs.delaunay_legalization.Known.{point_at}
-use Rattle.delaunay_location.specs.delaunay_legalization.State.{state_of}
-use Rattle.delaunay_location.specs.half_edge_dcel.declared.vertex.VertexHandle.{VertexHandle}
-use Rattle.delaunay_location.specs.declared.intersection.Intersection.{Intersection}
-use Rattle.delaunay_location.specs.declared.intersection.Intersection.TheVariants.{VertexIntersection}
-use Rattle.delaunay_location.specs.declared.iterator.LineIntersectionIterator.{LineIntersectionIterator}
-use Rattle.delaunay_location.specs.Items.{item_in}
-use Rattle.delaunay_location.specs.Walk.{GivesNext, IsReady, WalksLine}
-use Rattle.delaunay_edit.proofs.Passing.{HasPassed, all_passed, later_ones, list_with, none_passed}
-use Rattle.delaunay_edit.proofs.Passing.{one_more_passed, passed_kept}
-use Rattle.delaunay_edit.proofs.Places.{no_same_place}
-use Rattle.delaunay_edit.proofs.Walking.{in_map, nested, not_start, not_end, placed_apart}
+use Rattle.plane.specs.{across, along, at_vertex, Fraction, IsBefore, IsLineList, IsNearer, IsSame}
+use Rattle.plane.specs.{IsVertexThenOverlap, Item, OnSegment, place, Point, Triangulation, whole}
+use Rattle.plane.proofs.{end_on_segment, on_of_within, start_on_segment, within_segment_is}
+use Rattle.{half_edge_links.specs.Mesh, plane.specs.WithinSegment}
+use Rattle.plane_theorems.specs.{AreNextOn, ArePlacedApart, IsMesh}
+use Rattle.plane_theorems.proofs.{Contains-head, Contains-none, nearer-same_second, on_parts}
+use Rattle.plane_theorems.proofs.{one_point, Segments.Items.Orders.nearer-same_first}
+use Rattle.plane_theorems.proofs.Delaunay.Points.AlongSegment.{nearer_if, not_both_nearer}
+use Rattle.half_edge_dcel.specs.{Contents, VertexHandle}
+use Rattle.delaunay_legalization.specs.{drawn, faces_of, outer_of, point_at, state_of}
+use Rattle.delaunay_location.specs.{GivesNext, Intersection, IsReady, item_in}
+use Rattle.delaunay_location.specs.{LineIntersectionIterator, VertexIntersection, WalksLine}
+use Rattle.delaunay_edit.proofs.Passing.{all_passed, HasPassed, later_ones, list_with, none_passed}
+use Rattle.delaunay_edit.proofs.{Passing.one_more_passed, Passing.passed_kept, Places.no_same_place}
+use Rattle.delaunay_edit.proofs.Walking.{in_map, nested, not_end, not_start, placed_apart}
 
 -- strictly within a segment is nearer than its end
 within_is_nearer : (p q x : Fraction) → ¬ IsSame p q → WithinSegment p q x → IsNearer p x q

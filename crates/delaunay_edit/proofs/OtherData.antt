@@ -3,16 +3,11 @@
 use Rattle.std.proofs.Common.{◌≡◌}
 use Rattle.std.proofs.Common.{ℕ, zero, suc, List, length, refl, sym, subst, map, length-set}
 use Rattle.std.proofs.Common.{slice_set}
-use Rattle.delaunay_edit.specs.half_edge_dcel.Contents.{Contents}
-use Rattle.delaunay_edit.specs.half_edge_dcel.Writing.{with_face}
-use Rattle.delaunay_edit.specs.plane.Fraction.{Point}
-use Rattle.delaunay_edit.specs.plane.Delaunay.{IsLocallyDelaunay}
-use Rattle.delaunay_edit.specs.delaunay_legalization.Drawn.{drawn}
-use Rattle.delaunay_edit.specs.delaunay_legalization.Legal.{pairs_at}
-use Rattle.delaunay_edit.specs.delaunay_legalization.Shape.{IsDelaunayTriangulation}
-use Rattle.delaunay_edit.specs.delaunay_legalization.State.{State, state_of}
-use Rattle.delaunay_edit.specs.Counting.{IsCounted}
-use Rattle.delaunay_edit.specs.Writing.{with_face_data}
+use Rattle.plane.specs.{IsLocallyDelaunay, Point}
+use Rattle.half_edge_dcel.specs.{Contents, with_face}
+use Rattle.delaunay_legalization.specs.{drawn, IsDelaunayTriangulation, pairs_at, state_of}
+use Rattle.delaunay_legalization.specs.State.{State}
+use Rattle.delaunay_edit.specs.{IsCounted, with_face_data}
 
 module _ {V D U F : Type 0} (place : V → Point) (constraints : List U → List ℕ)
     (s : State V D U F) where

@@ -4,18 +4,10 @@ use Rattle.std.proofs.Common.{◌≡◌, ◌<◌, ℕ, List, length, map, sym, a
 use Rattle.std.specs.Prelude.{pos}
 use Rattle.std.proofs.lemmas.List.{get_or-map, map-set, set-get_or, length-set, length-map}
 use Rattle.std.proofs.lemmas.List.Elements.{All-set, All-map, All-get_or}
-use Rattle.delaunay_edit.specs.half_edge_dcel.Contents.{Contents}
-use Rattle.delaunay_edit.specs.plane.Fraction.{Point}
-use Rattle.delaunay_edit.specs.plane.Pairs.{Joins}
-use Rattle.delaunay_edit.specs.plane.Plain.{Replaces}
-use Rattle.delaunay_edit.specs.plane.Tests.{InRange}
-use Rattle.delaunay_edit.specs.plane_theorems.Tiling.Local.{IsMesh}
-use Rattle.delaunay_edit.specs.delaunay_legalization.Drawn.{faces_of, outer_of}
-use Rattle.delaunay_edit.specs.delaunay_legalization.Constraints.{constraints_by}
-use Rattle.delaunay_edit.specs.delaunay_legalization.Constraints.{points_and_constraints_by}
-use Rattle.delaunay_edit.specs.delaunay_legalization.Known.{point_at}
-use Rattle.delaunay_edit.specs.delaunay_legalization.Shape.{IsTriangulated}
-use Rattle.delaunay_edit.specs.delaunay_legalization.State.{State, state_of}
+use Rattle.plane.specs.{InRange, Joins, Point, Replaces}
+use Rattle.{half_edge_dcel.specs.Contents, plane_theorems.specs.IsMesh}
+use Rattle.delaunay_legalization.specs.{constraints_by, faces_of, IsTriangulated, outer_of}
+use Rattle.delaunay_legalization.specs.{point_at, points_and_constraints_by, State.State, state_of}
 
 -- a vertex overwritten at its own position leaves all positions
 pub same_places : {V : Type 0} (at : V → Point) (vs : List V) (i : ℕ) (v : V)

@@ -5,12 +5,11 @@ use Rattle.std.proofs.Common.{ℕ, suc, List, length, refl, sym, ap, subst, inl,
 use Rattle.std.specs.Prelude.{Contains, All}
 use Rattle.std.proofs.lemmas.List.Elements.{All-contains_itself}
 use Rattle.std.proofs.lemmas.List.Kept.{AllPairs-cons}
-use Rattle.delaunay_edit.specs.plane.Pairs.{Joins, IsSamePair, AreDifferent, EachPairOnce}
-use Rattle.delaunay_edit.proofs.plane.Indexes.{turned_join}
-use Rattle.delaunay_edit.proofs.plane_theorems.Delaunay.Points.Members.{Member, member, contained}
-use Rattle.delaunay_edit.proofs.plane_theorems.Delaunay.Floods.FloodRules.{flood_is_bounded}
-use Rattle.delaunay_edit.proofs.delaunay_legalization_lemmas.EdgePairs.{no_joins}
-use Rattle.delaunay_edit.specs.Counting.{HasPairs}
+use Rattle.plane.specs.{AreDifferent, EachPairOnce, IsSamePair, Joins}
+use Rattle.plane.proofs.{turned_join}
+use Rattle.plane_theorems.proofs.Delaunay.Floods.FloodRules.{flood_is_bounded}
+use Rattle.plane_theorems.proofs.Delaunay.Points.Members.{contained, Member, member}
+use Rattle.{delaunay_edit.specs.HasPairs, delaunay_legalization.proofs.no_joins}
 
 -- ---- the number is one
 -- lists that join the same vertices, each pair once, are equally long

@@ -8,34 +8,20 @@ use Rattle.std.specs.Prelude.{ℤ, pos, ◌-ℤ◌, ◌*ℤ◌, ◌<ℤ◌, ◌�
 use Rattle.std.proofs.lemmas.Bool.{cases_eq}
 use Rattle.std.proofs.lemmas.Int.{ints}
 use Rattle.std.proofs.lemmas.List.Elements.{Contains-append_cases, Contains-push_cases}
-use Rattle.delaunay_location.specs.half_edge_links.Mesh.{Mesh}
-use Rattle.delaunay_location.specs.plane.Circle.{IsNearer}
-use Rattle.delaunay_location.specs.plane.Fraction.{Point, whole, IsSame, OnSegment, WithinSegment}
-use Rattle.delaunay_location.specs.plane.Line.{Item, IsLineList, IsBefore, IsVertexThenOverlap}
-use Rattle.delaunay_location.specs.plane.Line.{at_vertex, across, along}
-use Rattle.delaunay_location.specs.plane.Pairs.{IsIndex, place}
-use Rattle.delaunay_location.specs.plane.Tiling.{Triangulation}
-use Rattle.delaunay_location.proofs.plane.Bracket.{bracket, lift}
-use Rattle.delaunay_location.proofs.plane.BracketIdentities.{bracket-last}
-use Rattle.delaunay_location.proofs.plane.Collinear.{place_on, place_of_start, same_by_places}
-use Rattle.delaunay_location.proofs.plane.IntegerOrder.{trichotomy_ℤ}
-use Rattle.delaunay_location.proofs.plane.LineOrder.{IsBetween, place_within, within_places}
-use Rattle.delaunay_location.proofs.plane.Segments.{reach, on_segment_is, on_of_within}
-use Rattle.delaunay_location.proofs.plane.Segments.{start_on_segment, end_on_segment}
-use Rattle.delaunay_location.proofs.plane.Signs.{same_is_at_most}
-use Rattle.delaunay_location.proofs.plane.Solver.{num, ◌⊕◌, ◌⊖◌, ◌⊗◌, ring_in}
-use Rattle.delaunay_location.proofs.plane_theorems.Delaunay.Points.AlongSegment.{reach_less}
-use Rattle.delaunay_location.specs.plane_theorems.Edits.Legal.{point_of}
-use Rattle.delaunay_location.specs.plane_theorems.Segments.Constraints.{AreNextOn, ArePlacedApart}
-use Rattle.delaunay_location.proofs.plane_theorems.Segments.Constraints.Pieces.{on_of_mean}
-use Rattle.delaunay_location.proofs.plane_theorems.Segments.Items.Orders.{nearer-same_first}
-use Rattle.delaunay_location.proofs.plane_theorems.Segments.Items.Orders.{nearer-same_second}
-use Rattle.delaunay_location.proofs.plane_theorems.Tiling.Totals.{Contains-none}
-use Rattle.delaunay_location.specs.delaunay_legalization.Drawn.{drawn}
-use Rattle.delaunay_location.proofs.delaunay_legalization_lemmas.WorkLists.{contains_before}
-use Rattle.delaunay_location.proofs.delaunay_legalization_lemmas.WorkLists.{contains_last}
-use Rattle.delaunay_edit.proofs.Passing.{earlier_ones, later_ones}
-use Rattle.delaunay_edit.proofs.Places.{no_same_place}
+use Rattle.plane.specs.{across, along, at_vertex, IsBefore, IsIndex, IsLineList, IsNearer, IsSame}
+use Rattle.plane.specs.{IsVertexThenOverlap, Item, OnSegment, place, Point, Triangulation, whole}
+use Rattle.plane.proofs.{◌⊕◌, ◌⊖◌, ◌⊗◌, bracket, bracket-last, end_on_segment, IsBetween, lift, num}
+use Rattle.plane.proofs.{on_of_within, on_segment_is, place_of_start, place_on, place_within, reach}
+use Rattle.plane.proofs.{ring_in, same_by_places, same_is_at_most, start_on_segment, trichotomy_ℤ}
+use Rattle.{plane.proofs.within_places, plane.specs.WithinSegment}
+use Rattle.plane_theorems.specs.{AreNextOn, ArePlacedApart, point_of}
+use Rattle.plane_theorems.proofs.{Contains-none, nearer-same_second}
+use Rattle.plane_theorems.proofs.Delaunay.Points.AlongSegment.{reach_less}
+use Rattle.plane_theorems.proofs.Segments.Constraints.Subconstraints.{on_of_mean}
+use Rattle.plane_theorems.proofs.Segments.Items.Orders.{nearer-same_first}
+use Rattle.{delaunay_legalization.specs.drawn, half_edge_links.specs.Mesh}
+use Rattle.delaunay_legalization.proofs.{contains_before, contains_last}
+use Rattle.delaunay_edit.proofs.{Passing.earlier_ones, Passing.later_ones, Places.no_same_place}
 
 -- how far a whole point is on the way, in either form
 reach_is_place : (u v z : Point) → reach (whole u) (whole v) (whole z) ≡ place_on u v (lift z)

@@ -7,17 +7,12 @@ use Rattle.std.proofs.Common.{arith, inl, inr}
 use Rattle.std.specs.Prelude.{ℤ, Contains, AllPairs}
 use Rattle.std.specs.Borrow.{Bor}
 use Rattle.std.proofs.lemmas.List.Elements.{Contains-append_left}
-use Rattle.delaunay_location.specs.half_edge_dcel.Contents.{Contents}
-use Rattle.delaunay_location.specs.plane.Fraction.{Point, whole}
-use Rattle.delaunay_location.specs.plane.Line.{Item, IsLineList}
-use Rattle.delaunay_location.proofs.plane_theorems.Tiling.Totals.{Contains-cases, Contains-none}
-use Rattle.delaunay_location.proofs.delaunay_legalization_lemmas.WorkLists.{contains_last}
-use Rattle.delaunay_location.specs.delaunay_legalization.Shape.{IsTriangulated}
-use Rattle.delaunay_location.specs.delaunay_legalization.State.{State, state_of, triangulation_of}
-use Rattle.delaunay_location.specs.declared.intersection.Intersection.{Intersection}
-use Rattle.delaunay_location.specs.declared.iterator.LineIntersectionIterator.{LineIntersectionIterator}
-use Rattle.delaunay_location.specs.Items.{item_in}
-use Rattle.delaunay_location.specs.Walk.{AreLeft, GivesNext, IsReady, WalksLine}
+use Rattle.plane.specs.{IsLineList, Item, Point, whole}
+use Rattle.plane_theorems.proofs.{Contains-cases, Contains-none}
+use Rattle.delaunay_legalization.specs.{IsTriangulated, State.State, state_of, triangulation_of}
+use Rattle.{delaunay_legalization.proofs.contains_last, half_edge_dcel.specs.Contents}
+use Rattle.delaunay_location.specs.{AreLeft, GivesNext, Intersection, IsReady, item_in}
+use Rattle.delaunay_location.specs.{LineIntersectionIterator, WalksLine}
 
 -- each later one of a list in an order comes after the one in the middle
 pub later_ones : {X : Type 0} (R : X → X → Type 0) (passed : List X) (k : X) (others : List X) →
@@ -107,4 +102,4 @@ pub passed_kept : {V D U F P S : Type 0} {at : V → Point} {number : S → ℤ}
     {now : LineIntersectionIterator V D U F P S}
     → HasPassed at number IsSite IsCovered s p q passed now → IsTriangulated at s
 passed_kept {at = at} so_far =
-    subst (IsTriangulated at) so_far.state so_far.ready.over.placed.kept
+    subst (IsTriangulated at) so_far.state so_far.ready.over.embedding.kept

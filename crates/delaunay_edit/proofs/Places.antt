@@ -4,26 +4,20 @@ use Rattle.std.proofs.Common.{◌≡◌, ◌≢◌, ◌↔◌, ℕ, ◌<◌, Lis
 use Rattle.std.proofs.Common.{sym, inl, inr}
 use Rattle.std.specs.Prelude.{ℤ, pos, ◌+ℤ◌, ◌-ℤ◌, ◌*ℤ◌, ◌<ℤ◌}
 use Rattle.std.proofs.lemmas.Int.{ints}
-use Rattle.delaunay_location.specs.plane.Fraction.{Point, whole, IsSame}
-use Rattle.delaunay_location.specs.plane.Circle.{gap}
-use Rattle.delaunay_location.specs.plane.Laws.{squared_way}
-use Rattle.delaunay_location.specs.plane.Pairs.{place}
-use Rattle.delaunay_location.specs.plane.Side.{side, on, right}
-use Rattle.delaunay_location.proofs.plane.Solver.{◌⊖◌, ◌⊗◌, ring_in}
-use Rattle.delaunay_location.specs.plane_theorems.Segments.Constraints.{ArePlacedApart}
-use Rattle.delaunay_location.specs.plane_theorems.Segments.Path.{ComesAfterOnRight}
-use Rattle.delaunay_location.proofs.plane_theorems.Segments.Crossing.EitherWay.{one_point}
-use Rattle.delaunay_location.specs.delaunay_legalization.Known.{point_at}
+use Rattle.plane.specs.{gap, IsSame, on, place, Point, right, side, squared_vector, whole}
+use Rattle.plane.proofs.{◌⊖◌, ◌⊗◌, ring_in}
+use Rattle.plane_theorems.specs.{ArePlacedApart, ComesAfterOnRight}
+use Rattle.{delaunay_legalization.specs.point_at, plane_theorems.proofs.one_point}
 
 -- the squared distance of two points
-gap_is_way : (p q : Point) → gap (whole p) (whole q) ≡ squared_way p q
+gap_is_way : (p q : Point) → gap (whole p) (whole q) ≡ squared_vector p q
 gap_is_way p q = λ i. one p.x q.x i *ℤ one p.x q.x i +ℤ one p.y q.y i *ℤ one p.y q.y i
   where
     one : (a b : ℤ) → b *ℤ pos 1 -ℤ a *ℤ pos 1 ≡ b -ℤ a
     one a b = omega (arith, ints)
 
 -- the same, with the points in the other order
-pub gap_is_way_back : (p q : Point) → gap (whole p) (whole q) ≡ squared_way q p
+pub gap_is_way_back : (p q : Point) → gap (whole p) (whole q) ≡ squared_vector q p
 gap_is_way_back p q = gap_is_way p q ∙ (λ i. turned_square p.x q.x i +ℤ turned_square p.y q.y i)
   where
     turned_square : (a b : ℤ) → (b -ℤ a) *ℤ (b -ℤ a) ≡ (a -ℤ b) *ℤ (a -ℤ b)
@@ -33,7 +27,7 @@ gap_is_way_back p q = gap_is_way p q ∙ (λ i. turned_square p.x q.x i +ℤ tur
 -- what tells that q is nearer to p than r is tells it by squared distances in either form
 nearer_by : (p q r : Point) (T : Type 0) → T
     ↔ (gap (whole p) (whole q) <ℤ gap (whole p) (whole r)) → T
-    ↔ (squared_way p q <ℤ squared_way p r)
+    ↔ (squared_vector p q <ℤ squared_vector p r)
 nearer_by p q r T w =
     subst (λ (x : ℤ × ℤ). T ↔ (x.0 <ℤ x.1)) (λ i. (gap_is_way p q i, gap_is_way p r i)) w
 

@@ -2,16 +2,11 @@
 -- Lemmas: counted_none, few_counted, counted_released, counted_added.
 use Rattle.std.proofs.Common.{◌≡◌, ◌+◌, ◌-◌, ◌*◌, ◌≤◌, []}
 use Rattle.std.proofs.Common.{ℕ, Bool, List, length, map, sym, ap, arith}
-use Rattle.delaunay_edit.specs.plane.Fraction.{Point}
-use Rattle.delaunay_edit.specs.plane.Pairs.{EachPairOnce}
-use Rattle.delaunay_edit.specs.half_edge_dcel.Contents.{Contents}
-use Rattle.delaunay_edit.specs.half_edge_links.Mesh.{origin, rev}
-use Rattle.delaunay_edit.specs.delaunay_legalization.Constraints.{constraints_by, marked_edges}
-use Rattle.delaunay_edit.specs.delaunay_legalization.Constraints.{points_and_constraints_by}
-use Rattle.delaunay_edit.specs.delaunay_legalization.Shape.{IsDelaunayTriangulation}
-use Rattle.delaunay_edit.specs.delaunay_legalization.State.{State, state_of}
-use Rattle.delaunay_edit.specs.Releasing.{AddsConstraints, ReleasesEdge}
-use Rattle.delaunay_edit.specs.Counting.{HasPairs, IsCounted, IsMissing}
+use Rattle.plane.specs.{EachPairOnce, Point}
+use Rattle.{half_edge_dcel.specs.Contents, half_edge_links.specs.origin, half_edge_links.specs.rev}
+use Rattle.delaunay_legalization.specs.{constraints_by, IsDelaunayTriangulation, marked_edges}
+use Rattle.delaunay_legalization.specs.{points_and_constraints_by, State.State, state_of}
+use Rattle.delaunay_edit.specs.{AddsConstraints, HasPairs, IsCounted, IsMissing, ReleasesEdge}
 use Rattle.delaunay_edit.proofs.DifferentConstraints.{constraints_once, few_constraints}
 use Rattle.delaunay_edit.proofs.EditCounts.{added_number, released_number}
 use Rattle.delaunay_edit.proofs.EditingConstraints.{neighbours_of, next_of}
@@ -54,7 +49,7 @@ module _ {V D U F : Type 0} {place : V → Point} (marks : U → Bool) {constrai
       let counted = was.counted in
       record { legal = releases.legal; counted = omega (arith, fewer, counted) }
 
-  -- a path is added, of which so many pieces were none
+  -- a path is added, of which so many subconstraints were none
   pub counted_added : {mark : U → U} {old new : Contents V D U F} {i j k number : ℕ}
       → IsCounted place constraints (state_of old) number
       → AddsConstraints place marks mark constraints old new i j

@@ -6,37 +6,19 @@ use Rattle.std.proofs.Common.{ℕ, List, length, map, set, sym, ap, subst, inl, 
 use Rattle.std.specs.Prelude.{Bool, false, Contains}
 use Rattle.std.proofs.lemmas.Bool.{cases_eq}
 use Rattle.std.proofs.lemmas.List.{length-set}
-use Rattle.delaunay_location.specs.half_edge_links.Mesh.{Mesh, origin, rev}
-use Rattle.delaunay_location.proofs.half_edge_links_lemmas.Lists.Rev.{rev-rev, rev_within}
-use Rattle.delaunay_location.specs.half_edge_dcel.Contents.{Contents}
-use Rattle.delaunay_location.specs.plane.Fraction.{Point}
-use Rattle.delaunay_location.specs.plane.Pairs.{Joins, IsSamePair}
-use Rattle.delaunay_location.specs.plane.Plain.{points_of, AreNeighboursOn}
-use Rattle.delaunay_location.specs.plane_theorems.Edits.Legal.{AllPassBut}
-use Rattle.delaunay_location.proofs.plane_theorems.Edits.LocalMesh.Changes.{once_none}
-use Rattle.delaunay_location.proofs.plane_theorems.Tiling.Totals.{Contains-head, Contains-none}
-use Rattle.delaunay_location.proofs.plane_theorems.Tiling.Totals.{Contains-cases}
-use Rattle.delaunay_location.specs.delaunay_legalization.Drawn.{faces_of}
-use Rattle.delaunay_location.specs.delaunay_legalization.Legal.{AreEdges, pairs_at}
-use Rattle.delaunay_location.specs.delaunay_legalization.Stays.{KeepsIndexes}
-use Rattle.delaunay_location.proofs.delaunay_legalization_lemmas.MeshLegal.{joins_edge, own_indexes}
-use Rattle.delaunay_location.proofs.delaunay_legalization_lemmas.MeshLegal.{same_joined}
-use Rattle.delaunay_location.proofs.delaunay_legalization_lemmas.WorkLists.{once_after}
-use Rattle.delaunay_location.specs.delaunay_legalization.Constraints.{marked_edges}
-use Rattle.delaunay_location.specs.delaunay_legalization.Constraints.{constraint_pairs}
-use Rattle.delaunay_location.specs.delaunay_legalization.Constraints.{constraints_by}
-use Rattle.delaunay_location.specs.delaunay_legalization.Constraints.{points_and_constraints_by}
-use Rattle.delaunay_location.specs.delaunay_legalization.Marking.{HasEdgeData}
-use Rattle.delaunay_location.specs.delaunay_legalization.Shape.{IsTriangulated}
-use Rattle.delaunay_location.specs.delaunay_legalization.Shape.{IsDelaunayTriangulation}
-use Rattle.delaunay_location.specs.delaunay_legalization.Sides.{AreLeftToTest}
-use Rattle.delaunay_location.specs.delaunay_legalization.State.{state_of}
-use Rattle.delaunay_location.proofs.delaunay_legalization_lemmas.Constraints.{fixed_within}
-use Rattle.delaunay_location.proofs.delaunay_legalization_lemmas.MarkedPairs.{unmarking_leaves}
-use Rattle.delaunay_edit.specs.Leaving.{LeavesToTest}
-use Rattle.delaunay_edit.specs.Adding.{AddsPath, MarksSome}
-use Rattle.delaunay_edit.specs.Releasing.{AddsConstraints, ReleasesEdge}
-use Rattle.delaunay_location.proofs.delaunay_legalization_lemmas.EdgePairs.{rev_of_even}
+use Rattle.plane.specs.{AreNeighboursOn, IsSamePair, Joins, Point, points_of}
+use Rattle.plane.proofs.{same_joined}
+use Rattle.half_edge_links.specs.{Mesh, origin, rev}
+use Rattle.half_edge_links.proofs.{rev-rev, rev_within}
+use Rattle.plane_theorems.proofs.{Contains-cases, Contains-head, Contains-none, once_none}
+use Rattle.{half_edge_dcel.specs.Contents, plane_theorems.specs.AllPassBut}
+use Rattle.delaunay_legalization.specs.{AreEdges, AreLeftToTest, constraint_pairs, constraints_by}
+use Rattle.delaunay_legalization.specs.{faces_of, HasEdgeData, IsDelaunayTriangulation}
+use Rattle.delaunay_legalization.specs.{IsTriangulated, KeepsIndexes, marked_edges, pairs_at}
+use Rattle.delaunay_legalization.specs.{points_and_constraints_by, state_of}
+use Rattle.delaunay_legalization.proofs.{fixed_within, once_after, own_indexes, rev_of_even}
+use Rattle.delaunay_legalization.proofs.{MarkedPairs.unmarking_leaves, MeshLegal.joins_edge}
+use Rattle.delaunay_edit.specs.{AddsConstraints, AddsPath, LeavesToTest, MarksSome, ReleasesEdge}
 
 -- two pairs have the same ends, or not
 pub same_pair_or_not : (a b u v : ℕ) → IsSamePair a b u v ⊎ (¬ IsSamePair a b u v)
@@ -210,7 +192,7 @@ module _ {V D U F : Type 0} {at : V → Point} {marks : U → Bool} {marked : U 
         (λ x. free ((adds.plain.constraints a b).1 (inl x))) untested);
   }
 
-  -- flips after it add its pieces to the constraints
+  -- flips after it add its subconstraints to the constraints
   pub constraints_added : {new : Contents V D U F} → new ≡ record mid { mesh = new.mesh }
       → constraints_by constraints (state_of new) ≡ constraints_by constraints (state_of mid)
       → IsDelaunayTriangulation at constraints (state_of new)

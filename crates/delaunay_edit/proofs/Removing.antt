@@ -5,17 +5,11 @@ use Rattle.std.proofs.Common.{ℕ, List, length, map, Some, sym, ap, subst, arit
 use Rattle.std.specs.Prelude.{All, pos, slice_get, Result, Ok, Err, OnOk, OnErr}
 use Rattle.std.proofs.lemmas.List.{length-map, get_or-map}
 use Rattle.std.proofs.lemmas.Option.{get_or_from_slice_get, slice_get_within}
-use Rattle.delaunay_edit.proofs.half_edge_links_lemmas.Removing.OpenSound.{length-swap_remove}
-use Rattle.delaunay_edit.proofs.half_edge_links_lemmas.Removing.ShrinkTriangles.{map-swap_remove}
-use Rattle.delaunay_edit.specs.half_edge_dcel.Contents.{Contents}
-use Rattle.delaunay_edit.specs.plane.Fraction.{Point}
-use Rattle.delaunay_edit.specs.plane.Plain.{Drops}
-use Rattle.delaunay_edit.specs.delaunay_legalization.Known.{point_at}
-use Rattle.delaunay_edit.specs.delaunay_legalization.Constraints.{constraints_by}
-use Rattle.delaunay_edit.specs.delaunay_legalization.Constraints.{points_and_constraints_by}
-use Rattle.delaunay_edit.specs.delaunay_legalization.State.{State, state_of}
-use Rattle.delaunay_vertices.specs.RemovalData.{KeepsDataOfOthers}
-use Rattle.delaunay_vertices.proofs.Removing.{all_left}
+use Rattle.half_edge_links.proofs.{length-swap_remove, map-swap_remove}
+use Rattle.{half_edge_dcel.specs.Contents, plane.specs.PlainEdits.Drops, plane.specs.Point}
+use Rattle.delaunay_legalization.specs.{constraints_by, point_at, points_and_constraints_by}
+use Rattle.{delaunay_legalization.specs.State.State, delaunay_legalization.specs.state_of}
+use Rattle.{delaunay_vertices.proofs.Removing.all_left, delaunay_vertices.specs.KeepsDataOfOthers}
 
 -- the data that are read at an index have the position that stands there
 pub read_place : {V : Type 0} (place : V → Point) (vs : List V) (i : ℕ) (v : V)

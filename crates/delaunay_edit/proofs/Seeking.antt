@@ -7,22 +7,17 @@ use Rattle.std.proofs.Common.{ℕ, List, Option, length, map, take, refl, sym, s
 use mathlib.Core.Logic.{inl, inr}
 use Rattle.std.specs.Prelude.{Contains}
 use Rattle.std.proofs.lemmas.List.Elements.{Contains-push_cases}
-use Rattle.delaunay_location.specs.half_edge_dcel.Contents.{Contents}
-use Rattle.delaunay_location.specs.half_edge_links.Mesh.{Mesh, next, origin}
-use Rattle.delaunay_location.specs.plane.Fraction.{Point}
-use Rattle.delaunay_location.specs.delaunay_legalization.Known.{point_at}
-use Rattle.delaunay_location.proofs.plane_theorems.Tiling.Totals.{Contains-none}
-use Rattle.delaunay_location.proofs.delaunay_legalization_lemmas.WorkLists.{contains_last}
-use Rattle.delaunay_edit.specs.declared.crossing.CrossingLists.{CrossingLists}
-use Rattle.delaunay_edit.specs.Crossing.{CornersTurn, CrossesFromRight, IsWayBetween, IsWayMade}
-use Rattle.delaunay_edit.specs.Crossing.{TurnsNearer, ahead, behind}
-use Rattle.delaunay_edit.specs.Lists.{AreToTurn, HasAsEdge, IsOnePiece, IsToTurn, KeepRoom}
-use Rattle.delaunay_edit.specs.Lists.{ListOthers}
+use Rattle.half_edge_links.specs.{Mesh, next, origin}
+use Rattle.{half_edge_dcel.specs.Contents, plane.specs.Point, plane_theorems.proofs.Contains-none}
+use Rattle.{delaunay_legalization.proofs.contains_last, delaunay_legalization.specs.point_at}
+use Rattle.delaunay_edit.specs.{ahead, AreToTurn, behind, CrossesFromRight, CrossingLists}
+use Rattle.delaunay_edit.specs.{HasAsEdge, IsOneSubconstraint, KeepRoom, TurnsNearer}
+use Rattle.delaunay_edit.specs.Crossing.{CornersTurn, IsWayBetween, IsWayMade}
+use Rattle.delaunay_edit.specs.Lists.{IsToTurn, ListOthers}
 use Rattle.delaunay_edit.proofs.Making.{edge_if_none_crosses, local}
 use Rattle.delaunay_edit.proofs.MovedEdges.{moved_back, none_taken, none_waits, nothing_left}
 use Rattle.delaunay_edit.proofs.MovedEdges.{others_taken, others_wait, room_on, turn_on}
-use Rattle.delaunay_edit.proofs.Towards.{some_turns_nearer}
-use Rattle.delaunay_edit.proofs.Walking.{AreInMesh, are_in_mesh}
+use Rattle.delaunay_edit.proofs.{Towards.some_turns_nearer, Walking.are_in_mesh, Walking.AreInMesh}
 
 -- ---- the corners
 -- these points are the ends of the segment from i to j and the corners round edge e
@@ -84,7 +79,7 @@ pub seeking_within : {V D U F : Type 0} (at : V → Point) {c : Contents V D U F
     {was now : CrossingLists} → IsSeeking (map at c.vertices) c i j was now
     → (left : List ℕ) (e : ℕ) → now.unseen.items ≡ left ++ e ∷ [] → AreInMesh c i j e
 seeking_within at seeking left e popped =
-    are_in_mesh at seeking.turn.piece (seeking.turn.crossing.all.cross e
+    are_in_mesh at seeking.turn.subconstraint (seeking.turn.crossing.all.cross e
     (inr (subst (λ (xs : List ℕ). Contains xs e) (sym popped) (contains_last left e)))).0
 
 module _ {V D U F : Type 0} {points : List Point} {c : Contents V D U F} {i j : ℕ}
@@ -96,7 +91,7 @@ module _ {V D U F : Type 0} {points : List Point} {c : Contents V D U F} {i j : 
     seeking_takes : new.waiting.items ≡ now.waiting.items → TurnsNearer points c.mesh i j e
         → IsToTurn points c i j e new
     seeking_takes waiting can = record {
-      piece = seeking.turn.piece;
+      subconstraint = seeking.turn.subconstraint;
       nearer = can;
       others = others_taken step e popped waiting seeking.turn.crossing;
     }
@@ -106,7 +101,7 @@ module _ {V D U F : Type 0} {points : List Point} {c : Contents V D U F} {i j : 
         → ¬ TurnsNearer points c.mesh i j e → IsSeeking points c i j was new
     seeking_goes_on pushed cannot = record {
       turn = record {
-        piece = seeking.turn.piece;
+        subconstraint = seeking.turn.subconstraint;
         crossing = others_wait {old = mid} (record { waiting = step.waiting; unseen = refl }) e
             pushed refl taken_out;
       };
@@ -142,12 +137,13 @@ none_left : {V D U F : Type 0} (at : V → Point) {c : Contents V D U F} {i j : 
     {was l : CrossingLists} → was.waiting.items ≡ [] → HaveSeen (map at c.vertices) c i j was l
     → HasAsEdge (map at c.vertices) c i j
 none_left at {c = c} {i = i} {j = j} {l = l} nobody seen = record {
-  whole = piece.whole;
-  edge = edge_if_none_crosses at c piece.whole i j piece.free piece.shape none;
+  whole = subconstraint.whole;
+  edge = edge_if_none_crosses at c subconstraint.whole i j subconstraint.free subconstraint.shape
+      none;
 }
   where
-    piece : IsOnePiece (map at c.vertices) c i j
-    piece = seen.turn.piece
+    subconstraint : IsOneSubconstraint (map at c.vertices) c i j
+    subconstraint = seen.turn.subconstraint
 
     cannot : (h : ℕ) → Contains l.waiting.items h ⊎ Contains l.unseen.items h
         → ¬ TurnsNearer (map at c.vertices) c.mesh i j h
@@ -160,9 +156,10 @@ none_left at {c = c} {i = i} {j = j} {l = l} nobody seen = record {
 
     none : (h : ℕ) → h < length c.directed → ¬ CrossesFromRight (map at c.vertices) c.mesh i j h
     none h within crosses =
-        let e = some_turns_nearer (map at c.vertices) c.mesh piece.whole.valid i j
-        (local at c piece.whole i j piece.free piece.shape h within crosses) piece.free h
-        (subst (λ (n : ℕ). h < n) piece.whole.fits.directed_fit within) crosses in
+        let e = some_turns_nearer (map at c.vertices) c.mesh subconstraint.whole.valid i j
+        (local at c subconstraint.whole i j subconstraint.free subconstraint.shape h within crosses)
+        subconstraint.free h
+        (subst (λ (n : ℕ). h < n) subconstraint.whole.fits.directed_fit within) crosses in
         cannot e.0 (seen.turn.crossing.all.all e.0 e.1 e.2) e.3
 
 -- ---- all that wait are to be seen again

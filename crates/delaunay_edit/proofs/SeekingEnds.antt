@@ -6,22 +6,15 @@ use Rattle.std.proofs.Common.{ℕ, List, length, Some, None, sym, ap, subst, inl
 use Rattle.std.specs.Prelude.{Bool, Contains}
 use Rattle.std.proofs.lemmas.Bool.{cases_eq}
 use Rattle.std.specs.Borrow.{Bor}
-use Rattle.delaunay_edit.specs.half_edge_links.Mesh.{origin, rev}
-use Rattle.delaunay_edit.specs.half_edge_dcel.Contents.{Contents}
-use Rattle.delaunay_edit.specs.half_edge_dcel.Rounds.{GivesRound}
-use Rattle.delaunay_edit.specs.plane.Fraction.{Point}
-use Rattle.delaunay_edit.specs.plane.Pairs.{Joins}
-use Rattle.delaunay_edit.proofs.plane_theorems.Tiling.Totals.{Contains-cases, Contains-none}
-use Rattle.delaunay_edit.specs.delaunay_legalization.Constraints.{marked_edges, constraints_by}
-use Rattle.delaunay_edit.specs.delaunay_legalization.Shape.{IsTriangulated}
-use Rattle.delaunay_edit.specs.delaunay_legalization.State.{state_of}
-use Rattle.delaunay_edit.proofs.delaunay_legalization_lemmas.ConstraintEdges.{constraints_are_edges}
-use Rattle.delaunay_edit.proofs.delaunay_legalization_lemmas.Rounds.{IsLeftOfRound, IsWholeRound}
-use Rattle.delaunay_edit.proofs.delaunay_legalization_lemmas.Rounds.{whole_round, one_less_left}
-use Rattle.delaunay_edit.proofs.delaunay_legalization_lemmas.Rounds.{next_left, none_is_left}
-use Rattle.delaunay_edit.proofs.JoinedPairs.{edge_joins}
+use Rattle.half_edge_links.specs.{origin, rev}
+use Rattle.plane_theorems.proofs.{Contains-cases, Contains-none}
+use Rattle.half_edge_dcel.specs.{Contents, GivesRound}
+use Rattle.delaunay_legalization.specs.{constraints_by, IsTriangulated, marked_edges, state_of}
+use Rattle.delaunay_legalization.proofs.{constraints_are_edges, joins_edge}
+use Rattle.delaunay_legalization.proofs.Rounds.{IsLeftOfRound, IsWholeRound, next_left}
+use Rattle.delaunay_legalization.proofs.Rounds.{none_is_left, one_less_left, whole_round}
 use Rattle.delaunay_edit.specs.Halves.{AreTwoEnds, IsEndBeside, LeadsBeside}
-use Rattle.delaunay_edit.proofs.Edges.{joins_edge}
+use Rattle.{delaunay_edit.proofs.JoinedPairs.edge_joins, plane.specs.Joins, plane.specs.Point}
 
 module _ {V D U F : Type 0} (constraints : List U → List ℕ) (c : Contents V D U F) where
   abbrev pairs_of : List (ℕ × ℕ)

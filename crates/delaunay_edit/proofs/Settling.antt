@@ -5,35 +5,22 @@ use Rattle.std.proofs.Common.{◌≡◌, ◌⊎◌, ◌↔◌, ◌+◌, ◌-◌,
 use Rattle.std.proofs.Common.{ℕ, Bool, List, length, map, Option, Some, None}
 use Rattle.std.proofs.Common.{refl, sym, ap, subst, inl, inr, arith}
 use Rattle.std.specs.Prelude.{IfSome, true}
-use Rattle.delaunay_edit.specs.half_edge_dcel.Contents.{Contents}
-use Rattle.delaunay_edit.specs.half_edge_links.Renames.{moved}
-use Rattle.delaunay_edit.specs.plane.Fraction.{Point}
-use Rattle.delaunay_edit.specs.plane.Pairs.{EachPairOnce, IsSamePair, Joins}
-use Rattle.delaunay_edit.specs.plane.Plain.{AreStraightHalves, Plain, Removes}
-use Rattle.delaunay_edit.proofs.plane.Indexes.{same_joined, turned_join}
-use Rattle.delaunay_edit.specs.plane_theorems.Edits.Legal.{AllPassBut}
-use Rattle.delaunay_edit.specs.delaunay_legalization.Drawn.{faces_of}
-use Rattle.delaunay_edit.specs.delaunay_legalization.Stays.{KeepsIndexes}
-use Rattle.delaunay_edit.specs.delaunay_legalization.Constraints.{constraints_by, marked_edges}
-use Rattle.delaunay_edit.specs.delaunay_legalization.Constraints.{points_and_constraints_by}
-use Rattle.delaunay_edit.specs.delaunay_legalization.Shape.{IsDelaunayTriangulation}
-use Rattle.delaunay_edit.specs.delaunay_legalization.State.{State, state_of}
-use Rattle.delaunay_edit.proofs.delaunay_legalization_lemmas.MarkedPairs.{mark_joins}
-use Rattle.delaunay_edit.specs.Adding.{AddsPath, HasFreeWay}
-use Rattle.delaunay_vertices.specs.RemovalData.{KeepsDataOfOthers}
-use Rattle.delaunay_vertices.specs.Pairs.{pairs_left}
-use Rattle.delaunay_vertices.specs.Removal.{TakesVertexOut}
+use Rattle.plane.specs.{AreStraightHalves, EachPairOnce, IsSamePair, Joins, Plain, Point, Removes}
+use Rattle.{plane.proofs.same_joined, plane.proofs.turned_join, plane_theorems.specs.AllPassBut}
+use Rattle.{half_edge_dcel.specs.Contents, half_edge_links.specs.moved}
+use Rattle.delaunay_legalization.specs.{constraints_by, faces_of, IsDelaunayTriangulation}
+use Rattle.delaunay_legalization.specs.{KeepsIndexes, marked_edges, points_and_constraints_by}
+use Rattle.{delaunay_legalization.specs.State.State, delaunay_legalization.specs.state_of}
+use Rattle.delaunay_vertices.specs.{KeepsDataOfOthers, pairs_left, TakesVertexOut}
 use Rattle.delaunay_vertices.proofs.DataLegalized.{legalized_keeps_others}
-use Rattle.delaunay_edit.specs.Counting.{EndsAt, HasPairs, IsCounted}
-use Rattle.delaunay_edit.specs.Halves.{AreHalvesAt, CanSettle, IsLoss, Settles}
-use Rattle.delaunay_edit.proofs.DifferentConstraints.{constraints_once}
-use Rattle.delaunay_edit.proofs.EditCounts.{removed_number}
+use Rattle.delaunay_edit.specs.{AddsPath, AreHalvesAt, EndsAt, HasFreeWay, HasPairs, IsCounted}
+use Rattle.delaunay_edit.specs.Halves.{CanSettle, IsLoss, Settles}
+use Rattle.delaunay_edit.proofs.{DifferentConstraints.constraints_once, EditCounts.removed_number}
 use Rattle.delaunay_edit.proofs.FarEnds.{can_join, free_way, one_less, plain_before}
 use Rattle.delaunay_edit.proofs.JoinedHalves.{removes_and_joins, removes_without_halves}
-use Rattle.delaunay_edit.proofs.JoiningData.{beside_stays}
-use Rattle.delaunay_edit.proofs.PairCounts.{has_pairs_as, listed_pairs, no_pairs}
-use Rattle.delaunay_edit.proofs.PairCounts.{one_more, same_number}
-use Rattle.delaunay_edit.proofs.Removing.{removed_on}
+use Rattle.delaunay_edit.proofs.{JoiningData.beside_stays, PairCounts.same_number}
+use Rattle.delaunay_edit.proofs.PairCounts.{has_pairs_as, listed_pairs, no_pairs, one_more}
+use Rattle.{delaunay_edit.proofs.Removing.removed_on, delaunay_legalization.proofs.mark_joins}
 
 -- vertex v was taken out of a triangulation with so many constraints, of which so many were lost
 pub record IsTakenOut {V D U F : Type 0} (place : V → Point) (constraints : List U → List ℕ)
@@ -110,15 +97,16 @@ module _ {V D U F : Type 0} (place : V → Point) (marks : U → Bool) (can_mark
           ⊎ IsSamePair c d (moved last v a) (moved last v b))
       pairs_settled a b halves s c d =
           let path = path_now a b s.middle s.path in
-          let piece = (can_join place marks constraints marked old legal mid v value turned takes a
-          b halves).one_piece c d in
+          let subconstraint = (can_join place marks constraints marked old legal mid v value turned
+          takes a
+          b halves).one_subconstraint c d in
           subst (λ (ps : List (ℕ × ℕ)). Joins ps c d
           ↔ (Joins (constraints_by constraints (state_of mid)) c d
           ⊎ IsSamePair c d (moved last v a) (moved last v b))) (sym s.legalizes.constraints) (
             (λ h. elim ((path.plain.constraints c d).0 h)
-                [ inl o ↦ inl o | inr n ↦ inr (piece.0 n) ]),
+                [ inl o ↦ inl o | inr n ↦ inr (subconstraint.0 n) ]),
             (λ h. (path.plain.constraints c d).1
-                (elim h [ inl o ↦ inl o | inr e ↦ inr (piece.1 e) ])),
+                (elim h [ inl o ↦ inl o | inr e ↦ inr (subconstraint.1 e) ])),
           )
 
       -- the vertices are those that the removal left

@@ -6,72 +6,37 @@ use Rattle.std.proofs.Common.{◌≡◌, ◌≢◌, ◌⊎◌, ◌*◌, ◌/◌,
 use Rattle.std.proofs.Common.{ℕ, List, length, refl, sym, ap, subst}
 use mathlib.Core.Logic.{inl, inr}
 use Rattle.std.specs.Prelude.{pos, ◌<ℤ◌, Contains, Some, slice_get}
-use Rattle.delaunay_location.specs.half_edge_links.Mesh.{Mesh, AreSoundLinks, IsValidMesh, origin}
-use Rattle.delaunay_location.specs.half_edge_links.Mesh.{next}
-use Rattle.delaunay_location.specs.half_edge_links.Mesh.{prev, face, rev}
-use Rattle.delaunay_location.specs.half_edge_links.Flip.{IsFlippable, Flips, flipped}
-use Rattle.delaunay_location.specs.half_edge_links.Outline.{KeepsOuter}
-use Rattle.delaunay_location.specs.half_edge_links.Triangles.{FlipsTriangles, triangles}
-use Rattle.delaunay_location.proofs.half_edge_links_lemmas.Faces.FlipLemmas.{flips_is}
-use Rattle.delaunay_location.proofs.half_edge_links_lemmas.Faces.FlipSound.{origin_kept}
-use Rattle.delaunay_location.proofs.half_edge_links_lemmas.Lists.Rev.{rev-rev, rev_within}
-use Rattle.delaunay_location.specs.plane.Fraction.{Point}
-use Rattle.delaunay_location.specs.plane.Pairs.{place, Joins}
-use Rattle.delaunay_location.specs.plane.Side.{side, right, on, opposite, TurnsLeft}
-use Rattle.delaunay_location.specs.plane.Laws.{turn_at}
-use Rattle.delaunay_location.specs.plane.Crossing.{Cross}
-use Rattle.delaunay_location.specs.plane.Tiling.{face as corners, Triangulation, IsFace, IsEdge}
-use Rattle.delaunay_location.specs.plane.Tiling.{TilesHull, vertex}
-use Rattle.delaunay_location.proofs.plane.Areas.{right_if_negative, on_if_zero}
-use Rattle.delaunay_location.proofs.plane.Sides.{side_swapped}
-use Rattle.delaunay_location.proofs.plane.Signs.{opposite_of_negative, opposite_of_positive}
-use Rattle.delaunay_location.proofs.plane.Signs.{opposite_of_zero}
-use Rattle.delaunay_location.proofs.plane.Steps.{left_not_zero}
-use Rattle.delaunay_location.specs.plane_theorems.Tiling.Local.{LocalMesh, IsMesh}
-use Rattle.delaunay_location.proofs.plane_theorems.Tiling.Loops.{mesh_tiles}
-use Rattle.delaunay_location.proofs.plane_theorems.Tiling.Meshes.{meshes_tile}
-use Rattle.delaunay_location.specs.plane_theorems.Edits.Change.{FacesChange}
-use Rattle.delaunay_location.specs.plane_theorems.Edits.Legal.{point_of}
-use Rattle.delaunay_location.proofs.plane_theorems.Edits.LocalMesh.Changes.{each, each_none}
-use Rattle.delaunay_location.proofs.plane_theorems.Edits.LocalMesh.Kept.{flip_kept}
-use Rattle.delaunay_location.specs.plane_theorems.Segments.Measure.{crossing_sum}
-use Rattle.delaunay_location.specs.plane_theorems.Segments.Path.{ComesAfterOnRight}
-use Rattle.delaunay_location.specs.plane_theorems.Segments.Path.{IsFreeOfVertices}
-use Rattle.delaunay_location.specs.plane_theorems.Segments.Path.{IsCrossing, IsLastRight}
-use Rattle.delaunay_location.specs.plane_theorems.Segments.Path.{IsLastLeft}
-use Rattle.delaunay_location.proofs.plane_theorems.Segments.Crossing.Chosen.{chosen_flip_exists}
-use Rattle.delaunay_location.proofs.plane_theorems.Segments.Crossing.EitherWay.{crossing_is_either_way}
-use Rattle.delaunay_location.proofs.plane_theorems.Segments.Crossing.EitherWay.{edge_back}
-use Rattle.delaunay_location.proofs.plane_theorems.Segments.Crossing.PathFlips.{piece_on_line_is_edge}
-use Rattle.delaunay_location.proofs.plane_theorems.Segments.Crossing.Paths.{chosen_flip_is_convex}
-use Rattle.delaunay_location.proofs.plane_theorems.Segments.Crossing.Paths.{uncrossed_is_edge}
-use Rattle.delaunay_location.proofs.plane_theorems.Segments.Crossing.Falling.{Precedes}
-use Rattle.delaunay_location.proofs.plane_theorems.Segments.Crossing.Lowering.{last_x_sooner}
-use Rattle.delaunay_location.proofs.plane_theorems.Segments.Crossing.Lowering.{last_z_sooner}
-use Rattle.delaunay_location.proofs.plane_theorems.Segments.Crossing.Lowering.{turn_lowers}
-use Rattle.delaunay_location.proofs.plane_theorems.Segments.Crossing.Turns.{left_turn, no_turn}
-use Rattle.delaunay_location.proofs.plane_theorems.Segments.Crossing.Turns.{right_turn}
-use Rattle.delaunay_location.proofs.plane_theorems.Segments.Crossing.Turns.{turn-same, turn-swapped}
-use Rattle.delaunay_location.proofs.plane_theorems.Segments.Crossing.Turns.{turn_left}
-use Rattle.delaunay_location.specs.delaunay_legalization.Drawn.{drawn, faces_of, edges_of, outer_of}
-use Rattle.delaunay_location.specs.delaunay_legalization.Stays.{GoSameWay, HasSideIn, StaysBut}
-use Rattle.delaunay_location.proofs.delaunay_legalization_lemmas.FaceChanges.{turned_faces}
-use Rattle.delaunay_location.proofs.delaunay_legalization_lemmas.MeshEdits.{face_before}
-use Rattle.delaunay_location.proofs.delaunay_legalization_lemmas.MeshEdits.{face_behind}
-use Rattle.delaunay_location.proofs.delaunay_legalization_lemmas.MeshEdits.{flipped_faces}
-use Rattle.delaunay_location.proofs.delaunay_legalization_lemmas.MeshLegal.{between_inner}
-use Rattle.delaunay_location.proofs.delaunay_legalization_lemmas.MeshStarFlips.{from_other_side}
-use Rattle.delaunay_location.proofs.delaunay_legalization_lemmas.MeshStays.{halved, stays_none}
-use Rattle.delaunay_location.proofs.delaunay_legalization_lemmas.MeshStays.{stays_turned}
-use Rattle.delaunay_location.proofs.delaunay_legalization_lemmas.OuterChanges.{own_ends, outer_kept}
-use Rattle.delaunay_location.proofs.delaunay_legalization_lemmas.OuterEdges.{listed}
-use Rattle.delaunay_location.proofs.delaunay_legalization_lemmas.OwnEdges.{own_edges}
-use Rattle.delaunay_location.proofs.delaunay_legalization_lemmas.WorkLists.{contains_last}
-use Rattle.delaunay_location.proofs.delaunay_legalization_lemmas.Legalizing.{positive}
-use Rattle.delaunay_edit.specs.Crossing.{ComesSooner, CrossesFromRight, CrossesSegment}
-use Rattle.delaunay_edit.specs.Crossing.{TurnsNearer}
-use Rattle.delaunay_edit.specs.Kept.{KeepsUncrossed, KeepsUncrossedFaces}
-use Rattle.delaunay_location.proofs.delaunay_legalization_lemmas.EdgePairs.{edge_joins, joins_edge}
+use Rattle.plane.specs.{Cross, face as corners, IsEdge, IsFace, Joins, on, opposite, place, Point}
+use Rattle.plane.specs.{right, side, TilesHull, Triangulation, turn_at, TurnsLeft, vertex}
+use Rattle.plane.proofs.{left_not_zero, on_if_zero, opposite_of_negative, opposite_of_positive}
+use Rattle.plane.proofs.{opposite_of_zero, right_if_negative, side_swapped}
+use Rattle.plane.proofs.{turned_join as edge_back}
+use Rattle.half_edge_links.specs.{AreSoundLinks, face, flipped, Flips, FlipsTriangles, IsFlippable}
+use Rattle.half_edge_links.specs.{IsValidMesh, KeepsOuter, Mesh, next, origin, prev, rev, triangles}
+use Rattle.half_edge_links.proofs.{flips_is, origin_kept, rev-rev, rev_within}
+use Rattle.plane_theorems.specs.{ComesAfterOnRight, crossing_sum, FacesChange, IsCrossing}
+use Rattle.plane_theorems.specs.{IsFreeOfVertices, IsLastLeft, IsLastRight, IsMesh, LocalMesh}
+use Rattle.plane_theorems.proofs.{flip_kept, mesh_tiles, meshes_tile}
+use Rattle.plane_theorems.proofs.Edits.LocalMesh.Changes.{each, each_none}
+use Rattle.plane_theorems.proofs.Segments.Crossing.Chosen.{chosen_flip_exists}
+use Rattle.plane_theorems.proofs.Segments.Crossing.EitherWay.{crossing_is_either_way}
+use Rattle.{plane_theorems.proofs.Segments.Crossing.Falling.Precedes, plane_theorems.specs.point_of}
+use Rattle.plane_theorems.proofs.Segments.Crossing.Lowering.{last_x_sooner, last_z_sooner}
+use Rattle.plane_theorems.proofs.Segments.Crossing.Lowering.{turn_lowers}
+use Rattle.plane_theorems.proofs.Segments.Crossing.PathFlips.{subconstraint_on_line_is_edge}
+use Rattle.plane_theorems.proofs.Segments.Crossing.Paths.{chosen_flip_is_convex, uncrossed_is_edge}
+use Rattle.plane_theorems.proofs.Segments.Crossing.Turns.{left_turn, no_turn, right_turn, turn-same}
+use Rattle.plane_theorems.proofs.Segments.Crossing.Turns.{turn-swapped, turn_left}
+use Rattle.delaunay_legalization.specs.{drawn, edges_of, faces_of, GoSameDirection, outer_of}
+use Rattle.delaunay_legalization.specs.Stays.{HasSideIn, StaysBut}
+use Rattle.delaunay_legalization.proofs.{contains_last, edge_joins, face_before, halved, joins_edge}
+use Rattle.delaunay_legalization.proofs.{listed, MeshLegal.between_inner, own_edges, turned_faces}
+use Rattle.delaunay_legalization.proofs.{Legalizing.positive, MeshStarFlips.from_other_side}
+use Rattle.delaunay_legalization.proofs.MeshEdits.{face_behind, flipped_faces}
+use Rattle.delaunay_legalization.proofs.MeshStays.{stays_none, stays_turned}
+use Rattle.delaunay_legalization.proofs.OuterChanges.{outer_kept, own_ends}
+use Rattle.delaunay_edit.specs.{CrossesFromRight, KeepsUncrossed, KeepsUncrossedFaces, TurnsNearer}
+use Rattle.delaunay_edit.specs.Crossing.{ComesSooner, CrossesSegment}
 
 -- ---- the order, by turns
 -- seen from i, what u is before comes after it
@@ -95,7 +60,7 @@ before_if_after i u v (inr h) = inr (
 -- ---- the ends of edges that are not turned
 -- a directed edge keeps its ends where another one, not its reverse, is flipped
 pub others_stay : (m new : Mesh) (e : ℕ) → AreSoundLinks m → IsFlippable m e → Flips m new e
-    → (h : ℕ) → h ≢ e → h ≢ rev e → GoSameWay m h new h
+    → (h : ℕ) → h ≢ e → h ≢ rev e → GoSameDirection m h new h
 others_stay m new e s can f h n t = (
   origin_kept m new e s can f h n t,
   origin_kept m new e s can f
@@ -155,7 +120,7 @@ module _ (points : List Point) (m : Mesh) (s : IsValidMesh m) (i j : ℕ) where
         | inl hull ↦
             uncrossed_is_edge t i j hull free (λ v y c. let h = crossing_at v y c in
             none h.0 h.1 h.4)
-        | inr line ↦ piece_on_line_is_edge t i j line free
+        | inr line ↦ subconstraint_on_line_is_edge t i j line free
       ]
 
   -- ---- an edge that crosses

@@ -2,25 +2,14 @@
 -- Lemmas: here_if_on_vertex, unknown_elsewhere.
 use Rattle.std.proofs.Common.{◌≡◌, ℕ, ◌<◌, length, map, refl, arith}
 use Rattle.std.proofs.lemmas.List.{length-map}
-use Rattle.delaunay_edit.specs.plane.Fraction.{Point, whole}
-use Rattle.delaunay_edit.specs.plane.Location.{Location, on_vertex, no_triangulation, IsLocation}
-use Rattle.delaunay_edit.specs.plane_theorems.Tiling.Laws.{IsSameLocation}
-use Rattle.delaunay_edit.proofs.plane_theorems.Tiling.Locations.{each_point_has_one_location}
-use Rattle.delaunay_edit.specs.delaunay_legalization.Drawn.{faces_of, edges_of, outer_of}
-use Rattle.delaunay_edit.proofs.delaunay_legalization_lemmas.OwnEdges.{own_edges}
-use Rattle.delaunay_edit.specs.delaunay_location.declared.position_in_triangulation.PositionInTriangulation.{PositionInTriangulation}
-use Rattle.delaunay_edit.specs.delaunay_location.declared.position_in_triangulation.PositionInTriangulation.TheVariants.{
-  OnVertex,
-  OnEdge,
-  OnFace,
-  OutsideOfConvexHull,
-  NoTriangulation,
-}
-use Rattle.delaunay_edit.specs.delaunay_legalization.Known.{IsKnown, point_at}
-use Rattle.delaunay_edit.specs.Location.{location_of}
-use Rattle.delaunay_edit.specs.delaunay_legalization.Shape.{IsTriangulated}
-use Rattle.delaunay_edit.specs.delaunay_legalization.State.{State, triangulation_of}
-use Rattle.delaunay_edit.proofs.delaunay_location_lemmas.Locating.{at_vertex, same_point}
+use Rattle.plane.specs.{IsLocation, Location, no_triangulation, on_vertex, Point, whole}
+use Rattle.{plane_theorems.proofs.each_point_has_one_location, plane_theorems.specs.IsSameLocation}
+use Rattle.delaunay_legalization.specs.{edges_of, faces_of, IsKnown, IsTriangulated, outer_of}
+use Rattle.delaunay_legalization.specs.{point_at, State.State, triangulation_of}
+use Rattle.delaunay_legalization.proofs.{own_edges}
+use Rattle.delaunay_location.specs.{location_of, NoTriangulation, OnEdge, OnFace, OnVertex}
+use Rattle.delaunay_location.specs.{OutsideOfConvexHull, PositionInTriangulation}
+use Rattle.delaunay_location.proofs.Locating.{at_vertex, same_point}
 
 module _ {V D U F : Type 0} (at : V → Point) (s : State V D U F) (p : Point) where
   -- a position that is located on a vertex is where this vertex is

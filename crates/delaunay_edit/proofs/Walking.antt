@@ -6,21 +6,13 @@ use mathlib.Core.Logic.{inl, inr}
 use Rattle.std.specs.Prelude.{ℤ, pos, ◌<ℤ◌, All, Contains}
 use Rattle.std.proofs.lemmas.Int.{ints}
 use Rattle.std.proofs.lemmas.List.{length-map}
-use Rattle.delaunay_location.specs.half_edge_dcel.Contents.{Contents}
-use Rattle.delaunay_location.specs.plane.Fraction.{Point, whole, WithinSegment}
-use Rattle.delaunay_location.specs.plane.Tiling.{Face}
-use Rattle.delaunay_location.proofs.plane.Bracket.{lift}
-use Rattle.delaunay_location.proofs.plane.BracketIdentities.{bracket-outer, bracket-last}
-use Rattle.delaunay_location.proofs.plane.Collinear.{place_on, place_of_start, place_of_end}
-use Rattle.delaunay_location.proofs.plane.LineOrder.{IsBetween, place_within, within_places}
-use Rattle.delaunay_location.specs.plane_theorems.Tiling.Local.{IsMesh}
-use Rattle.delaunay_location.proofs.plane_theorems.Tiling.Edges.{within_on}
-use Rattle.delaunay_location.proofs.plane_theorems.Segments.Constraints.Pieces.{on_of_mean}
-use Rattle.delaunay_location.specs.plane_theorems.Segments.Constraints.{ArePlacedApart}
-use Rattle.delaunay_location.proofs.plane.Signs.{less_through}
-use Rattle.delaunay_location.proofs.delaunay_legalization_lemmas.Questions.{covered_in}
-use Rattle.delaunay_edit.specs.Lists.{IsOnePiece}
-use Rattle.delaunay_edit.specs.Turning.{AreCovered}
+use Rattle.plane.specs.{Face, Point, whole, WithinSegment}
+use Rattle.plane.proofs.{bracket-last, bracket-outer, IsBetween, less_through, lift, place_of_end}
+use Rattle.plane.proofs.{place_of_start, place_on, place_within, within_places}
+use Rattle.plane_theorems.specs.{ArePlacedApart, IsMesh}
+use Rattle.plane_theorems.proofs.{Segments.Constraints.Subconstraints.on_of_mean, within_on}
+use Rattle.{delaunay_legalization.proofs.covered_in, half_edge_dcel.specs.Contents}
+use Rattle.delaunay_edit.specs.{IsOneSubconstraint, Turning.AreCovered}
 
 -- ---- points strictly within a segment
 module _ (a b : Point) (apart : ¬ (a ≡ b)) where
@@ -90,13 +82,14 @@ pub record AreInMesh {V D U F : Type 0} (c : Contents V D U F) (i j e : ℕ) : T
   pub from : i < length c.vertices
   pub to : j < length c.vertices
 
--- an edge and the ends of a piece are in the mesh
+-- an edge and the ends of a subconstraint are in the mesh
 pub are_in_mesh : {V D U F : Type 0} (at : V → Point) {c : Contents V D U F} {i j e : ℕ}
-    → IsOnePiece (map at c.vertices) c i j → e < length c.mesh.half_edges → AreInMesh c i j e
-are_in_mesh at {c = c} {i = i} {j = j} {e = e} piece within = record {
-  edge = subst (λ (n : ℕ). e < n) (sym piece.whole.fits.directed_fit) within;
-  from = of_map at c.vertices i piece.free.first;
-  to = of_map at c.vertices j piece.free.second;
+    → IsOneSubconstraint (map at c.vertices) c i j → e < length c.mesh.half_edges → AreInMesh c i j
+    e
+are_in_mesh at {c = c} {i = i} {j = j} {e = e} subconstraint within = record {
+  edge = subst (λ (n : ℕ). e < n) (sym subconstraint.whole.fits.directed_fit) within;
+  from = of_map at c.vertices i subconstraint.free.first;
+  to = of_map at c.vertices j subconstraint.free.second;
 }
 
 -- points of the mesh are covered where all its points are sites

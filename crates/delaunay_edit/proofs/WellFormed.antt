@@ -2,18 +2,14 @@
 -- Lemmas: is_delaunay, well_formed.
 use Rattle.std.proofs.Common.{◌≡◌, ◌≤◌, ℕ, Bool, List, length, map}
 use Rattle.std.proofs.lemmas.List.Elements.{All-map}
-use Rattle.delaunay_edit.specs.half_edge_links.declared.room.TheConstants.{MAX_ELEMENTS}
-use Rattle.delaunay_edit.specs.plane.Fraction.{Point}
-use Rattle.delaunay_edit.specs.plane.Tests.{InRange}
-use Rattle.delaunay_edit.specs.plane.Delaunay.{IsConstrainedDelaunay}
-use Rattle.delaunay_edit.proofs.plane_theorems.Delaunay.Circles.History.{history_free}
-use Rattle.delaunay_edit.specs.delaunay_legalization.Constraints.{marked_edges, constraints_by}
-use Rattle.delaunay_edit.specs.delaunay_legalization.Shape.{IsDelaunayTriangulation}
-use Rattle.delaunay_edit.specs.delaunay_legalization.State.{State, triangulation_of}
-use Rattle.delaunay_edit.proofs.delaunay_legalization_lemmas.Shapes.{laid_out_tiles}
-use Rattle.delaunay_edit.specs.Headline.{IsDelaunay, IsWellFormed}
-use Rattle.delaunay_edit.proofs.Constrained.{plain_with_edges}
-use Rattle.delaunay_edit.proofs.Delaunay.{marked_constrained_delaunay, empty_triple_is_face}
+use Rattle.plane.specs.{InRange, IsConstrainedDelaunay, Point}
+use Rattle.plane_theorems.proofs.Delaunay.Circles.History.{history_free}
+use Rattle.delaunay_legalization.specs.{constraints_by, IsDelaunayTriangulation, marked_edges}
+use Rattle.{delaunay_legalization.specs.State.State, delaunay_legalization.specs.triangulation_of}
+use Rattle.delaunay_legalization.proofs.{laid_out_tiles}
+use Rattle.delaunay_edit.specs.{IsDelaunay, IsWellFormed}
+use Rattle.{delaunay_edit.proofs.Constrained.plain_with_edges, half_edge_links.specs.MAX_ELEMENTS}
+use Rattle.delaunay_edit.proofs.Delaunay.{empty_triple_is_face, marked_constrained_delaunay}
 
 module _ {V D U F : Type 0} (place : V → Point) (marks : U → Bool) (constraints : List U → List ℕ)
     (marked : (ds : List U) → constraints ds ≡ marked_edges marks ds) (s : State V D U F)

@@ -1,15 +1,10 @@
--- What becomes of a triangulation where the pieces of a path between two of its vertices become
--- constraints.
+-- What becomes of a triangulation where the subconstraints of a path between two of its vertices
+-- become constraints.
 use Rattle.std.specs.Prelude.{◌≡◌, ◌⊎◌, ◌<◌}
 use Rattle.std.specs.Prelude.{ℕ, Bool, true, false, List, length, map, Some, slice_get, slice_set}
-use Rattle.delaunay_location.specs.half_edge_dcel.Contents.{Contents}
-use Rattle.delaunay_location.specs.plane.Crossing.{Cross}
-use Rattle.delaunay_location.specs.plane.Fraction.{Point}
-use Rattle.delaunay_location.specs.plane.Pairs.{Joins, place}
-use Rattle.delaunay_location.specs.plane.Plain.{CanAdd, Adds}
-use Rattle.delaunay_location.specs.delaunay_legalization.Constraints.{points_and_constraints_by}
-use Rattle.delaunay_location.specs.delaunay_legalization.Shape.{IsTriangulated}
-use Rattle.delaunay_location.specs.delaunay_legalization.State.{state_of}
+use Rattle.plane.specs.{Adds, CanAdd, Cross, Joins, place, Point}
+use Rattle.half_edge_dcel.specs.{Contents}
+use Rattle.delaunay_legalization.specs.{IsTriangulated, points_and_constraints_by, state_of}
 use Rattle.delaunay_edit.specs.Kept.{KeepsUncrossed, KeepsUncrossedFaces}
 
 -- no pair crosses the segment of i and j
@@ -47,7 +42,7 @@ MarksSome {U = U} marks marked old new =
     (k : ℕ) (d : U) → slice_get old k ≡ Some d → (slice_get new k ≡ Some d) ⊎
     ((marks d ≡ false) × (slice_get new k ≡ Some (marked d)))
 
--- the pieces of the path from i to j became constraints, and what does not cross it stays
+-- the subconstraints of the path from i to j became constraints, and what does not cross it stays
 pub record AddsPath {V D U F : Type 0} (at : V → Point) (marks : U → Bool) (marked : U → U)
     (constraints : List U → List ℕ) (old new : Contents V D U F) (i j : ℕ) : Type 0 where
   pub contents : new ≡ record old { mesh = new.mesh; undirected = new.undirected }

@@ -1,11 +1,13 @@
--- The constraints of a triangulation, which are the edges whose data say so.
+-- The constraints of a triangulation: the edges whose data say that they are.
+-- constraint_edges ds: the undirected edges that are constraints, by the data of all edges
+-- constraints_of s: the pairs of vertices that they join
+-- constrained s: the plain state: the vertices, with these pairs
+-- none: no edge is a constraint, for a triangulation without constraints
+-- IsFree u e: e is no constraint, and has the data u
 use Rattle.std.specs.Prelude.{◌≡◌, ℕ, false, List, []}
-use Rattle.delaunay_edit.specs.plane.Plain.{Plain}
-use Rattle.delaunay_edit.specs.delaunay_legalization.declared.cdt_edge.CdtEdge.{CdtEdge}
-use Rattle.delaunay_edit.specs.delaunay_legalization.CdtEdge.{is_constraint}
-use Rattle.delaunay_edit.specs.delaunay_legalization.Constraints.{marked_edges, constraints_by}
-use Rattle.delaunay_edit.specs.delaunay_legalization.Constraints.{points_and_constraints_by}
-use Rattle.delaunay_edit.specs.delaunay_legalization.State.{State}
+use Rattle.delaunay_legalization.specs.{constraints_by, is_constraint, marked_edges}
+use Rattle.{delaunay_legalization.specs.points_and_constraints_by, plane.specs.Plain}
+use Rattle.delaunay_legalization.specs.{declared.cdt_edge.CdtEdge.CdtEdge, State.State}
 
 -- no edge is a constraint
 abbrev pub none : {U : Type 0} → List U → List ℕ

@@ -3,18 +3,12 @@ use Rattle.std.specs.Prelude.{◌≡◌, ◌≢◌, ◌⊎◌, ◌↔◌, ◌*�
 use Rattle.std.specs.Prelude.{ℕ, Bool, true, false, List, length, map, Some, Result}
 use Rattle.std.specs.Prelude.{Ok, Option, Contains, IsTrue, IfOk, OnOk, OnErr, slice_get, slice_set}
 use Rattle.std.specs.Prelude.{MatchOption, MatchResult}
-use Rattle.delaunay_edit.specs.half_edge_links.Mesh.{origin, rev}
-use Rattle.delaunay_edit.specs.plane.Fraction.{Point}
-use Rattle.delaunay_edit.specs.plane.Pairs.{SamePairs}
-use Rattle.delaunay_edit.specs.plane.Plain.{Adds, CanAdd, Releases}
-use Rattle.delaunay_edit.specs.delaunay_legalization.Stays.{KeepsIndexes}
-use Rattle.delaunay_edit.specs.delaunay_legalization.declared.cdt_edge.CdtEdge.{CdtEdge}
-use Rattle.delaunay_edit.specs.delaunay_legalization.CdtEdge.{is_constraint, with_mark}
-use Rattle.delaunay_edit.specs.delaunay_legalization.State.{State}
-use Rattle.delaunay_edit.specs.Adding.{MarksSome}
-use Rattle.delaunay_edit.specs.PathEdges.{LeadAlong}
+use Rattle.plane.specs.{Adds, CanAdd, Point, Releases, SamePairs}
+use Rattle.half_edge_links.specs.{origin, rev}
+use Rattle.delaunay_legalization.specs.{is_constraint, KeepsIndexes, State.State, with_mark}
+use Rattle.delaunay_legalization.specs.declared.cdt_edge.CdtEdge.{CdtEdge}
+use Rattle.delaunay_edit.specs.{Adding.MarksSome, Headline.AreSites, PathEdges.LeadAlong}
 use Rattle.delaunay_edit.specs.Constrained.{constrained, constraint_edges, constraints_of}
-use Rattle.delaunay_edit.specs.Headline.{AreSites}
 
 -- edges may have been flipped, and some that were no constraints have become such. All other data
 -- stay, each at its index

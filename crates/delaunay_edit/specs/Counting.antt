@@ -1,17 +1,9 @@
 -- How many constraints there are.
 use Rattle.std.specs.Prelude.{◌≡◌, ◌⊎◌, ◌↔◌, ℕ, ◌/◌, List, length, Contains}
-use Rattle.delaunay_edit.specs.plane.Fraction.{Point}
-use Rattle.delaunay_edit.specs.plane.Pairs.{Joins, EachPairOnce}
-use Rattle.delaunay_edit.specs.plane_theorems.Segments.Constraints.{AreNextOn}
-use Rattle.delaunay_edit.specs.delaunay_location.declared.position_in_triangulation.PositionInTriangulation.{PositionInTriangulation}
-use Rattle.delaunay_edit.specs.delaunay_location.declared.position_in_triangulation.PositionInTriangulation.TheVariants.{OnVertex}
-use Rattle.delaunay_edit.specs.delaunay_location.declared.position_in_triangulation.PositionInTriangulation.TheVariants.{OnEdge}
-use Rattle.delaunay_edit.specs.delaunay_location.declared.position_in_triangulation.PositionInTriangulation.TheVariants.{OnFace}
-use Rattle.delaunay_edit.specs.delaunay_location.declared.position_in_triangulation.PositionInTriangulation.TheVariants.{OutsideOfConvexHull}
-use Rattle.delaunay_edit.specs.delaunay_location.declared.position_in_triangulation.PositionInTriangulation.TheVariants.{NoTriangulation}
-use Rattle.delaunay_edit.specs.delaunay_legalization.Constraints.{constraints_by}
-use Rattle.delaunay_edit.specs.delaunay_legalization.Shape.{IsDelaunayTriangulation}
-use Rattle.delaunay_edit.specs.delaunay_legalization.State.{State}
+use Rattle.plane.specs.{EachPairOnce, Joins, Point}
+use Rattle.delaunay_legalization.specs.{constraints_by, IsDelaunayTriangulation, State.State}
+use Rattle.delaunay_location.specs.{NoTriangulation, OnEdge, OnFace, OnVertex, OutsideOfConvexHull}
+use Rattle.{delaunay_location.specs.PositionInTriangulation, plane_theorems.specs.AreNextOn}
 use Rattle.delaunay_vertices.specs.Constraints.{IsOneIf}
 
 -- so many pairs are in this relation: a list has each of them, once
@@ -39,7 +31,7 @@ IsSplitCount constraints ds answer n = IsOneIf (IsOnConstraint constraints ds an
 abbrev pub EndsAt : List (ℕ × ℕ) → ℕ → ℕ → ℕ → Type 0
 EndsAt pairs v a b = Joins pairs a b × ((a ≡ v) ⊎ (b ≡ v))
 
--- a and b are a piece of the path from i to j that is no pair of the list
+-- a and b are a subconstraint of the path from i to j that is no pair of the list
 abbrev pub IsMissing : List Point → List (ℕ × ℕ) → ℕ → ℕ → ℕ → ℕ → Type 0
 IsMissing points pairs i j a b = AreNextOn points i j a b × ¬ Joins pairs a b
 

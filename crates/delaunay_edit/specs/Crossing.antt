@@ -1,13 +1,9 @@
 -- The edges of a mesh that cross the segment between two of its vertices, and which of them can be
 -- turned towards it.
 use Rattle.std.specs.Prelude.{◌≡◌, ◌≢◌, ◌⊎◌, ◌<◌, ℕ, List, length, Option, MatchOption}
-use Rattle.delaunay_location.specs.half_edge_links.Mesh.{Mesh, origin, next, prev, rev}
-use Rattle.delaunay_location.specs.plane.Fraction.{Point, whole}
-use Rattle.delaunay_location.specs.plane.Crossing.{Cross}
-use Rattle.delaunay_location.specs.plane.Pairs.{place}
-use Rattle.delaunay_location.specs.plane.Side.{side, right, TurnsLeft}
-use Rattle.delaunay_location.specs.plane_theorems.Segments.Path.{ComesAfterOnRight}
-use Rattle.delaunay_location.specs.delaunay_legalization.Known.{point_at}
+use Rattle.plane.specs.{Cross, place, Point, right, side, TurnsLeft, whole}
+use Rattle.half_edge_links.specs.{Mesh, next, origin, prev, rev}
+use Rattle.{delaunay_legalization.specs.point_at, plane_theorems.specs.ComesAfterOnRight}
 
 -- directed edge h and the segment from i to j have a point strictly within both
 abbrev pub CrossesSegment : List Point → Mesh → ℕ → ℕ → ℕ → Type 0

@@ -1,9 +1,8 @@
 -- The user's part of the data of edges that may be constraints.
 use Rattle.std.specs.Prelude.{◌≡◌, [], ◌∷◌}
 use Rattle.std.specs.Prelude.{ℕ, zero, suc, false, List, map, refl, slice_set, slice_index_or}
-use Rattle.delaunay_edit.specs.delaunay_legalization.declared.cdt_edge.CdtEdge.{CdtEdge}
-use Rattle.delaunay_edit.specs.delaunay_legalization.CdtEdge.{is_constraint}
-use Rattle.delaunay_edit.specs.delaunay_legalization.Constraints.{marked_from}
+use Rattle.delaunay_legalization.specs.{is_constraint, marked_from}
+use Rattle.delaunay_legalization.specs.declared.cdt_edge.CdtEdge.{CdtEdge}
 
 -- the data of all edges, with another user's part at one
 abbrev pub with_data : {U : Type 0} → List (CdtEdge U) → ℕ → U → List (CdtEdge U)

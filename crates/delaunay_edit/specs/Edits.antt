@@ -3,26 +3,14 @@ use Rattle.std.specs.Prelude.{◌≡◌, ◌↔◌, ◌+◌, ◌*◌, ◌<◌, �
 use Rattle.std.specs.Prelude.{ℕ, Bool, List, length, map, All, IsTrue, Option, None, Some, Result}
 use Rattle.std.specs.Prelude.{Ok, IsOk, IsErrOf, IfOk, OnOk, OnErr, MatchOption}
 use Rattle.std.specs.Prelude.{slice_get, slice_set}
-use Rattle.delaunay_edit.specs.half_edge_links.declared.room.TheConstants.{MAX_ELEMENTS}
-use Rattle.delaunay_edit.specs.plane.Fraction.{Point}
-use Rattle.delaunay_edit.specs.plane.Plain.{Inserts, Removes}
-use Rattle.delaunay_edit.specs.plane.Tests.{InRange}
-use Rattle.delaunay_edit.specs.delaunay_core.declared.math.InsertionError.{InsertionError}
-use Rattle.delaunay_edit.specs.delaunay_core.declared.math.InsertionError.TheVariants.{TooLarge}
-use Rattle.delaunay_edit.specs.delaunay_core.declared.math.InsertionError.TheVariants.{OutOfIndexes}
-use Rattle.delaunay_vertices.specs.Constraints.{SplitsConstraints}
-use Rattle.delaunay_edit.specs.delaunay_legalization.Constraints.{constraints_by}
-use Rattle.delaunay_edit.specs.delaunay_legalization.Constraints.{points_and_constraints_by}
-use Rattle.delaunay_edit.specs.delaunay_legalization.Known.{IsKnown}
-use Rattle.delaunay_edit.specs.delaunay_legalization.Shape.{IsDelaunayTriangulation}
-use Rattle.delaunay_edit.specs.delaunay_legalization.State.{State}
-use Rattle.delaunay_edit.specs.delaunay_location.declared.position_in_triangulation.PositionInTriangulation.{PositionInTriangulation}
-use Rattle.delaunay_vertices.specs.RemovalData.{KeepsDataOfOthers}
-use Rattle.delaunay_edit.specs.Counting.{IsCounted}
-use Rattle.delaunay_edit.specs.Data.{KeepsData}
-use Rattle.delaunay_edit.specs.Headline.{AreSites}
-use Rattle.delaunay_edit.specs.Location.{IsApart, Locates}
-use Rattle.delaunay_edit.specs.Removal.{RemovesAt}
+use Rattle.plane.specs.{InRange, Inserts, Point, Removes}
+use Rattle.half_edge_links.specs.{MAX_ELEMENTS}
+use Rattle.delaunay_core.specs.{InsertionError, OutOfIndexes, TooLarge}
+use Rattle.delaunay_legalization.specs.{constraints_by, IsApart, IsDelaunayTriangulation, IsKnown}
+use Rattle.delaunay_legalization.specs.{points_and_constraints_by, State.State}
+use Rattle.delaunay_location.specs.{Locates, PositionInTriangulation}
+use Rattle.delaunay_vertices.specs.{KeepsData, KeepsDataOfOthers, SplitsConstraints}
+use Rattle.delaunay_edit.specs.{Counting.IsCounted, Headline.AreSites, Removal.RemovesAt}
 
 module _ {V : Type 0} (place : V → Point) (IsSite : Point → Type 0) where
   -- all vertices are sites of the tests, and so is the position of a value, where it is in range

@@ -2,23 +2,11 @@
 use Rattle.std.specs.Prelude.{◌≡◌, ℕ, ◌<◌, ◌≤◌, List, length, map}
 use Rattle.std.specs.List.{range_with_len}
 use Rattle.std.specs.Borrow.{Bor}
-use Rattle.delaunay_edit.specs.half_edge_dcel.Contents.{Contents}
-use Rattle.delaunay_edit.specs.half_edge_links.Mesh.{face}
-use Rattle.delaunay_edit.specs.half_edge_dcel.Left.{each_in}
-use Rattle.delaunay_edit.specs.plane.Fraction.{Point, whole}
-use Rattle.delaunay_edit.specs.plane.Location.{IsLocation}
-use Rattle.delaunay_edit.specs.plane.Shape.{IsNearest}
-use Rattle.delaunay_edit.specs.delaunay_location.declared.position_in_triangulation.PositionInTriangulation.{PositionInTriangulation}
-use Rattle.delaunay_edit.specs.delaunay_location.declared.position_in_triangulation.PositionInTriangulation.TheVariants.{
-  OnVertex,
-  OnEdge,
-  OnFace,
-  OutsideOfConvexHull,
-  NoTriangulation,
-}
-use Rattle.delaunay_edit.specs.delaunay_legalization.State.{State, state_of, triangulation_of}
-use Rattle.delaunay_edit.specs.delaunay_legalization.Known.{point_at}
-use Rattle.delaunay_edit.specs.Location.{location_of}
+use Rattle.plane.specs.{IsLocation, IsNearest, Point, whole}
+use Rattle.{half_edge_dcel.specs.Contents, half_edge_dcel.specs.each_in, half_edge_links.specs.face}
+use Rattle.delaunay_legalization.specs.{point_at, State.State, state_of, triangulation_of}
+use Rattle.delaunay_location.specs.{location_of, NoTriangulation, OnEdge, OnFace, OnVertex}
+use Rattle.delaunay_location.specs.{OutsideOfConvexHull, PositionInTriangulation}
 
 -- the given are elements of a triangulation in this state: so many, by rising index from first on
 pub record GivesElements {V D U F : Type 0} (s : State V D U F) (first count : ℕ)

@@ -3,23 +3,14 @@
 use Rattle.std.specs.Prelude.{◌≡◌, ◌≢◌, ◌⊎◌, ◌*◌, ◌/◌, ◌≤◌}
 use Rattle.std.specs.Prelude.{ℕ, Bool, true, List, length, map, Option, MatchOption, IfSome}
 use Rattle.std.specs.Prelude.{Contains}
-use Rattle.delaunay_edit.specs.half_edge_dcel.Contents.{Contents}
-use Rattle.delaunay_edit.specs.half_edge_links.Mesh.{origin, rev}
-use Rattle.delaunay_edit.specs.half_edge_links.Renames.{moved}
-use Rattle.delaunay_edit.specs.plane.Fraction.{Point}
-use Rattle.delaunay_edit.specs.plane.Pairs.{Joins}
-use Rattle.delaunay_edit.specs.plane.Plain.{AreStraightHalves, Plain}
-use Rattle.delaunay_edit.specs.plane_theorems.Edits.Legal.{AllPassBut}
-use Rattle.delaunay_edit.specs.delaunay_legalization.Drawn.{faces_of}
-use Rattle.delaunay_edit.specs.delaunay_legalization.Constraints.{constraints_by}
-use Rattle.delaunay_edit.specs.delaunay_legalization.Legalized.{Legalizes}
-use Rattle.delaunay_edit.specs.delaunay_legalization.Shape.{IsTriangulated}
-use Rattle.delaunay_edit.specs.delaunay_legalization.State.{state_of}
+use Rattle.plane.specs.{AreStraightHalves, Joins, Plain, Point}
+use Rattle.half_edge_links.specs.{moved, origin, rev}
+use Rattle.{half_edge_dcel.specs.Contents, plane_theorems.specs.AllPassBut}
+use Rattle.delaunay_legalization.specs.{constraints_by, faces_of, IsTriangulated, Legalizes}
+use Rattle.{delaunay_legalization.specs.state_of, delaunay_vertices.specs.pairs_left}
 use Rattle.delaunay_edit.specs.Adding.{AddsPath, HasFreeWay}
-use Rattle.delaunay_edit.specs.Lists.{HaveRoom}
-use Rattle.delaunay_edit.specs.declared.crossing.CrossingLists.{CrossingLists}
-use Rattle.delaunay_vertices.specs.Pairs.{pairs_left}
 use Rattle.delaunay_edit.specs.Counting.{EndsAt, HasPairs}
+use Rattle.delaunay_edit.specs.{declared.crossing.CrossingLists.CrossingLists, Lists.HaveRoom}
 
 -- ---- the search for them
 -- directed edge h is a constraint that ends at neither a nor b

@@ -1,17 +1,10 @@
 -- What holds of each triangulation between edits.
 use Rattle.std.specs.Prelude.{◌≡◌, ℕ, ◌≤◌, List, [], length, map, All}
-use Rattle.delaunay_edit.specs.half_edge_links.declared.room.TheConstants.{MAX_ELEMENTS}
-use Rattle.delaunay_edit.specs.plane.Fraction.{Point}
-use Rattle.delaunay_edit.specs.plane.Plain.{IsPlain}
-use Rattle.delaunay_edit.specs.plane.Tests.{InRange}
-use Rattle.delaunay_edit.specs.plane.Tiling.{IsTiling, IsFace}
-use Rattle.delaunay_edit.specs.plane.Delaunay.{IsConstrainedDelaunay, IsLocallyDelaunay}
-use Rattle.delaunay_edit.specs.plane.Delaunay.{IsStrictlyEmpty}
-use Rattle.delaunay_edit.specs.plane_theorems.Delaunay.History.{IsHistoryFree}
-use Rattle.delaunay_edit.specs.delaunay_legalization.Constraints.{constraints_by}
-use Rattle.delaunay_edit.specs.delaunay_legalization.Constraints.{points_and_constraints_by}
-use Rattle.delaunay_edit.specs.delaunay_legalization.Shape.{IsTriangulated}
-use Rattle.delaunay_edit.specs.delaunay_legalization.State.{State, triangulation_of}
+use Rattle.plane.specs.{InRange, IsConstrainedDelaunay, IsFace, IsLocallyDelaunay, IsPlain}
+use Rattle.plane.specs.{IsStrictlyEmpty, IsTiling, Point}
+use Rattle.{half_edge_links.specs.MAX_ELEMENTS, plane_theorems.specs.IsHistoryFree}
+use Rattle.delaunay_legalization.specs.{constraints_by, IsTriangulated, points_and_constraints_by}
+use Rattle.{delaunay_legalization.specs.State.State, delaunay_legalization.specs.triangulation_of}
 
 -- this is the constrained Delaunay triangulation of its points with its constraints: the faces tile
 -- the hull; the constraints are edges, and no face has a vertex strictly inside its circle that is

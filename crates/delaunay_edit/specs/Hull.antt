@@ -1,10 +1,8 @@
 -- How many edges the hull has.
 use Rattle.std.specs.Prelude.{◌≡◌, ◌≢◌, ◌↔◌, ◌+◌, ◌-◌, ◌*◌, ◌<◌}
 use Rattle.std.specs.Prelude.{ℕ, List, length, Contains, AllPairs}
-use Rattle.delaunay_edit.specs.plane.Fraction.{Point}
-use Rattle.delaunay_edit.specs.plane.Tiling.{Triangulation}
-use Rattle.delaunay_edit.specs.plane.Location.{IsOuter}
-use Rattle.delaunay_edit.specs.delaunay_legalization.State.{State, triangulation_of}
+use Rattle.plane.specs.{IsOuter, Point, Triangulation}
+use Rattle.{delaunay_legalization.specs.State.State, delaunay_legalization.specs.triangulation_of}
 
 -- so many directed edges have the outer face on their left: a list has each of them, once, and no
 -- other

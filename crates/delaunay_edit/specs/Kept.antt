@@ -1,17 +1,14 @@
 -- What stays where a segment between two vertices is made an edge.
 use Rattle.std.specs.Prelude.{◌≡◌, ℕ, List, Some, slice_get}
-use Rattle.delaunay_location.specs.half_edge_links.Mesh.{Mesh}
-use Rattle.delaunay_location.specs.half_edge_links.Triangles.{Triangle, triangles}
-use Rattle.delaunay_location.specs.plane.Crossing.{Cross}
-use Rattle.delaunay_location.specs.plane.Fraction.{Point}
-use Rattle.delaunay_location.specs.plane.Pairs.{place}
-use Rattle.delaunay_location.specs.delaunay_legalization.Stays.{GoSameWay}
+use Rattle.plane.specs.{Cross, place, Point}
+use Rattle.half_edge_links.specs.{Mesh, Triangle, triangles}
+use Rattle.delaunay_legalization.specs.{GoSameDirection}
 use Rattle.delaunay_edit.specs.Crossing.{CrossesSegment}
 
 -- each edge that does not cross the segment from i to j joins what it joined, under its index
 abbrev pub KeepsUncrossed : List Point → Mesh → Mesh → ℕ → ℕ → Type 0
 KeepsUncrossed points old new i j =
-    (h : ℕ) → ¬ CrossesSegment points old i j h → GoSameWay old h new h
+    (h : ℕ) → ¬ CrossesSegment points old i j h → GoSameDirection old h new h
 
 -- each inner face with no side that crosses the segment from i to j has its corners, under its
 -- index

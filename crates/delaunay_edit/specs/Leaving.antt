@@ -1,17 +1,9 @@
 -- What a path leaves to the circle test.
 use Rattle.std.specs.Prelude.{◌≡◌, ◌⊎◌, ℕ, ◌<◌, ◌≤◌, List, length}
-use Rattle.delaunay_location.specs.half_edge_dcel.Contents.{Contents}
-use Rattle.delaunay_location.specs.half_edge_links.Mesh.{Mesh}
-use Rattle.delaunay_location.specs.plane.Crossing.{Cross}
-use Rattle.delaunay_location.specs.plane.Fraction.{Point}
-use Rattle.delaunay_location.specs.plane.Pairs.{place, Joins}
-use Rattle.delaunay_location.specs.plane.Tiling.{Face}
-use Rattle.delaunay_location.specs.plane_theorems.Edits.Change.{IsFaceOf}
-use Rattle.delaunay_location.specs.plane_theorems.Edits.Legal.{AllPassBut, Pass}
-use Rattle.delaunay_location.specs.plane_theorems.Tiling.Local.{IsMesh}
-use Rattle.delaunay_location.specs.plane_theorems.Segments.Measure.{crossing_sum}
-use Rattle.delaunay_location.specs.delaunay_legalization.Drawn.{faces_of, outer_of}
-use Rattle.delaunay_location.specs.delaunay_legalization.Legal.{AreEdges, pairs_at}
+use Rattle.plane.specs.{Cross, Face, Joins, place, Point}
+use Rattle.plane_theorems.specs.{AllPassBut, crossing_sum, IsFaceOf, IsMesh, Pass}
+use Rattle.{half_edge_dcel.specs.Contents, half_edge_links.specs.Mesh}
+use Rattle.delaunay_legalization.specs.{AreEdges, faces_of, outer_of, pairs_at}
 use Rattle.delaunay_edit.specs.Kept.{KeepsUncrossed, KeepsUncrossedFaces}
 
 -- the segment from i to j crosses a side of the face a b k

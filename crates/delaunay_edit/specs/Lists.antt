@@ -1,17 +1,12 @@
 -- The lists of the edges that cross a segment, while they are turned.
 use Rattle.std.specs.Prelude.{◌≡◌, ◌≢◌, ◌⊎◌, ◌+◌, ◌≤◌, ℕ, List, length, AllPairs, Contains}
 use Rattle.std.specs.Prelude.{vec_capacity}
-use Rattle.delaunay_location.specs.half_edge_dcel.Contents.{Contents, IsMeshWithData}
-use Rattle.delaunay_location.specs.half_edge_links.Mesh.{Mesh}
-use Rattle.delaunay_location.specs.plane.Fraction.{Point}
-use Rattle.delaunay_location.specs.plane.Tiling.{IsEdge}
-use Rattle.delaunay_location.specs.plane_theorems.Tiling.Local.{IsMesh}
-use Rattle.delaunay_location.specs.plane_theorems.Segments.Constraints.{AreNextOn}
-use Rattle.delaunay_location.specs.plane_theorems.Segments.Path.{IsFreeOfVertices}
-use Rattle.delaunay_location.specs.delaunay_legalization.Drawn.{drawn, faces_of, outer_of}
-use Rattle.delaunay_edit.specs.declared.crossing.CrossingLists.{CrossingLists}
+use Rattle.{half_edge_links.specs.Mesh, plane.specs.IsEdge, plane.specs.Point}
+use Rattle.plane_theorems.specs.{AreNextOn, IsFreeOfVertices, IsMesh}
+use Rattle.half_edge_dcel.specs.{Contents, IsMeshWithData}
+use Rattle.delaunay_legalization.specs.{drawn, faces_of, outer_of}
 use Rattle.delaunay_edit.specs.Crossing.{AreAllCrossing, AreOthersCrossing, TurnsNearer}
-use Rattle.delaunay_edit.specs.Leaving.{TurnsTowards}
+use Rattle.delaunay_edit.specs.{declared.crossing.CrossingLists.CrossingLists, Leaving.TurnsTowards}
 
 -- these lists have no entry twice, and none in both
 pub record AreOnce (waiting unseen : List ℕ) : Type 0 where
@@ -57,21 +52,23 @@ pub record ListCrossing (points : List Point) (m : Mesh) (i j : ℕ)
 
 -- the segment from i to j has no vertex strictly within; the mesh is one of the points, and has all
 -- its data
-pub record IsOnePiece {V D U F : Type 0} (points : List Point) (c : Contents V D U F)
+pub record IsOneSubconstraint {V D U F : Type 0} (points : List Point) (c : Contents V D U F)
     (i j : ℕ) : Type 0 where
   pub whole : IsMeshWithData c
   pub free : IsFreeOfVertices (drawn points c.mesh) i j
   pub shape : IsMesh points (faces_of c.mesh) (outer_of c.mesh)
 
--- the segment is one piece, and the entries are the directed edges that cross it from the right
+-- the segment is one subconstraint, and the entries are the directed edges that cross it from the
+-- right
 pub record AreToTurn {V D U F : Type 0} (points : List Point) (c : Contents V D U F) (i j : ℕ)
     (l : CrossingLists) : Type 0 where
-  pub piece : IsOnePiece points c i j
+  pub subconstraint : IsOneSubconstraint points c i j
   pub crossing : ListCrossing points c.mesh i j l
 
--- vertex v ends the first piece of the path from i to j, and the entries are those that cross this
--- piece
-pub record ListPiece {V D U F : Type 0} (points : List Point) (c : Contents V D U F) (i j v : ℕ)
+-- vertex v ends the first subconstraint of the path from i to j, and the entries are those that
+-- cross this subconstraint
+pub record ListSubconstraint {V D U F : Type 0} (points : List Point) (c : Contents V D U F)
+    (i j v : ℕ)
     (l : CrossingLists) : Type 0 where
   pub next : AreNextOn points i j i v
   pub turn : AreToTurn points c i v l
@@ -83,11 +80,11 @@ pub record ListOthers (points : List Point) (m : Mesh) (i j e : ℕ)
   pub room : HaveRoom (length l.waiting.items + length l.unseen.items + 1) l
   pub others : AreOthersCrossing points m i j e (HasEntry l)
 
--- directed edge e crosses the piece from i to j, and can be turned towards it; the entries are the
--- others that cross
+-- directed edge e crosses the subconstraint from i to j, and can be turned towards it; the entries
+-- are the others that cross
 pub record IsToTurn {V D U F : Type 0} (points : List Point) (c : Contents V D U F) (i j e : ℕ)
     (l : CrossingLists) : Type 0 where
-  pub piece : IsOnePiece points c i j
+  pub subconstraint : IsOneSubconstraint points c i j
   pub nearer : TurnsNearer points c.mesh i j e
   pub others : ListOthers points c.mesh i j e l
 

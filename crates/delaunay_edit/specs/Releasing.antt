@@ -1,14 +1,10 @@
 -- What becomes of a triangulation where constraints are added or released, and each other edge is
 -- legal afterwards.
 use Rattle.std.specs.Prelude.{◌≡◌, ℕ, ◌*◌, Bool, List, Some, slice_get, slice_set}
-use Rattle.delaunay_location.specs.half_edge_links.Mesh.{origin, rev}
-use Rattle.delaunay_location.specs.half_edge_dcel.Contents.{Contents}
-use Rattle.delaunay_location.specs.plane.Fraction.{Point}
-use Rattle.delaunay_location.specs.plane.Plain.{Adds, Releases}
-use Rattle.delaunay_location.specs.delaunay_legalization.Stays.{KeepsIndexes}
-use Rattle.delaunay_location.specs.delaunay_legalization.Constraints.{points_and_constraints_by}
-use Rattle.delaunay_location.specs.delaunay_legalization.Shape.{IsDelaunayTriangulation}
-use Rattle.delaunay_location.specs.delaunay_legalization.State.{state_of}
+use Rattle.plane.specs.{Adds, Point, Releases}
+use Rattle.{half_edge_dcel.specs.Contents, half_edge_links.specs.origin, half_edge_links.specs.rev}
+use Rattle.delaunay_legalization.specs.{IsDelaunayTriangulation, KeepsIndexes}
+use Rattle.delaunay_legalization.specs.{points_and_constraints_by, state_of}
 use Rattle.delaunay_edit.specs.Adding.{MarksSome}
 
 -- the path from i to j was added

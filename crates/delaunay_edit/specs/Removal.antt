@@ -1,10 +1,7 @@
 -- What becomes of a triangulation where the vertex at a point goes.
 use Rattle.std.specs.Prelude.{◌≡◌, ℕ, List, Some, slice_get}
-use Rattle.delaunay_edit.specs.plane.Fraction.{Point}
-use Rattle.delaunay_edit.specs.plane.Plain.{Removes}
-use Rattle.delaunay_edit.specs.delaunay_legalization.Constraints.{points_and_constraints_by}
-use Rattle.delaunay_edit.specs.delaunay_legalization.State.{State}
-use Rattle.delaunay_vertices.specs.RemovalData.{KeepsDataOfOthers}
+use Rattle.delaunay_legalization.specs.{points_and_constraints_by, State.State}
+use Rattle.{delaunay_vertices.specs.KeepsDataOfOthers, plane.specs.Point, plane.specs.Removes}
 
 -- a vertex at p went, which had this value, and what was not at it has the data that it had
 pub record RemovesAt {V D U F : Type 0} (place : V → Point) (constraints : List U → List ℕ)

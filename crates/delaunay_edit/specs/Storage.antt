@@ -1,8 +1,7 @@
 -- Triangulations as they are at first, and copies.
 use Rattle.std.specs.Prelude.{◌≡◌, [], List, All}
 use Rattle.std.specs.List.{AllZip}
-use Rattle.delaunay_edit.specs.half_edge_links.Mesh.{empty}
-use Rattle.delaunay_edit.specs.delaunay_legalization.State.{State}
+use Rattle.{delaunay_legalization.specs.State.State, half_edge_links.specs.empty}
 
 -- no vertex and no edge, and the outer face with data that are as they are at first
 pub record IsEmptyState {V D U F : Type 0} (IsFirst : F → Type 0) (s : State V D U F) : Type 0 where

@@ -1,5 +1,5 @@
 -- The corners round an edge that is to be turned towards a segment, by their positions.
-use Rattle.delaunay_location.specs.plane.Fraction.{Point}
+use Rattle.plane.specs.{Point}
 
 -- what a contract sees of a segment and of the corners round an edge: their positions, and the
 -- tests

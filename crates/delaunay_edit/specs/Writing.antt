@@ -1,6 +1,6 @@
 -- What a triangulation ends as, where a reference for writing to its data is given out.
 use Rattle.std.specs.Prelude.{ℕ, zero, suc, List, slice_set}
-use Rattle.delaunay_edit.specs.delaunay_legalization.State.{State}
+use Rattle.delaunay_legalization.specs.State.{State}
 
 module _ {V D U F : Type 0} where
   -- other data of a directed edge

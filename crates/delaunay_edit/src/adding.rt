@@ -1,24 +1,23 @@
 //! Constraints along the path between two vertices.
 ghost use Rattle.std.specs.Prelude.{◌≡◌, true, length, map, All};
-ghost use Rattle.delaunay_location.specs.delaunay_legalization.Shape.{IsTriangulated};
-ghost use Rattle.delaunay_location.specs.delaunay_legalization.State.{state_of};
+ghost use Rattle.delaunay_legalization.specs.{IsTriangulated, state_of};
 ghost use Rattle.delaunay_edit.specs.Adding.{AddsPath, HasFreeWay};
-ghost use Rattle.delaunay_edit.specs.Leaving.{IsWorkList, LeavesToTest};
-ghost use Rattle.delaunay_edit.specs.Lists.{HaveRoom};
+ghost use Rattle.delaunay_edit.specs.{Leaving.IsWorkList, Leaving.LeavesToTest, Lists.HaveRoom};
 
-use crate::crossing::CrossingLists;
+use crate::CrossingLists;
 use crate::flips::{next_turn, turn};
-use delaunay_location::delaunay_core::math::PlaneTests;
-use delaunay_location::delaunay_core::point::HasPosition;
-use delaunay_location::delaunay_legalization::{ConstraintMarker, EdgeSet, Placed};
-use delaunay_location::half_edge_dcel::{Dcel, FixedVertexHandle, MeshViews};
+use delaunay_core::math::PlaneTests;
+use delaunay_core::point::HasPosition;
+use delaunay_legalization::{ConstraintMarker, EdgeSet, Embedding};
+use half_edge_dcel::{Dcel, MeshViews};
+use half_edge_links::FixedVertexHandle;
 
-/// Makes constraints of the pieces of the path between two vertices, whose segment no constraint
-/// crosses: each of its vertices is joined to the next. Edges that cross a piece are flipped; each
-/// edge that does not cross the segment keeps its index, and so does each face with no side that
-/// crosses it. No circle test is made: where only edges in `work` may fail before, only edges in it
-/// may fail afterwards. It has room for each edge, and so has each of the two lists of crossing
-/// edges.
+/// Makes constraints of the subconstraints of the path between two vertices, whose segment no
+/// constraint crosses: each of its vertices is joined to the next. Edges that cross a subconstraint
+/// are flipped; each edge that does not cross the segment keeps its index, and so does each face
+/// with no side that crosses it. No circle test is made: where only edges in `work` may fail
+/// before, only edges in it may fail afterwards. It has room for each edge, and so has each of the
+/// two lists of crossing edges.
 pub fn add_path<M: ConstraintMarker<UE>, V: HasPosition, DE, UE, F, P: PlaneTests<V::Scalar>>(
     dcel: &mut Dcel<V, DE, UE, F>,
     from: FixedVertexHandle,
@@ -40,8 +39,8 @@ pub fn add_path<M: ConstraintMarker<UE>, V: HasPosition, DE, UE, F, P: PlaneTest
     ensures capacity { work.new.room ≡ work.old.room }
 {
     let mut at = from;
-    while let Some(next) = lists.list_piece(&Placed { dcel, tests }, at, to) {
-        while let Some((edge, way)) = next_turn(&Placed { dcel, tests }, at, next, lists) {
+    while let Some(next) = lists.list_subconstraint(&Embedding { dcel, tests }, at, to) {
+        while let Some((edge, way)) = next_turn(&Embedding { dcel, tests }, at, next, lists) {
             turn(dcel, edge, way, at, next, lists, work);
         }
         let Some(edge) = dcel.get_edge_from_neighbors(at, next) else {

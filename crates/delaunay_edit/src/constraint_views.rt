@@ -1,32 +1,28 @@
 //! What an edit asks of the constraints, in a mesh with its points: how many a path makes, and the
 //! halves of a straight one.
 ghost use Rattle.std.specs.Prelude.{◌≢◌, ◌<◌, length, map, IfNone, IfSome};
-ghost use Rattle.delaunay_edit.specs.delaunay_legalization.Constraints.{constraints_by};
-ghost use Rattle.delaunay_edit.specs.delaunay_legalization.Constraints.{points_and_constraints_by};
-ghost use Rattle.delaunay_edit.specs.delaunay_legalization.Placed.{Reading};
-ghost use Rattle.delaunay_edit.specs.delaunay_legalization.State.{state_of};
-ghost use Rattle.delaunay_edit.specs.Adding.{CanAddPath};
-ghost use Rattle.delaunay_edit.specs.Counting.{HasPairs, IsMissing};
-ghost use Rattle.delaunay_edit.specs.Halves.{AreHalvesAt};
+ghost use Rattle.delaunay_legalization.specs.{constraints_by, points_and_constraints_by, Reading};
+ghost use Rattle.{delaunay_edit.specs.Adding.CanAddPath, delaunay_legalization.specs.state_of};
+ghost use Rattle.delaunay_edit.specs.{Counting.HasPairs, Counting.IsMissing, Halves.AreHalvesAt};
 
-use crate::delaunay_core::math::PlaneTests;
-use crate::delaunay_core::point::HasPosition;
-use crate::delaunay_legalization::{
-    ConstraintMarker, Placed, is_constraint_edge, is_strictly_within, position_of,
-};
-use crate::half_edge_dcel::FixedVertexHandle;
 use crate::halves::two_constraint_ends;
 use crate::is_constraint_between;
+use delaunay_core::math::PlaneTests;
+use delaunay_core::point::HasPosition;
+use delaunay_legalization::{
+    ConstraintMarker, Embedding, is_constraint_edge, is_strictly_within, position_of,
+};
 use delaunay_location::{Intersection, LineViews};
 use delaunay_vertices::VertexPair;
+use half_edge_links::FixedVertexHandle;
 
 /// The constraints that an edit makes or takes, in a mesh with its points.
 pub trait ConstraintViews<V: HasPosition, DE, UE, F, P: PlaneTests<V::Scalar>> {
     ghost reading: { Self → Reading V DE UE F P };
 
-    /// How many pieces of the path between two different vertices are no constraints, unless a
-    /// constraint crosses it. It is one walk, which stops at the first that does, and takes no
-    /// memory.
+    /// How many subconstraints of the path between two different vertices are no constraints,
+    /// unless a constraint crosses it. It is one walk, which stops at the first that does, and
+    /// takes no memory.
     fn count_path<M: ConstraintMarker<UE>>(
         &self,
         from: FixedVertexHandle,
@@ -56,7 +52,7 @@ pub trait ConstraintViews<V: HasPosition, DE, UE, F, P: PlaneTests<V::Scalar>> {
 }
 
 impl<V: HasPosition, DE, UE, F, P: PlaneTests<V::Scalar>> ConstraintViews<V, DE, UE, F, P>
-    for Placed<'_, V, DE, UE, F, P> {
+    for Embedding<'_, V, DE, UE, F, P> {
     ghost reading = { λ s. s };
 
     fn count_path<M: ConstraintMarker<UE>>(

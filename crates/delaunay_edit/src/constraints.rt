@@ -1,17 +1,15 @@
 //! Edges that become constraints and are released, with each other edge legal afterwards.
 ghost use Rattle.std.specs.Prelude.{◌≡◌, ◌*◌, ◌<◌, ◌≤◌, true, length, map, All, Contains};
-ghost use Rattle.delaunay_location.specs.half_edge_links.Mesh.{origin, rev};
-ghost use Rattle.delaunay_location.specs.delaunay_legalization.Flips.{CountsFlips, FlipsFit};
-ghost use Rattle.delaunay_location.specs.delaunay_legalization.Shape.{IsDelaunayTriangulation};
-ghost use Rattle.delaunay_location.specs.delaunay_legalization.State.{state_of};
+ghost use Rattle.half_edge_links.specs.{origin, rev};
+ghost use Rattle.delaunay_legalization.specs.{CountsFlips, FlipsFit, IsDelaunayTriangulation};
+ghost use Rattle.delaunay_legalization.specs.{state_of};
 ghost use Rattle.delaunay_edit.specs.Releasing.{AddsConstraints, ReleasesEdge};
 
-use delaunay_location::delaunay_core::math::PlaneTests;
-use delaunay_location::delaunay_core::point::HasPosition;
-use delaunay_location::delaunay_legalization::{
-    ConstraintMarker, EdgeSet, Sides, free_edge, legalize,
-};
-use delaunay_location::half_edge_dcel::{Dcel, FixedDirectedEdgeHandle, FixedUndirectedEdgeHandle};
+use delaunay_core::math::PlaneTests;
+use delaunay_core::point::HasPosition;
+use delaunay_legalization::{ConstraintMarker, EdgeSet, Sides, free_edge, legalize};
+use half_edge_dcel::Dcel;
+use half_edge_links::{FixedDirectedEdgeHandle, FixedUndirectedEdgeHandle};
 
 /// Makes an edge a constraint, unless it is one. No edge is turned for it.
 pub fn constrain_edge<M: ConstraintMarker<UE>, V: HasPosition, DE, UE, F>(

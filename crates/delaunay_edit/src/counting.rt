@@ -1,13 +1,12 @@
 //! How many constraints an edit makes or takes, by a look at what it changes.
 ghost use Rattle.std.specs.Prelude.{◌<◌, length};
-ghost use Rattle.delaunay_edit.specs.delaunay_legalization.Constraints.{constraints_by};
-ghost use Rattle.delaunay_edit.specs.delaunay_legalization.Shape.{IsTriangulated};
-ghost use Rattle.delaunay_edit.specs.delaunay_legalization.State.{state_of};
+ghost use Rattle.delaunay_legalization.specs.{constraints_by, IsTriangulated, state_of};
 ghost use Rattle.delaunay_edit.specs.Counting.{EndsAt, HasPairs};
 
-use crate::delaunay_core::point::HasPosition;
-use crate::delaunay_legalization::{ConstraintMarker, is_constraint_edge};
-use crate::half_edge_dcel::{Dcel, FixedVertexHandle, MeshViews};
+use delaunay_core::point::HasPosition;
+use delaunay_legalization::{ConstraintMarker, is_constraint_edge};
+use half_edge_dcel::{Dcel, MeshViews};
+use half_edge_links::FixedVertexHandle;
 
 /// How many constraints end at a vertex.
 pub fn count_constraints_at<M: ConstraintMarker<UE>, V: HasPosition, DE, UE, F>(

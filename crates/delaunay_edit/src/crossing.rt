@@ -1,12 +1,12 @@
 //! The edges that cross a segment between two vertices, in the lists from which they are turned.
 ghost use Rattle.std.specs.Prelude.{◌≡◌, ◌<◌, [], length, map, MatchOption, OnOk};
-ghost use Rattle.delaunay_edit.specs.Lists.{HaveRoom, KeepRoom, ListPiece};
+ghost use Rattle.delaunay_edit.specs.Lists.{HaveRoom, KeepRoom, ListSubconstraint};
 
-use delaunay_location::delaunay_core::math::PlaneTests;
-use delaunay_location::delaunay_core::point::HasPosition;
-use delaunay_location::delaunay_legalization::Placed;
-use delaunay_location::half_edge_dcel::{FixedDirectedEdgeHandle, FixedVertexHandle};
+use delaunay_core::math::PlaneTests;
+use delaunay_core::point::HasPosition;
+use delaunay_legalization::Embedding;
 use delaunay_location::{Intersection, LineViews};
+use half_edge_links::{FixedDirectedEdgeHandle, FixedVertexHandle};
 use std::alloc::{AllocError, Global};
 
 /// The lists of the edges that cross a segment, each from its right to its left. What stands in
@@ -41,20 +41,20 @@ impl CrossingLists {
         self.unseen.reserve(edges)
     }
 
-    // Lists the edges that cross the first piece of the path between two vertices, in place of what
-    // was listed, and gives the vertex where it ends, unless the two are one. All of them wait, in
-    // their order on the way. It is one walk, which stops at that vertex.
-    pub(crate) fn list_piece<V: HasPosition, DE, UE, F, P: PlaneTests<V::Scalar>>(
+    // Lists the edges that cross the first subconstraint of the path between two vertices, in place
+    // of what was listed, and gives the vertex where it ends, unless the two are one. All of them
+    // wait, in their order on the way. It is one walk, which stops at that vertex.
+    pub(crate) fn list_subconstraint<V: HasPosition, DE, UE, F, P: PlaneTests<V::Scalar>>(
         &mut self,
-        placed: &Placed<'_, V, DE, UE, F, P>,
+        embedding: &Embedding<'_, V, DE, UE, F, P>,
         from: FixedVertexHandle,
         to: FixedVertexHandle,
     ) -> Option<FixedVertexHandle>
-        requires ends { let vertices = placed.now.dcel.vertices in
+        requires ends { let vertices = embedding.now.dcel.vertices in
             (from < length vertices) × (to < length vertices) }
-        requires room { HaveRoom (length placed.now.dcel.undirected) self.old }
-        ensures piece { MatchOption result (from ≡ to) (λ v. ListPiece
-            (map V.place placed.now.dcel.vertices) placed.now.dcel from to v self.new) }
+        requires room { HaveRoom (length embedding.now.dcel.undirected) self.old }
+        ensures subconstraint { MatchOption result (from ≡ to) (λ v. ListSubconstraint
+            (map V.place embedding.now.dcel.vertices) embedding.now.dcel from to v self.new) }
         ensures room { KeepRoom self.old self.new }
     {
         if from == to {
@@ -62,7 +62,7 @@ impl CrossingLists {
         }
         self.waiting.clear();
         self.unseen.clear();
-        let mut line = placed.line_between_vertices(from, to);
+        let mut line = embedding.line_between_vertices(from, to);
         while let Some(item) = line.next() {
             match item {
                 Intersection::EdgeIntersection(edge) => {

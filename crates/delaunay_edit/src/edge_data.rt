@@ -3,12 +3,13 @@ ghost use Rattle.std.specs.Prelude.{◌≡◌, ◌<◌, ℕ, List, length, map, 
 ghost use Rattle.std.specs.Prelude.{slice_get, slice_set};
 ghost use Rattle.std.proofs.Common.{length-set};
 ghost use Rattle.std.specs.Borrow.{Lends, sem};
-ghost use Rattle.delaunay_edit.specs.half_edge_dcel.contracts.dcel.Dcel.{the_row};
 ghost use Rattle.std.proofs.lemmas.List.{map-set};
+ghost use Rattle.half_edge_dcel.specs.contracts.dcel.Dcel.{the_row};
 ghost use Rattle.delaunay_edit.specs.EdgeData.{with_data, with_data_marks, with_data_users};
 
-use crate::delaunay_legalization::{CdtEdge, ConstraintMarker, EdgeConstraints, NoConstraints};
-use crate::half_edge_dcel::{Dcel, FixedUndirectedEdgeHandle};
+use delaunay_legalization::{CdtEdge, ConstraintMarker, EdgeConstraints, NoConstraints};
+use half_edge_dcel::Dcel;
+use half_edge_links::FixedUndirectedEdgeHandle;
 
 pub(crate) mod sealed {
     pub trait Sealed {}

@@ -1,32 +1,28 @@
 //! Flips towards a segment between two vertices.
 ghost use Rattle.std.specs.Prelude.{◌≡◌, map, MatchOption};
-ghost use Rattle.delaunay_edit.specs.Crossing.{IsWayMade};
-ghost use Rattle.delaunay_edit.specs.Leaving.{IsWorkList};
+ghost use Rattle.delaunay_edit.specs.{Crossing.IsWayMade, Leaving.IsWorkList};
 ghost use Rattle.delaunay_edit.specs.Lists.{AreToTurn, HasAsEdge, IsToTurn, KeepRoom, TurnsOne};
 
-use crate::crossing::CrossingLists;
+use crate::CrossingLists;
 use crate::nearer::Turning;
-use delaunay_location::delaunay_core::math::PlaneTests;
-use delaunay_location::delaunay_core::point::HasPosition;
-use delaunay_location::delaunay_legalization::{
-    EdgeSet, Placed, Sides, position_of, push_side, push_sides,
-};
-use delaunay_location::half_edge_dcel::{
-    Dcel, FixedDirectedEdgeHandle, FixedVertexHandle, MeshViews,
-};
+use delaunay_core::math::PlaneTests;
+use delaunay_core::point::HasPosition;
+use delaunay_legalization::{EdgeSet, Embedding, Sides, position_of, push_side, push_sides};
+use half_edge_dcel::{Dcel, MeshViews};
+use half_edge_links::{FixedDirectedEdgeHandle, FixedVertexHandle};
 
 // Takes out an edge that crosses the segment between two vertices with none strictly between, and
 // can be turned towards it, and tells in which direction the edge that is made crosses from the
 // right, if it does. If there is none, no edge crosses, and the segment is one.
 pub(crate) fn next_turn<V: HasPosition, DE, UE, F, P: PlaneTests<V::Scalar>>(
-    placed: &Placed<'_, V, DE, UE, F, P>,
+    embedding: &Embedding<'_, V, DE, UE, F, P>,
     from: FixedVertexHandle,
     to: FixedVertexHandle,
     lists: &mut CrossingLists,
 ) -> Option<(FixedDirectedEdgeHandle, Option<FixedDirectedEdgeHandle>)>
-    requires turn { let d = placed.now.dcel in
+    requires turn { let d = embedding.now.dcel in
         AreToTurn (map V.place d.vertices) d from to lists.old }
-    ensures found { let d = placed.now.dcel in let points = map V.place d.vertices in
+    ensures found { let d = embedding.now.dcel in let points = map V.place d.vertices in
         MatchOption result (HasAsEdge points d from to)
         (λ t. IsToTurn points d from to t.0 lists.new × IsWayMade points d.mesh from to t.0 t.1) }
     ensures room { KeepRoom lists.old lists.new }
@@ -34,15 +30,15 @@ pub(crate) fn next_turn<V: HasPosition, DE, UE, F, P: PlaneTests<V::Scalar>>(
     // Where none of those still to be seen can be turned, all that wait are seen again.
     for _ in 0..2u32 {
         while let Some(edge) = lists.unseen.pop() {
-            let here = placed.dcel.directed_edge(edge);
+            let here = embedding.dcel.directed_edge(edge);
             let turning = Turning {
-                from: position_of(placed.dcel, from),
-                to: position_of(placed.dcel, to),
-                start: position_of(placed.dcel, here.from().fix()),
-                behind: position_of(placed.dcel, here.rev().prev_from().fix()),
-                end: position_of(placed.dcel, here.next().from().fix()),
-                ahead: position_of(placed.dcel, here.prev_from().fix()),
-                tests: placed.tests,
+                from: position_of(embedding.dcel, from),
+                to: position_of(embedding.dcel, to),
+                start: position_of(embedding.dcel, here.from().fix()),
+                behind: position_of(embedding.dcel, here.rev().prev_from().fix()),
+                end: position_of(embedding.dcel, here.next().from().fix()),
+                ahead: position_of(embedding.dcel, here.prev_from().fix()),
+                tests: embedding.tests,
             };
             if let Some(way) = turning.way_made(edge) {
                 return Some((edge, way));

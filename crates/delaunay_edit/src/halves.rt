@@ -1,15 +1,14 @@
 //! The ends of the constraints at a vertex.
 ghost use Rattle.std.specs.Prelude.{◌≡◌, ◌⊎◌, ◌↔◌, ◌<◌, length, IfNone, IfSome, IsTrue};
-ghost use Rattle.delaunay_edit.specs.half_edge_links.Mesh.{origin, rev};
-ghost use Rattle.delaunay_edit.specs.delaunay_legalization.Constraints.{constraints_by};
-ghost use Rattle.delaunay_edit.specs.delaunay_legalization.Shape.{IsTriangulated};
-ghost use Rattle.delaunay_edit.specs.delaunay_legalization.State.{state_of};
+ghost use Rattle.half_edge_links.specs.{origin, rev};
+ghost use Rattle.delaunay_legalization.specs.{constraints_by, IsTriangulated, state_of};
 ghost use Rattle.delaunay_edit.specs.Halves.{AreTwoEnds, IsEndBeside, LeadsBeside};
 
-use crate::delaunay_core::point::HasPosition;
-use crate::delaunay_legalization::{ConstraintMarker, is_constraint_edge};
-use crate::half_edge_dcel::{Dcel, FixedDirectedEdgeHandle, FixedVertexHandle, MeshViews};
+use delaunay_core::point::HasPosition;
+use delaunay_legalization::{ConstraintMarker, is_constraint_edge};
 use delaunay_vertices::VertexPair;
+use half_edge_dcel::{Dcel, MeshViews};
+use half_edge_links::{FixedDirectedEdgeHandle, FixedVertexHandle};
 
 // Whether a vertex is one of two.
 fn is_either(vertex: FixedVertexHandle, one: FixedVertexHandle, other: FixedVertexHandle) -> bool

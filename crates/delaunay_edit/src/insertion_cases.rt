@@ -1,16 +1,16 @@
 //! A new vertex at any position that no vertex has.
 ghost use Rattle.std.specs.Prelude.{◌+◌, ◌*◌, ◌≤◌, length, IsFalse};
-ghost use Rattle.delaunay_edit.specs.half_edge_links.Room.{HasRoomFor};
+ghost use Rattle.half_edge_links.specs.{HasRoomFor};
+ghost use Rattle.delaunay_legalization.specs.{CountsFlips, FlipsFit, state_of};
 ghost use Rattle.delaunay_edit.specs.Edits.{AppendsVertex, CanAppend};
-ghost use Rattle.delaunay_edit.specs.delaunay_legalization.Flips.{CountsFlips, FlipsFit};
-ghost use Rattle.delaunay_edit.specs.delaunay_legalization.State.{state_of};
 
-use crate::delaunay_core::math::PlaneTests;
-use crate::delaunay_core::point::HasPosition;
-use crate::delaunay_legalization::{EdgeSet, legalize_vertex};
-use crate::half_edge_dcel::{Dcel, FixedVertexHandle};
+use delaunay_core::math::PlaneTests;
+use delaunay_core::point::HasPosition;
+use delaunay_legalization::{EdgeSet, legalize_vertex};
 use delaunay_location::PositionInTriangulation;
 use delaunay_vertices::{FreeByDefault, insert_outside, insert_within_edge};
+use half_edge_dcel::Dcel;
+use half_edge_links::FixedVertexHandle;
 
 /// The new last vertex at a position that no vertex has, round which the edges that fail are
 /// flipped, and how many constraints more there are: one that the position is strictly within

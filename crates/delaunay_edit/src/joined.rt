@@ -1,13 +1,12 @@
 //! The constraint between two vertices, by a look round the first.
 ghost use Rattle.std.specs.Prelude.{◌↔◌, ◌<◌, length, IsTrue};
-ghost use Rattle.delaunay_location.specs.plane.Pairs.{Joins};
-ghost use Rattle.delaunay_location.specs.delaunay_legalization.Constraints.{constraints_by};
-ghost use Rattle.delaunay_location.specs.delaunay_legalization.Shape.{IsTriangulated};
-ghost use Rattle.delaunay_location.specs.delaunay_legalization.State.{state_of};
+ghost use Rattle.plane.specs.{Joins};
+ghost use Rattle.delaunay_legalization.specs.{constraints_by, IsTriangulated, state_of};
 
-use delaunay_location::delaunay_core::point::HasPosition;
-use delaunay_location::delaunay_legalization::{ConstraintMarker, is_constraint_edge};
-use delaunay_location::half_edge_dcel::{Dcel, FixedVertexHandle, MeshViews};
+use delaunay_core::point::HasPosition;
+use delaunay_legalization::{ConstraintMarker, is_constraint_edge};
+use half_edge_dcel::{Dcel, MeshViews};
+use half_edge_links::FixedVertexHandle;
 
 /// Whether a constraint joins two vertices, in either order.
 pub fn is_constraint_between<M: ConstraintMarker<UE>, V: HasPosition, DE, UE, F>(

@@ -2,17 +2,17 @@
 //! edge is made to pass the circle test.
 ghost use Rattle.std.specs.Prelude.{◌≡◌, ◌*◌, ◌≤◌, ◌++◌};
 ghost use Rattle.std.specs.Prelude.{length, map, All, IfSome, IsTrue, OnOk};
-ghost use Rattle.delaunay_edit.specs.delaunay_legalization.Flips.{FlipsFit};
-ghost use Rattle.delaunay_edit.specs.Lists.{HaveRoom};
-ghost use Rattle.delaunay_vertices.specs.Pairs.{FailOnlyAt, pairs_left};
+ghost use Rattle.delaunay_vertices.specs.{FailOnlyAt, pairs_left};
 ghost use Rattle.delaunay_edit.specs.Halves.{CanSettle, HasRoomToSettle, Settles};
+ghost use Rattle.{delaunay_edit.specs.Lists.HaveRoom, delaunay_legalization.specs.FlipsFit};
 
-use crate::delaunay_core::math::PlaneTests;
-use crate::delaunay_core::point::HasPosition;
-use crate::delaunay_legalization::{ConstraintMarker, EdgeSet, Sides, legalize};
-use crate::half_edge_dcel::{Dcel, FixedVertexHandle};
 use crate::{CrossingLists, add_path};
+use delaunay_core::math::PlaneTests;
+use delaunay_core::point::HasPosition;
+use delaunay_legalization::{ConstraintMarker, EdgeSet, Sides, legalize};
 use delaunay_vertices::{RemovalLists, VertexPair, index_left, legalize_pairs, list_pairs};
+use half_edge_dcel::Dcel;
+use half_edge_links::FixedVertexHandle;
 use std::alloc::AllocError;
 
 /// Makes room to join the far ends of straight halves, if there are such, in a mesh of at most so

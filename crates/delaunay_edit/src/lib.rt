@@ -1,6 +1,6 @@
 //! The edits of a triangulation: a new vertex wherever it is, what is left to do where one went,
-//! and the path of pieces between two vertices, whose pieces become edges by flips of what crosses
-//! them.
+//! and the path of subconstraints between two vertices, whose subconstraints become edges by flips
+//! of what crosses them.
 #![tactic(auto)]
 
 pub use delaunay_location;

@@ -1,13 +1,12 @@
 //! Whether an edge that crosses a segment can be turned towards it, and whether the edge that is
 //! made then crosses too.
 ghost use Rattle.std.specs.Prelude.{◌↔◌, IsTrue, MatchOption};
-ghost use Rattle.delaunay_location.specs.plane_theorems.Segments.Path.{ComesAfterOnRight};
-ghost use Rattle.delaunay_location.specs.delaunay_core.Place.{place_of};
+ghost use Rattle.{delaunay_core.specs.place_of, plane_theorems.specs.ComesAfterOnRight};
 ghost use Rattle.delaunay_edit.specs.Crossing.{CornersTurn, IsWayBetween};
 
-use delaunay_location::delaunay_core::math::PlaneTests;
-use delaunay_location::delaunay_core::point::{Point2, SpadeNum};
-use delaunay_location::half_edge_dcel::FixedDirectedEdgeHandle;
+use delaunay_core::math::PlaneTests;
+use delaunay_core::point::{Point2, SpadeNum};
+use half_edge_links::FixedDirectedEdgeHandle;
 use std::marker::Model;
 
 // A segment, and the corners round an edge from `start` to `end`, of which one is ahead of it, on
@@ -24,7 +23,7 @@ pub(crate) struct Turning<'a, S: SpadeNum, P: PlaneTests<S>> {
 }
 
 impl<'a, S: SpadeNum, P: PlaneTests<S>> Model for Turning<'a, S, P> {
-    ghost use Rattle.delaunay_location.specs.delaunay_core.Place.{place_of};
+    ghost use Rattle.delaunay_core.specs.{place_of};
     ghost use Rattle.delaunay_edit.specs.Turning.{AreCovered, Corners};
 
     ghost Value = { Corners P };

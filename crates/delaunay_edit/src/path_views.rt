@@ -1,14 +1,14 @@
 //! The paths between vertices, read: whether a constraint crosses one, and its edges.
 ghost use Rattle.std.specs.Prelude.{◌↔◌, ◌<◌, ◌≤◌, length, map, vec_capacity, IsTrue};
-ghost use Rattle.delaunay_location.specs.delaunay_legalization.Placed.{Reading};
-ghost use Rattle.delaunay_edit.specs.Adding.{CanAddPath};
-ghost use Rattle.delaunay_edit.specs.PathEdges.{HasPath, LeadAlong};
+ghost use Rattle.delaunay_legalization.specs.{Reading};
+ghost use Rattle.delaunay_edit.specs.{Adding.CanAddPath, PathEdges.HasPath, PathEdges.LeadAlong};
 
-use delaunay_location::delaunay_core::math::PlaneTests;
-use delaunay_location::delaunay_core::point::HasPosition;
-use delaunay_location::delaunay_legalization::{ConstraintMarker, Placed};
-use delaunay_location::half_edge_dcel::{FixedDirectedEdgeHandle, FixedVertexHandle, MeshViews};
+use delaunay_core::math::PlaneTests;
+use delaunay_core::point::HasPosition;
+use delaunay_legalization::{ConstraintMarker, Embedding};
 use delaunay_location::{ConflictingEdgesIterator, Intersection, LineViews};
+use half_edge_dcel::MeshViews;
+use half_edge_links::{FixedDirectedEdgeHandle, FixedVertexHandle};
 
 /// The paths between vertices, in a mesh with its points.
 pub trait PathViews<V: HasPosition, DE, UE, F, P: PlaneTests<V::Scalar>> {
@@ -26,8 +26,9 @@ pub trait PathViews<V: HasPosition, DE, UE, F, P: PlaneTests<V::Scalar>> {
         ensures { IsTrue result ↔
             CanAddPath V.place M.constraints (reading self.now).dcel from to };
 
-    /// The edges along the path between two vertices, in order, where each of its pieces is one, by
-    /// one walk. They replace what is in `edges`, which has room for as many as there are vertices.
+    /// The edges along the path between two vertices, in order, where each of its subconstraints is
+    /// one, by one walk. They replace what is in `edges`, which has room for as many as there are
+    /// vertices.
     fn edges_along(
         &self,
         from: FixedVertexHandle,
@@ -44,7 +45,7 @@ pub trait PathViews<V: HasPosition, DE, UE, F, P: PlaneTests<V::Scalar>> {
 }
 
 impl<V: HasPosition, DE, UE, F, P: PlaneTests<V::Scalar>> PathViews<V, DE, UE, F, P>
-    for Placed<'_, V, DE, UE, F, P> {
+    for Embedding<'_, V, DE, UE, F, P> {
     ghost reading = { λ s. s };
 
     fn can_add_path<M: ConstraintMarker<UE>>(

@@ -4,11 +4,9 @@ use Rattle.std.proofs.Common.{◌≡◌, ℕ, ◌<◌, ◌≤◌, List, All, ap,
 use Rattle.std.specs.List.{range_with_len}
 use Rattle.std.specs.Borrow.{Bor}
 use Rattle.std.proofs.lemmas.List.FromFn.{length-range_with_len, get_or-range_with_len}
-use Rattle.delaunay_edit.specs.half_edge_dcel.Contents.{Contents}
-use Rattle.delaunay_edit.specs.half_edge_dcel.Left.{each_in}
-use Rattle.delaunay_edit.specs.Elements.{GivesElements}
-use Rattle.delaunay_edit.specs.delaunay_legalization.State.{State, state_of}
-use Rattle.delaunay_edit.proofs.Counts.{gives_elements}
+use Rattle.half_edge_dcel.specs.{Contents, each_in}
+use Rattle.{delaunay_edit.specs.GivesElements, delaunay_legalization.specs.state_of}
+use Rattle.{delaunay_edit.proofs.Counts.gives_elements, delaunay_legalization.specs.State.State}
 
 -- indexes in a row from 1 on are those of inner faces
 pub row_inner : (n : ℕ) (xs : List ℕ) → xs ≡ range_with_len 1 n → All (λ i. (0 < i) × (i ≤ n)) xs

@@ -12,19 +12,12 @@ use Rattle.std.proofs.lemmas.List.{length-map, map-append, get_or-map, get_or_de
 use Rattle.std.proofs.lemmas.List.Elements.{All-contains, Contains-append_left, Contains-push}
 use Rattle.std.proofs.lemmas.Option.{get_or_from_slice_get, slice_get_within}
 use Rattle.std.proofs.Math.Seq.{map-set_same}
-use Rattle.delaunay_edit.proofs.half_edge_links_lemmas.Removing.OpenSound.{length-swap_remove}
-use Rattle.delaunay_edit.proofs.half_edge_links_lemmas.Removing.OpenSound.{get_or-swap_remove_same}
-use Rattle.delaunay_edit.proofs.half_edge_links_lemmas.Removing.OpenSound.{get_or-swap_remove_other}
-use Rattle.delaunay_edit.proofs.half_edge_links_lemmas.Removing.ShrinkTriangles.{map-swap_remove}
-use Rattle.delaunay_edit.specs.plane.Fraction.{Point}
-use Rattle.delaunay_edit.specs.plane.Hint.{IsAtMost, IsAtMostOf, IsAtMostWith, IsAtMostWithout}
-use Rattle.delaunay_edit.specs.plane.Plain.{Plain, Inserts, Removes}
-use Rattle.delaunay_edit.specs.delaunay_legalization.Constraints.{points_and_constraints_by}
-use Rattle.delaunay_edit.specs.delaunay_legalization.Known.{point_at}
-use Rattle.delaunay_edit.specs.delaunay_legalization.State.{State}
-use Rattle.delaunay_edit.specs.Edits.{InsertsVertex}
-use Rattle.delaunay_edit.proofs.Overwriting.{same_places}
-use Rattle.delaunay_edit.proofs.Removing.{sites_left}
+use Rattle.plane.specs.{Inserts, IsAtMost, IsAtMostOf, IsAtMostWith, IsAtMostWithout, Plain, Point}
+use Rattle.half_edge_links.proofs.{get_or-swap_remove_same, length-swap_remove, map-swap_remove}
+use Rattle.{half_edge_links.proofs.Removing.OpenSound.get_or-swap_remove_other, plane.specs.Removes}
+use Rattle.delaunay_legalization.specs.{point_at, points_and_constraints_by, State.State}
+use Rattle.delaunay_edit.specs.{InsertsVertex}
+use Rattle.delaunay_edit.proofs.{Overwriting.same_places, Removing.sites_left}
 
 -- what is held is a site where each vertex is one
 pub held_are_sites : (holds sites : Point → Type 0) (points : List Point) → IsAtMostOf holds points

@@ -3,10 +3,8 @@
 use Rattle.std.proofs.Common.{◌≡◌, List, sym, subst, map}
 use Rattle.std.specs.Prelude.{Contains}
 use Rattle.std.specs.List.{AllZip}
-use Rattle.delaunay_edit.specs.plane.Fraction.{Point}
-use Rattle.delaunay_edit.specs.plane.Hint.{IsAtMost, IsAtMostOf}
-use Rattle.delaunay_edit.proofs.Copies.{same_image}
-use Rattle.delaunay_edit.specs.Storage.{KeepsImage}
+use Rattle.plane.specs.{IsAtMost, IsAtMostOf, Point}
+use Rattle.{delaunay_edit.proofs.Copies.same_image, delaunay_edit.specs.KeepsImage}
 
 -- what is held is of the new vertices where they are the old ones
 pub held_of_same : {V : Type 0} (place : V → Point) (holds : Point → Type 0) (vs ws : List V)

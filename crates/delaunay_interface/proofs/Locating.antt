@@ -1,14 +1,11 @@
 -- The answer to a location, by an element of a triangulation.
 -- Lemmas: finds_in, element_in.
 use Rattle.std.proofs.Common.{◌≡◌, map, sym, subst}
-use Rattle.delaunay_edit.specs.half_edge_dcel.Contents.{Contents}
-use Rattle.delaunay_edit.specs.plane.Fraction.{Point}
-use Rattle.delaunay_edit.specs.Elements.{FindsLocation, HasElement}
-use Rattle.delaunay_edit.specs.Location.{Locates}
+use Rattle.half_edge_dcel.specs.{Contents}
+use Rattle.delaunay_legalization.specs.{IsTriangulated, State.State, state_of}
+use Rattle.delaunay_location.specs.{Locates, PositionInTriangulation}
+use Rattle.{delaunay_edit.specs.FindsLocation, delaunay_edit.specs.HasElement, plane.specs.Point}
 use Rattle.delaunay_edit.proofs.Counts.{element_if_handle, outer_if_handle}
-use Rattle.delaunay_edit.specs.delaunay_legalization.Shape.{IsTriangulated}
-use Rattle.delaunay_edit.specs.delaunay_legalization.State.{State, state_of}
-use Rattle.delaunay_edit.specs.delaunay_location.declared.position_in_triangulation.PositionInTriangulation.{PositionInTriangulation}
 
 module _ {V D U F : Type 0} (place : V → Point) (s : State V D U F) (kept : IsTriangulated place s)
     (p : Point) (answer : PositionInTriangulation) where

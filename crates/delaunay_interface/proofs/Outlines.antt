@@ -3,23 +3,14 @@
 use Rattle.std.proofs.Common.{◌≡◌, ◌<◌, ◌∙◌}
 use Rattle.std.proofs.Common.{ℕ, List, length, map, inl, inr, refl, sym, subst, arith}
 use Rattle.std.specs.Borrow.{Bor}
-use Rattle.delaunay_edit.specs.half_edge_links.Mesh.{face, origin, rev}
-use Rattle.delaunay_edit.specs.half_edge_links.Outline.{IsOuterEdge}
-use Rattle.delaunay_edit.specs.half_edge_dcel.Contents.{Contents}
-use Rattle.delaunay_edit.specs.half_edge_dcel.Rounds.{GivesOuterLoop}
-use Rattle.delaunay_edit.specs.plane.Fraction.{Point}
-use Rattle.delaunay_edit.specs.plane.Side.{left, on, TurnsLeft}
-use Rattle.delaunay_edit.specs.plane.Tiling.{Triangulation, IsVertex, IsTiling, vertex}
-use Rattle.delaunay_edit.specs.plane.Location.{IsOuter}
-use Rattle.delaunay_edit.proofs.plane_theorems.Delaunay.Tilings.Ground.{tiling}
-use Rattle.delaunay_edit.proofs.plane_theorems.Delaunay.Tilings.OuterEdges.{hull_not_left_of_outer}
-use Rattle.delaunay_edit.proofs.delaunay_legalization_lemmas.EdgePairs.{edge_joins}
-use Rattle.delaunay_edit.proofs.delaunay_legalization_lemmas.OneOutline.{one_outline}
-use Rattle.delaunay_edit.proofs.delaunay_legalization_lemmas.OuterEdges.{listed}
-use Rattle.delaunay_edit.proofs.delaunay_legalization_lemmas.OutlineGiven.{outline_given}
-use Rattle.delaunay_edit.specs.delaunay_legalization.Shape.{IsTriangulated}
-use Rattle.delaunay_edit.specs.delaunay_legalization.State.{State, state_of, triangulation_of}
-use Rattle.delaunay_edit.proofs.delaunay_legalization_lemmas.MeshParts.{outer_bare}
+use Rattle.plane.specs.{IsOuter, IsTiling, IsVertex, left, on, Point, Triangulation, TurnsLeft}
+use Rattle.half_edge_links.specs.{face, IsOuterEdge, origin, rev}
+use Rattle.plane_theorems.proofs.Delaunay.Tilings.Ground.{tiling}
+use Rattle.plane_theorems.proofs.Delaunay.Tilings.OuterEdges.{hull_not_left_of_outer}
+use Rattle.{half_edge_dcel.specs.Contents, half_edge_dcel.specs.GivesOuterLoop, plane.specs.vertex}
+use Rattle.delaunay_legalization.specs.{IsTriangulated, State.State, state_of, triangulation_of}
+use Rattle.delaunay_legalization.proofs.{edge_joins, listed, one_outline, outer_bare}
+use Rattle.delaunay_legalization.proofs.OutlineGiven.{outline_given}
 use Rattle.delaunay_interface.specs.Views.{GivesOutline}
 
 -- no vertex is on the left of an outer edge

@@ -10,26 +10,17 @@ use Rattle.std.specs.Iterator.{Yields}
 use Rattle.std.proofs.lemmas.List.{get_or_default, length-set, length_push, map-append}
 use Rattle.std.proofs.lemmas.List.Elements.{All-contains, All-push}
 use Rattle.std.proofs.Math.Seq.{map-set_same}
-use Rattle.delaunay_edit.specs.plane.Fraction.{Point}
-use Rattle.delaunay_edit.specs.plane.Plain.{Plain, CanAdd, Inserts as InsertsPlain}
-use Rattle.delaunay_edit.specs.plane.Tests.{InRange}
-use Rattle.delaunay_edit.specs.delaunay_core.declared.math.InsertionError.TheVariants.{OutOfMemory}
-use Rattle.delaunay_edit.specs.delaunay_legalization.declared.cdt_edge.CdtEdge.{CdtEdge}
-use Rattle.delaunay_edit.specs.delaunay_legalization.Constraints.{points_and_constraints_by}
-use Rattle.delaunay_edit.specs.delaunay_legalization.State.{State}
-use Rattle.delaunay_edit.specs.Constrained.{constrained, constraint_edges}
-use Rattle.delaunay_edit.specs.ConstraintEdits.{AddsConstraint}
-use Rattle.delaunay_edit.specs.Edits.{InsertsVertex}
-use Rattle.delaunay_edit.specs.Headline.{AreSites, IsDelaunay}
-use Rattle.delaunay_interface.specs.declared.constraint_error.ConstraintError.{ConstraintError}
-use Rattle.delaunay_interface.specs.declared.constraint_error.ConstraintError.TheVariants.{
-  Insertion,
-  Conflict,
-}
+use Rattle.plane.specs.{CanAdd, InRange, Inserts as InsertsPlain, Plain, Point}
+use Rattle.{delaunay_core.specs.OutOfMemory, delaunay_legalization.specs.points_and_constraints_by}
+use Rattle.delaunay_legalization.specs.{declared.cdt_edge.CdtEdge.CdtEdge, State.State}
+use Rattle.delaunay_edit.specs.{AddsConstraint, AreSites, constrained, constraint_edges}
+use Rattle.delaunay_edit.specs.{InsertsVertex, IsDelaunay}
 use Rattle.delaunay_interface.specs.ConstraintEdges.{AddsConstraintEdge, AddsConstraintEdges}
-use Rattle.delaunay_interface.specs.ConstraintEdges.{ClosesPath, ExtendsPath}
-use Rattle.delaunay_interface.specs.ConstraintEdges.{JoinsVertices, MayGive, RefusesEnd}
-use Rattle.delaunay_interface.specs.ConstraintEdges.{StaysReady, Takes}
+use Rattle.delaunay_interface.specs.ConstraintEdges.{ClosesPath, ExtendsPath, JoinsVertices}
+use Rattle.delaunay_interface.specs.ConstraintEdges.{MayGive, RefusesEnd, StaysReady, Takes}
+use Rattle.delaunay_interface.specs.declared.constraint_error.ConstraintError.{ConstraintError}
+use Rattle.delaunay_interface.specs.declared.constraint_error.ConstraintError.TheVariants.{Conflict}
+use Rattle.delaunay_interface.specs.declared.constraint_error.ConstraintError.TheVariants.{Insertion}
 use Rattle.delaunay_interface.proofs.Held.{new_is_listed, stay_listed}
 
 -- ---- after an insertion

@@ -1,2 +1,2 @@
 -- What an iterator that takes from both ends has left.
-pub use Rattle.delaunay_edit.proofs.half_edge_dcel_lemmas.Taken.{length_each}
+pub use Rattle.half_edge_dcel.proofs.Taken.{length_each}

@@ -4,21 +4,14 @@ use Rattle.std.specs.Prelude.{◌≡◌, ◌≢◌, ◌⊎◌, ◌↔◌, ◌≤
 use Rattle.std.specs.Prelude.{ℕ, length, Bool, Option, Some, List, Result, Ok, Err}
 use Rattle.std.specs.Prelude.{IsTrue, IsErrOf, IfErr, MatchResult}
 use Rattle.std.specs.Iterator.{Drains, Yields, YieldsThen}
-use Rattle.delaunay_edit.specs.plane.Fraction.{Point}
-use Rattle.delaunay_edit.specs.plane.Plain.{CanAdd}
-use Rattle.delaunay_edit.specs.delaunay_core.declared.math.InsertionError.{InsertionError}
-use Rattle.delaunay_edit.specs.delaunay_core.declared.math.InsertionError.TheVariants.{OutOfMemory}
-use Rattle.delaunay_edit.specs.delaunay_legalization.declared.cdt_edge.CdtEdge.{CdtEdge}
-use Rattle.delaunay_edit.specs.delaunay_legalization.State.{State}
-use Rattle.delaunay_edit.specs.Constrained.{constrained, constraint_edges}
-use Rattle.delaunay_edit.specs.ConstraintEdits.{AddsConstraint}
-use Rattle.delaunay_edit.specs.Edits.{InsertsVertex}
-use Rattle.delaunay_edit.specs.Headline.{AreSites, IsDelaunay}
+use Rattle.plane.specs.{CanAdd, Point}
+use Rattle.delaunay_core.specs.{InsertionError, OutOfMemory}
+use Rattle.delaunay_legalization.specs.{declared.cdt_edge.CdtEdge.CdtEdge, State.State}
+use Rattle.delaunay_edit.specs.{AddsConstraint, AreSites, constrained, constraint_edges}
+use Rattle.delaunay_edit.specs.{InsertsVertex, IsDelaunay}
 use Rattle.delaunay_interface.specs.declared.constraint_error.ConstraintError.{ConstraintError}
-use Rattle.delaunay_interface.specs.declared.constraint_error.ConstraintError.TheVariants.{
-  Insertion,
-  Conflict,
-}
+use Rattle.delaunay_interface.specs.declared.constraint_error.ConstraintError.TheVariants.{Conflict}
+use Rattle.delaunay_interface.specs.declared.constraint_error.ConstraintError.TheVariants.{Insertion}
 
 -- calls from s may give v
 abbrev pub MayGive : {S V : Type 0} → (S → Option V → S → Type 0) → S → V → Type 0

@@ -1,8 +1,7 @@
 -- What is left of an iterator over inner faces.
 use Rattle.std.specs.Prelude.{ℕ, List}
 use Rattle.std.specs.Borrow.{Bor}
-use Rattle.delaunay_edit.specs.half_edge_dcel.Contents.{Contents}
-use Rattle.delaunay_edit.specs.half_edge_dcel.Left.{each_in}
+use Rattle.half_edge_dcel.specs.{Contents, each_in}
 use Rattle.delaunay_interface.specs.declared.inner_faces.InnerFaceIterator.{InnerFaceIterator}
 
 -- the inner faces that an iterator has still to give

@@ -1,15 +1,15 @@
-pub use Rattle.delaunay_edit.specs.plane as plane
-pub use Rattle.delaunay_edit.specs.plane_theorems as plane_theorems
-pub use Rattle.half_edge_mesh.specs.half_edge_links as half_edge_links
-pub use Rattle.half_edge_mesh.specs.half_edge_dcel as half_edge_dcel
+pub use Rattle.plane.specs as plane
+pub use Rattle.plane_theorems.specs as plane_theorems
+pub use Rattle.half_edge_links.specs as half_edge_links
+pub use Rattle.half_edge_dcel.specs as half_edge_dcel
 pub use Rattle.half_edge_mesh.specs as half_edge_mesh
-pub use Rattle.delaunay_edit.specs.delaunay_core as delaunay_core
-pub use Rattle.delaunay_edit.specs.delaunay_legalization as delaunay_legalization
-pub use Rattle.delaunay_edit.specs.delaunay_location as delaunay_location
+pub use Rattle.delaunay_core.specs as delaunay_core
+pub use Rattle.delaunay_legalization.specs as delaunay_legalization
+pub use Rattle.delaunay_location.specs as delaunay_location
 pub use Rattle.delaunay_edit.specs as delaunay_edit
-pub use Rattle.delaunay_edit.specs.delaunay_location.Conflicts
-pub use Rattle.delaunay_edit.specs.delaunay_location.Items
-pub use Rattle.delaunay_edit.specs.delaunay_location.Walk
+pub use Rattle.delaunay_location.specs.Conflicts
+pub use Rattle.delaunay_location.specs.Items
+pub use Rattle.delaunay_location.specs.Walk
 pub use Rattle.delaunay_edit.specs.Constrained
 pub use Rattle.delaunay_edit.specs.ConstraintEdits
 pub use Rattle.delaunay_edit.specs.Data
@@ -25,3 +25,5 @@ pub use Rattle.delaunay_edit.specs.Writing
 pub mod ConstraintEdges
 pub mod Views
 pub mod InnerFaces
+pub use InnerFaces.{inner_faces_left}
+pub use Views.{AreNotJoined, IsEdgeBetween}

@@ -2,18 +2,12 @@
 use Rattle.std.specs.Prelude.{◌≡◌, ◌≢◌, ◌↔◌, ◌+◌, ◌%◌, ◌<◌, ◌∷◌, []}
 use Rattle.std.specs.Prelude.{ℕ, List, length, map, Contains, AllPairs, slice_index_or}
 use Rattle.std.specs.Borrow.{Bor}
-use Rattle.delaunay_edit.specs.half_edge_links.Mesh.{origin, rev, next, prev, face, face_edge}
-use Rattle.delaunay_edit.specs.half_edge_dcel.Contents.{Contents}
-use Rattle.delaunay_edit.specs.half_edge_dcel.Left.{each_in}
-use Rattle.delaunay_edit.specs.plane.Fraction.{Point}
-use Rattle.delaunay_edit.specs.plane.Side.{side, on, TurnsLeft}
-use Rattle.delaunay_edit.specs.plane.Location.{IsOuter}
-use Rattle.delaunay_edit.specs.plane.Tiling.{Triangulation, IsVertex, vertex}
-use Rattle.delaunay_edit.specs.plane.Plain.{CanAdd}
-use Rattle.delaunay_edit.specs.delaunay_legalization.declared.cdt_edge.CdtEdge.{CdtEdge}
-use Rattle.delaunay_edit.specs.delaunay_legalization.Known.{point_at}
-use Rattle.delaunay_edit.specs.delaunay_legalization.State.{State, state_of, triangulation_of}
-use Rattle.delaunay_edit.specs.Constrained.{constrained}
+use Rattle.plane.specs.{CanAdd, IsOuter, IsVertex, on, Point, side, Triangulation, TurnsLeft}
+use Rattle.half_edge_links.specs.{face, face_edge, next, origin, prev, rev}
+use Rattle.half_edge_dcel.specs.{Contents, each_in}
+use Rattle.delaunay_legalization.specs.{point_at, State.State, state_of, triangulation_of}
+use Rattle.{delaunay_legalization.specs.declared.cdt_edge.CdtEdge.CdtEdge, plane.specs.vertex}
+use Rattle.delaunay_edit.specs.{constrained}
 
 -- all vertices are on one line
 abbrev pub AreOnLine : Triangulation → Type 0

@@ -1,20 +1,17 @@
 //! Constraints between vertices that are inserted for them.
 ghost use Rattle.std.specs.Prelude.{◌≡◌, ◌<◌, List, length, IfOk};
 ghost use Rattle.std.specs.Iterator.{IsFinite};
-ghost use Rattle.delaunay_edit.specs.plane.Tests.{InRange};
-ghost use Rattle.delaunay_edit.specs.Constrained.{constraint_edges};
-ghost use Rattle.delaunay_edit.specs.Headline.{AreSites, IsDelaunay};
+ghost use Rattle.plane.specs.{InRange};
+ghost use Rattle.delaunay_edit.specs.{AreSites, constraint_edges, IsDelaunay};
 ghost use Rattle.delaunay_interface.specs.ConstraintEdges.{AddsConstraintEdge, AddsConstraintEdges};
 ghost use Rattle.delaunay_interface.specs.ConstraintEdges.{InsertsEnd, JoinsVertices, MayGive};
 ghost use Rattle.delaunay_interface.specs.ConstraintEdges.{StaysReady, Takes};
 
-use crate::constraint_error::ConstraintError;
-use crate::triangulation::Triangulation;
-use crate::triangulation_core::ConstrainedDelaunayTriangulation;
-use delaunay_edit::delaunay_core::HintGenerator;
-use delaunay_edit::delaunay_core::math::{InsertionError, PlaneTests};
-use delaunay_edit::delaunay_core::point::HasPosition;
-use delaunay_edit::half_edge_dcel::FixedVertexHandle;
+use crate::{ConstrainedDelaunayTriangulation, ConstraintError, Triangulation};
+use delaunay_core::HintGenerator;
+use delaunay_core::math::{InsertionError, PlaneTests};
+use delaunay_core::point::HasPosition;
+use half_edge_links::FixedVertexHandle;
 
 impl<
     V: HasPosition + Drop,
@@ -70,7 +67,7 @@ impl<
     /// ```
     /// let (from, to) = (Point2::new(0, 0), Point2::new(4, 2));
     /// if site.add_constraint_edge(from, to, &ExactTests)? {
-    ///     println!(rt; "{} walls", site.num_constraints())?;
+    ///     println!(rt; "{} constraints", site.num_constraints())?;
     /// }
     /// ```
     pub fn add_constraint_edge<P: PlaneTests<V::Scalar>>(
@@ -99,7 +96,7 @@ impl<
     /// ```
     /// let corners = [Point2::new(0, 0), Point2::new(4, 0), Point2::new(0, 4)];
     /// site.add_constraint_edges(corners.into_iter(), true, &ExactTests)?;
-    /// println!(rt; "{} walls", site.num_constraints())?; // 3 walls
+    /// println!(rt; "{} constraints", site.num_constraints())?; // 3 constraints
     /// ```
     pub fn add_constraint_edges<I: Iterator<Item = V>, P: PlaneTests<V::Scalar>>(
         &mut self,

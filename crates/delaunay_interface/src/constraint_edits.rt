@@ -1,22 +1,20 @@
 //! Edges and paths that become constraints, and room for it.
 ghost use Rattle.std.specs.Prelude.{◌≡◌, ◌*◌, ◌<◌, ℕ, length, map, All, Ok, OnErr, OnOk};
-ghost use Rattle.delaunay_edit.specs.half_edge_links.Mesh.{origin, rev};
-ghost use Rattle.delaunay_edit.specs.plane.Plain.{Adds, CanAdd};
-ghost use Rattle.delaunay_edit.specs.Constrained.{constrained, constraint_edges, constraints_of};
-ghost use Rattle.delaunay_edit.specs.ConstraintEdits.{AddsConstraint, MarksEdges};
-ghost use Rattle.delaunay_edit.specs.Counting.{HasPairs, IsMissing};
-ghost use Rattle.delaunay_edit.specs.Headline.{IsDelaunay};
+ghost use Rattle.plane.specs.{Adds, CanAdd};
+ghost use Rattle.half_edge_links.specs.{origin, rev};
+ghost use Rattle.delaunay_edit.specs.{AddsConstraint, constrained, constraint_edges};
+ghost use Rattle.delaunay_edit.specs.{constraints_of, HasPairs, IsDelaunay, IsMissing};
+ghost use Rattle.delaunay_edit.specs.ConstraintEdits.{MarksEdges};
 
-use crate::triangulation_core::ConstrainedDelaunayTriangulation;
-use delaunay_edit::delaunay_core::HintGenerator;
-use delaunay_edit::delaunay_core::math::PlaneTests;
-use delaunay_edit::delaunay_core::point::HasPosition;
-use delaunay_edit::delaunay_legalization::{
-    EdgeConstraints, Placed, Sides, is_constraint_edge, legalize,
-};
-use delaunay_edit::delaunay_location::HasMesh;
-use delaunay_edit::half_edge_dcel::{FixedDirectedEdgeHandle, FixedVertexHandle, MeshViews};
+use crate::ConstrainedDelaunayTriangulation;
+use delaunay_core::HintGenerator;
+use delaunay_core::math::PlaneTests;
+use delaunay_core::point::HasPosition;
 use delaunay_edit::{ConstraintViews, add_path, constrain_edge};
+use delaunay_legalization::{EdgeConstraints, Embedding, Sides, is_constraint_edge, legalize};
+use delaunay_location::HasMesh;
+use half_edge_dcel::MeshViews;
+use half_edge_links::{FixedDirectedEdgeHandle, FixedVertexHandle};
 use std::alloc::AllocError;
 
 impl<V: HasPosition, DE, UE, F, L: HintGenerator<V::Scalar>> ConstrainedDelaunayTriangulation<
@@ -43,8 +41,8 @@ impl<V: HasPosition, DE, UE, F, L: HintGenerator<V::Scalar>> ConstrainedDelaunay
         true
     }
 
-    // Adds the path between two vertices, of which so many pieces are no constraints, or a refusal
-    // that changes nothing.
+    // Adds the path between two vertices, of which so many subconstraints are no constraints, or a
+    // refusal that changes nothing.
     pub(crate) fn join_path<P: PlaneTests<V::Scalar>>(
         &mut self,
         from: FixedVertexHandle,

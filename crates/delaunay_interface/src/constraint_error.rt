@@ -1,14 +1,14 @@
 //! Why constraint edges were not added.
 
-use delaunay_edit::delaunay_core::math::InsertionError;
+use delaunay_core::math::InsertionError;
 use thiserror::Error;
 
 /// Why an edge between two new vertices did not become a constraint.
 ///
 /// ```
 /// match site.add_constraint_edge(from, to, &ExactTests) {
-///     Ok(_) => println!(rt; "a wall")?,
-///     Err(ConstraintError::Conflict) => println!(rt; "another wall is in the way")?,
+///     Ok(_) => println!(rt; "a constraint")?,
+///     Err(ConstraintError::Conflict) => println!(rt; "another constraint is in the way")?,
 ///     Err(ConstraintError::Insertion(error)) => println!(rt; "refused: {error}")?,
 /// }
 /// ```

@@ -1,37 +1,27 @@
 //! Constraints: which edges are such, edges that become or cease to be one, and what crosses them.
 ghost use Rattle.std.specs.Prelude.{◌≡◌, ◌⊎◌, ◌↔◌, ◌*◌, ◌<◌, length, map, Contains};
 ghost use Rattle.std.specs.Prelude.{IsTrue, IsOk, IfErr, IfOk, OnErr};
-ghost use Rattle.delaunay_edit.specs.half_edge_links.Mesh.{origin, rev};
-ghost use Rattle.delaunay_edit.specs.plane.Pairs.{Joins};
-ghost use Rattle.delaunay_edit.specs.plane.Plain.{CanAdd, Unconstrains};
-ghost use Rattle.delaunay_edit.specs.delaunay_core.Place.{place_of};
-ghost use Rattle.delaunay_edit.specs.delaunay_legalization.Known.{point_at};
-ghost use Rattle.delaunay_edit.specs.delaunay_legalization.State.{points_and_constraints};
-ghost use Rattle.delaunay_edit.specs.delaunay_legalization.State.{triangulation_of};
-ghost use Rattle.delaunay_edit.specs.delaunay_location.Conflicts.{IntersectsConstraint};
-ghost use Rattle.delaunay_edit.specs.delaunay_location.Walk.{IsReady, WalksLine};
-ghost use Rattle.delaunay_edit.specs.Constrained.{IsFree, constrained, constraint_edges};
-ghost use Rattle.delaunay_edit.specs.Constrained.{constraints_of};
-ghost use Rattle.delaunay_edit.specs.ConstraintEdits.{AddsConstraint, AddsIfFree, AddsPathIfFree};
-ghost use Rattle.delaunay_edit.specs.ConstraintEdits.{MayJoin, ReleasesConstraint};
-ghost use Rattle.delaunay_edit.specs.Data.{HasOtherEdgeData};
-ghost use Rattle.delaunay_edit.specs.Headline.{AreSites, IsDelaunay};
-ghost use Rattle.delaunay_interface.specs.Views.{CanAddConstraint};
+ghost use Rattle.plane.specs.{CanAdd, Joins, Unconstrains};
+ghost use Rattle.half_edge_links.specs.{origin, rev};
+ghost use Rattle.{delaunay_core.specs.place_of, delaunay_interface.specs.Views.CanAddConstraint};
+ghost use Rattle.delaunay_legalization.specs.{point_at, points_and_constraints, triangulation_of};
+ghost use Rattle.delaunay_location.specs.{IntersectsConstraint, IsReady, WalksLine};
+ghost use Rattle.delaunay_edit.specs.{AddsConstraint, AddsPathIfFree, AreSites, constrained};
+ghost use Rattle.delaunay_edit.specs.{constraint_edges, constraints_of, HasOtherEdgeData};
+ghost use Rattle.delaunay_edit.specs.{Constrained.IsFree, IsDelaunay, ReleasesConstraint};
+ghost use Rattle.delaunay_edit.specs.ConstraintEdits.{AddsIfFree, MayJoin};
 
-use crate::triangulation_core::{
-    ConstrainedDelaunayTriangulation, DelaunayTriangulation, TriangulationCore,
-};
-use delaunay_edit::delaunay_core::HintGenerator;
-use delaunay_edit::delaunay_core::math::PlaneTests;
-use delaunay_edit::delaunay_core::point::{HasPosition, Point2};
-use delaunay_edit::delaunay_legalization::{
-    CdtEdge, EdgeConstraints, Placed, free_edge_data, is_constraint_edge,
-};
-use delaunay_edit::delaunay_location::{ConflictingEdgesIterator, HasMesh, LineViews};
-use delaunay_edit::half_edge_dcel::{
-    FixedDirectedEdgeHandle, FixedUndirectedEdgeHandle, FixedVertexHandle, MeshViews,
-};
+use crate::{ConstrainedDelaunayTriangulation, DelaunayTriangulation, TriangulationCore};
+use delaunay_core::HintGenerator;
+use delaunay_core::math::PlaneTests;
+use delaunay_core::point::{HasPosition, Point2};
 use delaunay_edit::{ConstraintViews, PathViews, is_constraint_between, release_constraint};
+use delaunay_legalization::{
+    CdtEdge, EdgeConstraints, Embedding, free_edge_data, is_constraint_edge,
+};
+use delaunay_location::{ConflictingEdgesIterator, HasMesh, LineViews};
+use half_edge_dcel::MeshViews;
+use half_edge_links::{FixedDirectedEdgeHandle, FixedUndirectedEdgeHandle, FixedVertexHandle};
 use std::alloc::AllocError;
 use std::marker::PhantomData;
 
@@ -56,7 +46,7 @@ impl<V: HasPosition, DE, UE, F, L: HintGenerator<V::Scalar>> ConstrainedDelaunay
         ensures { IsTrue result ↔ CanAddConstraint V.place self.now from to }
     {
         let dcel = self.mesh();
-        Placed { dcel, tests }.can_add_path::<EdgeConstraints>(from, to)
+        Embedding { dcel, tests }.can_add_path::<EdgeConstraints>(from, to)
     }
 
     /// Makes constraints of the edges between neighbours among the vertices on the segment between
@@ -92,8 +82,8 @@ impl<V: HasPosition, DE, UE, F, L: HintGenerator<V::Scalar>> ConstrainedDelaunay
     ///
     /// ```
     /// match site.add_constraint_unless_crossed(from, to, &ExactTests)? {
-    ///     Some(made) => println!(rt; "a wall, and a new one: {made}")?,
-    ///     None => println!(rt; "another wall is in the way")?,
+    ///     Some(made) => println!(rt; "a constraint, and a new one: {made}")?,
+    ///     None => println!(rt; "another constraint is in the way")?,
     /// }
     /// ```
     pub fn add_constraint_unless_crossed<P: PlaneTests<V::Scalar>>(
@@ -114,8 +104,8 @@ impl<V: HasPosition, DE, UE, F, L: HintGenerator<V::Scalar>> ConstrainedDelaunay
             let edge = edge.fix();
             return Ok(Some(self.constrain(edge)));
         }
-        let placed = Placed { dcel, tests };
-        let Some(missing) = placed.count_path::<EdgeConstraints>(from, to) else {
+        let embedding = Embedding { dcel, tests };
+        let Some(missing) = embedding.count_path::<EdgeConstraints>(from, to) else {
             return Ok(None);
         };
         if missing == 0 {
@@ -132,7 +122,7 @@ impl<V: HasPosition, DE, UE, F, L: HintGenerator<V::Scalar>> ConstrainedDelaunay
     ///
     /// ```
     /// for edge in site.try_add_constraint(from, to, &ExactTests)? {
-    ///     println!(rt; "wall along edge {}", edge.index())?;
+    ///     println!(rt; "constraint along edge {}", edge.index())?;
     /// }
     /// ```
     pub fn try_add_constraint<P: PlaneTests<V::Scalar>>(
@@ -162,14 +152,14 @@ impl<V: HasPosition, DE, UE, F, L: HintGenerator<V::Scalar>> ConstrainedDelaunay
             self.constrain(edge);
             return Ok(edges);
         }
-        let placed = Placed { dcel, tests };
-        let Some(missing) = placed.count_path::<EdgeConstraints>(from, to) else {
+        let embedding = Embedding { dcel, tests };
+        let Some(missing) = embedding.count_path::<EdgeConstraints>(from, to) else {
             return Ok(edges);
         };
         edges.reserve(dcel.num_vertices())?;
         self.join_path(from, to, missing, tests)?;
         let dcel = self.mesh();
-        Placed { dcel, tests }.edges_along(from, to, &mut edges);
+        Embedding { dcel, tests }.edges_along(from, to, &mut edges);
         Ok(edges)
     }
 
@@ -180,7 +170,7 @@ impl<V: HasPosition, DE, UE, F, L: HintGenerator<V::Scalar>> ConstrainedDelaunay
     ///
     /// ```
     /// if site.remove_constraint_edge(edge, &ExactTests)? {
-    ///     println!(rt; "{} walls are left", site.num_constraints())?;
+    ///     println!(rt; "{} constraints are left", site.num_constraints())?;
     /// }
     /// ```
     pub fn remove_constraint_edge<P: PlaneTests<V::Scalar>>(
@@ -307,7 +297,7 @@ impl<V: HasPosition, DE, UE, F, L: HintGenerator<V::Scalar>> ConstrainedDelaunay
     {
         let start = self.search_start(from, tests);
         let dcel = self.mesh();
-        Placed { dcel, tests }.intersects_constraint::<EdgeConstraints>(from, to, start)
+        Embedding { dcel, tests }.intersects_constraint::<EdgeConstraints>(from, to, start)
     }
 
     /// The constraints that the segment from one position to another meets in one point strictly
@@ -316,8 +306,8 @@ impl<V: HasPosition, DE, UE, F, L: HintGenerator<V::Scalar>> ConstrainedDelaunay
     /// for the first begins.
     ///
     /// ```
-    /// for wall in site.get_conflicting_edges_between_points(from, to, &ExactTests) {
-    ///     println!(rt; "wall {}", wall.as_undirected().fix().index())?;
+    /// for constraint in site.get_conflicting_edges_between_points(from, to, &ExactTests) {
+    ///     println!(rt; "constraint {}", constraint.as_undirected().fix().index())?;
     /// }
     /// ```
     pub fn get_conflicting_edges_between_points<'a, P: PlaneTests<V::Scalar>>(
@@ -335,7 +325,7 @@ impl<V: HasPosition, DE, UE, F, L: HintGenerator<V::Scalar>> ConstrainedDelaunay
     {
         let start = self.search_start(from, tests);
         let dcel = self.mesh();
-        ConflictingEdgesIterator::between_points(&Placed { dcel, tests }, from, to, start)
+        ConflictingEdgesIterator::between_points(&Embedding { dcel, tests }, from, to, start)
     }
 
     /// The same for the segment from one vertex to another.
@@ -354,6 +344,6 @@ impl<V: HasPosition, DE, UE, F, L: HintGenerator<V::Scalar>> ConstrainedDelaunay
         ensures ready { IsReady V.place V.Scalar.whole P.sites P.covered result.line }
     {
         let dcel = self.mesh();
-        ConflictingEdgesIterator::between_vertices(&Placed { dcel, tests }, from, to)
+        ConflictingEdgesIterator::between_vertices(&Embedding { dcel, tests }, from, to)
     }
 }

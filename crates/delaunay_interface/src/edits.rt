@@ -1,20 +1,18 @@
 //! Insertions, of which the hint generator is told.
 ghost use Rattle.std.specs.Prelude.{◌+◌, ◌≤◌, length};
-ghost use Rattle.delaunay_edit.specs.half_edge_links.declared.room.TheConstants.{MAX_ELEMENTS};
-ghost use Rattle.delaunay_edit.specs.plane.Tests.{InRange};
-ghost use Rattle.delaunay_edit.specs.delaunay_legalization.Flips.{CountsFlips, FlipsFit};
-ghost use Rattle.delaunay_edit.specs.Edits.{AreSitesWith, InsertsVertex};
-ghost use Rattle.delaunay_edit.specs.Headline.{AreSites, IsDelaunay};
+ghost use Rattle.{half_edge_links.specs.MAX_ELEMENTS, plane.specs.InRange};
+ghost use Rattle.delaunay_legalization.specs.{CountsFlips, FlipsFit};
+ghost use Rattle.delaunay_edit.specs.{AreSites, Edits.AreSitesWith, InsertsVertex, IsDelaunay};
 
-use crate::triangulation_core::TriangulationCore;
-use delaunay_edit::delaunay_core::HintGenerator;
-use delaunay_edit::delaunay_core::math::{InsertionError, PlaneTests, validate_vertex};
-use delaunay_edit::delaunay_core::point::HasPosition;
-use delaunay_edit::delaunay_legalization::Placed;
-use delaunay_edit::delaunay_location::{LocationViews, PositionInTriangulation};
-use delaunay_edit::delaunay_vertices::{FreeByDefault, reserve_for_vertices};
-use delaunay_edit::half_edge_dcel::FixedVertexHandle;
+use crate::TriangulationCore;
+use delaunay_core::HintGenerator;
+use delaunay_core::math::{InsertionError, PlaneTests, validate_vertex};
+use delaunay_core::point::HasPosition;
 use delaunay_edit::{EdgeData, insert_at};
+use delaunay_legalization::Embedding;
+use delaunay_location::{LocationViews, PositionInTriangulation};
+use delaunay_vertices::{FreeByDefault, reserve_for_vertices};
+use half_edge_links::FixedVertexHandle;
 
 impl<
     V: HasPosition + Drop,
@@ -78,7 +76,7 @@ impl<
             None => self.hint_generator.get_hint(position, tests),
         };
         let dcel = &self.dcel;
-        let location = Placed { dcel, tests }.locate_with_hint(position, start);
+        let location = Embedding { dcel, tests }.locate_with_hint(position, start);
         match location {
             PositionInTriangulation::OnVertex(vertex) => {
                 let _ = self.dcel.update_vertex(vertex, value);

@@ -5,7 +5,8 @@ ghost use Rattle.std.specs.Prelude.{◌≡◌, ◌<◌, ◌≤◌, ⊤, All, IfS
 ghost use Rattle.std.specs.List.{range_with_len};
 ghost use Rattle.std.specs.Iterator.{YieldsFirstBy, YieldsLastBy, item_count};
 
-use delaunay_edit::half_edge_dcel::{Dcel, FaceHandle, FixedFaceIterator, MeshViews};
+use half_edge_dcel::{Dcel, FaceHandle, MeshViews};
+use half_edge_links::FixedFaceIterator;
 use std::alloc::AllocError;
 use std::iter::FusedIterator;
 

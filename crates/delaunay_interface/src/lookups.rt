@@ -1,13 +1,12 @@
 //! The vertex that a search ended at, and the position of a vertex.
 ghost use Rattle.std.specs.Prelude.{◌≡◌, map, Contains, Some};
-ghost use Rattle.delaunay_edit.specs.plane.Fraction.{Point};
-ghost use Rattle.delaunay_edit.specs.delaunay_core.Held.{place_if};
-ghost use Rattle.delaunay_edit.specs.delaunay_legalization.State.{state_of};
-ghost use Rattle.delaunay_edit.specs.Elements.{HasElement};
+ghost use Rattle.{delaunay_core.specs.place_if, plane.specs.Point};
+ghost use Rattle.{delaunay_edit.specs.HasElement, delaunay_legalization.specs.state_of};
 
-use delaunay_edit::delaunay_core::point::{HasPosition, Point2};
-use delaunay_edit::delaunay_location::PositionInTriangulation;
-use delaunay_edit::half_edge_dcel::{Dcel, FixedVertexHandle, MeshViews};
+use delaunay_core::point::{HasPosition, Point2};
+use delaunay_location::PositionInTriangulation;
+use half_edge_dcel::{Dcel, MeshViews};
+use half_edge_links::FixedVertexHandle;
 
 // A vertex of what an answer names, or the first.
 pub(crate) fn vertex_near<V, DE, UE, F>(

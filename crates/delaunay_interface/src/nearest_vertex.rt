@@ -1,15 +1,15 @@
 //! The vertex that is nearest to a position.
 ghost use Rattle.std.specs.Prelude.{◌≡◌, ◌<◌, length, MatchOption};
-ghost use Rattle.delaunay_edit.specs.delaunay_core.Place.{place_of};
-ghost use Rattle.delaunay_edit.specs.Elements.{IsNearestVertex};
-ghost use Rattle.delaunay_edit.specs.Headline.{AreSites};
+ghost use Rattle.delaunay_core.specs.{place_of};
+ghost use Rattle.delaunay_edit.specs.{AreSites, Elements.IsNearestVertex};
 
-use crate::triangulation_core::DelaunayTriangulation;
-use delaunay_edit::delaunay_core::HintGenerator;
-use delaunay_edit::delaunay_core::math::PlaneTests;
-use delaunay_edit::delaunay_core::point::{HasPosition, Point2};
-use delaunay_edit::delaunay_location::{HasMesh, nearest_by_neighbors};
-use delaunay_edit::half_edge_dcel::{FixedVertexHandle, MeshViews, VertexHandle};
+use crate::DelaunayTriangulation;
+use delaunay_core::HintGenerator;
+use delaunay_core::math::PlaneTests;
+use delaunay_core::point::{HasPosition, Point2};
+use delaunay_location::{HasMesh, nearest_by_neighbors};
+use half_edge_dcel::{MeshViews, VertexHandle};
+use half_edge_links::FixedVertexHandle;
 
 // The vertex of a hint, or the first where it is the handle of none.
 fn start_at(hint: FixedVertexHandle, count: usize) -> FixedVertexHandle

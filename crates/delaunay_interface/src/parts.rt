@@ -1,8 +1,7 @@
 //! Names for what the calls of a triangulation give, by the triangulation.
 
-use crate::inner_faces::InnerFaceIterator;
-use crate::triangulation::Triangulation;
-use delaunay_edit::half_edge_dcel::{
+use crate::{InnerFaceIterator, Triangulation};
+use half_edge_dcel::{
     DirectedEdgeIterator, FaceIterator, HullIterator, UndirectedEdgeIterator, VertexIterator,
 };
 use half_edge_mesh::{

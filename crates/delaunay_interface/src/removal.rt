@@ -1,19 +1,18 @@
 //! What is looked up before a vertex goes.
 ghost use Rattle.std.specs.Prelude.{◌≡◌, ◌⊎◌, ◌<◌, [], length, map, All, IfOk};
-ghost use Rattle.delaunay_edit.specs.delaunay_legalization.Constraints.{constraints_by};
-ghost use Rattle.delaunay_edit.specs.delaunay_legalization.Constraints.{points_and_constraints_by};
-ghost use Rattle.delaunay_edit.specs.delaunay_vertices.Pairs.{HasBorder};
-ghost use Rattle.delaunay_edit.specs.Halves.{AreHalvesAt, IsLoss};
+ghost use Rattle.delaunay_legalization.specs.{constraints_by, points_and_constraints_by};
+ghost use Rattle.delaunay_edit.specs.{AreHalvesAt};
+ghost use Rattle.{delaunay_edit.specs.Halves.IsLoss, delaunay_vertices.specs.HasBorder};
 
-use crate::triangulation_core::TriangulationCore;
-use delaunay_edit::delaunay_core::HintGenerator;
-use delaunay_edit::delaunay_core::math::PlaneTests;
-use delaunay_edit::delaunay_core::point::HasPosition;
-use delaunay_edit::delaunay_legalization::Placed;
-use delaunay_edit::delaunay_location::HasMesh;
-use delaunay_edit::delaunay_vertices::{VertexPair, sides_of_hole};
-use delaunay_edit::half_edge_dcel::FixedVertexHandle;
+use crate::TriangulationCore;
+use delaunay_core::HintGenerator;
+use delaunay_core::math::PlaneTests;
+use delaunay_core::point::HasPosition;
 use delaunay_edit::{ConstraintViews, EdgeData, count_constraints_at};
+use delaunay_legalization::Embedding;
+use delaunay_location::HasMesh;
+use delaunay_vertices::{VertexPair, sides_of_hole};
+use half_edge_links::FixedVertexHandle;
 use std::alloc::AllocError;
 
 impl<
@@ -56,7 +55,7 @@ impl<
             return None;
         }
         let dcel = self.mesh();
-        Placed { dcel, tests }.straight_halves::<M>(vertex)
+        Embedding { dcel, tests }.straight_halves::<M>(vertex)
     }
 
     // How many constraints fewer there are when a vertex goes. Where there is none it looks at no

@@ -1,24 +1,23 @@
 //! The calls of the trait, for the struct that both triangulation types are.
 ghost use Rattle.std.specs.Prelude.{refl};
+ghost use Rattle.delaunay_edit.specs.{with_face_data};
 ghost use Rattle.delaunay_edit.specs.Writing.{with_directed_data, with_undirected_data};
-ghost use Rattle.delaunay_edit.specs.Writing.{with_face_data};
 
+use crate::TriangulationCore;
 use crate::lookups::position_if;
 use crate::triangulation::{Triangulation, sealed};
-use crate::triangulation_core::TriangulationCore;
-use delaunay_edit::delaunay_core::HintGenerator;
-use delaunay_edit::delaunay_core::math::{InsertionError, PlaneTests};
-use delaunay_edit::delaunay_core::point::HasPosition;
-use delaunay_edit::delaunay_legalization::EdgeSet;
-use delaunay_edit::delaunay_location::HasMesh;
-use delaunay_edit::delaunay_vertices::{
-    FreeByDefault, RemovalLists, remove_vertex, reserve_for_vertices,
-};
-use delaunay_edit::half_edge_dcel::{
-    Dcel, FixedDirectedEdgeHandle, FixedFaceHandle, FixedUndirectedEdgeHandle, FixedVertexHandle,
+use delaunay_core::HintGenerator;
+use delaunay_core::math::{InsertionError, PlaneTests};
+use delaunay_core::point::HasPosition;
+use delaunay_edit::{CrossingLists, EdgeData, reserve_to_join, settle};
+use delaunay_legalization::EdgeSet;
+use delaunay_location::HasMesh;
+use delaunay_vertices::{FreeByDefault, RemovalLists, remove_vertex, reserve_for_vertices};
+use half_edge_dcel::Dcel;
+use half_edge_links::{
+    FixedDirectedEdgeHandle, FixedFaceHandle, FixedUndirectedEdgeHandle, FixedVertexHandle,
     MAX_ELEMENTS, ReserveError,
 };
-use delaunay_edit::{CrossingLists, EdgeData, reserve_to_join, settle};
 use std::alloc::{AllocError, Global};
 use std::marker::PhantomData;
 

@@ -2,50 +2,40 @@
 ghost use Rattle.std.specs.Prelude.{◌≡◌, ℕ, ◌+◌, ◌*◌, ◌<◌, ◌≤◌, ◌↔◌, [], ◌∷◌, length, map, Some};
 ghost use Rattle.std.specs.Prelude.{IsTrue, IsOk, IsErrOf, IfOk, MatchOption, slice_get, slice_set};
 ghost use Rattle.std.specs.Borrow.{Lends, sem};
-ghost use Rattle.delaunay_edit.specs.half_edge_links.declared.room.TheConstants.{MAX_ELEMENTS};
-ghost use Rattle.delaunay_edit.specs.half_edge_links.Mesh.{empty};
-ghost use Rattle.delaunay_edit.specs.half_edge_links.Room.{AreFewEnough};
-ghost use Rattle.delaunay_edit.specs.plane.Plain.{IsCleared, Replaces};
-ghost use Rattle.delaunay_edit.specs.plane.Tests.{InRange};
-ghost use Rattle.delaunay_edit.specs.delaunay_core.declared.math.InsertionError.TheVariants.{TooLarge};
-ghost use Rattle.delaunay_edit.specs.delaunay_core.declared.math.InsertionError.TheVariants.{OutOfIndexes};
-ghost use Rattle.delaunay_edit.specs.delaunay_legalization.Constraints.{points_and_constraints_by};
-ghost use Rattle.delaunay_edit.specs.Storage.{IsEmptyState};
 ghost use Rattle.std.specs.List.{range_with_len};
-ghost use Rattle.delaunay_edit.specs.half_edge_dcel.Left.{vertices_left, directed_edges_left};
-ghost use Rattle.delaunay_edit.specs.half_edge_dcel.Left.{undirected_edges_left, faces_left};
-ghost use Rattle.delaunay_edit.specs.half_edge_dcel.Rounds.{hull_left};
-ghost use Rattle.delaunay_edit.specs.plane.Hint.{IsAtMostOf};
-ghost use Rattle.delaunay_edit.specs.delaunay_core.Place.{place_of};
-ghost use Rattle.delaunay_edit.specs.delaunay_legalization.Known.{IsKnown, point_at};
-ghost use Rattle.delaunay_edit.specs.delaunay_legalization.State.{State, state_of};
-ghost use Rattle.delaunay_edit.specs.delaunay_legalization.State.{triangulation_of};
-ghost use Rattle.delaunay_edit.specs.Edits.{InsertsVertex, LocatesAndRemoves, RemovesVertex};
-ghost use Rattle.delaunay_edit.specs.Elements.{FindsLocation, GivesElements, IsVertexAt};
-ghost use Rattle.delaunay_edit.specs.Headline.{AreSites, IsDelaunay, IsWellFormed};
-ghost use Rattle.delaunay_edit.specs.Hull.{CountsHullEdges};
+ghost use Rattle.plane.specs.{InRange, IsAtMostOf, PlainEdits.IsCleared, Replaces};
+ghost use Rattle.half_edge_links.specs.{empty, MAX_ELEMENTS, Room.AreFewEnough};
+ghost use Rattle.{half_edge_dcel.specs.hull_left, half_edge_dcel.specs.Left.vertices_left};
+ghost use Rattle.half_edge_dcel.specs.Left.{directed_edges_left, faces_left, undirected_edges_left};
+ghost use Rattle.delaunay_core.specs.{OutOfIndexes, place_of, TooLarge};
+ghost use Rattle.delaunay_legalization.specs.{IsKnown, point_at, points_and_constraints_by};
+ghost use Rattle.delaunay_legalization.specs.{State.State, state_of, triangulation_of};
+ghost use Rattle.delaunay_edit.specs.{AreSites, FindsLocation, GivesElements, InsertsVertex};
+ghost use Rattle.delaunay_edit.specs.{IsDelaunay, IsWellFormed, RemovesVertex, with_face_data};
+ghost use Rattle.delaunay_edit.specs.{Edits.LocatesAndRemoves, Hull.CountsHullEdges};
+ghost use Rattle.delaunay_edit.specs.{Elements.IsVertexAt, Storage.IsEmptyState};
 ghost use Rattle.delaunay_edit.specs.Writing.{with_directed_data, with_undirected_data};
-ghost use Rattle.delaunay_edit.specs.Writing.{with_face_data};
 ghost use Rattle.delaunay_interface.specs.InnerFaces.{inner_faces_left};
-ghost use Rattle.delaunay_interface.specs.Views.{AreNotJoined, AreOnLine, GivesOutline};
-ghost use Rattle.delaunay_interface.specs.Views.{IsEdgeBetween, IsElement, corners_at, ends_at};
+ghost use Rattle.delaunay_interface.specs.Views.{AreNotJoined, AreOnLine, corners_at, ends_at};
+ghost use Rattle.delaunay_interface.specs.Views.{GivesOutline, IsEdgeBetween, IsElement};
 
-use crate::inner_faces::InnerFaceIterator;
 use crate::lookups::vertex_near;
-use crate::parts::{
-    DirectedEdgesOf, DirectedVoronoiEdgesOf, FacesOf, HullOf, InnerFacesOf, UndirectedEdgesOf,
-    UndirectedVoronoiEdgesOf, VerticesOf, VoronoiFacesOf,
+use crate::{
+    DirectedEdgesOf, DirectedVoronoiEdgesOf, FacesOf, HullOf, InnerFaceIterator, InnerFacesOf,
+    UndirectedEdgesOf, UndirectedVoronoiEdgesOf, VerticesOf, VoronoiFacesOf,
 };
+use delaunay_core::HintGenerator;
+use delaunay_core::math::{InsertionError, PlaneTests};
+use delaunay_core::point::{HasPosition, Point2};
 use delaunay_edit::EdgeData;
-use delaunay_edit::delaunay_core::HintGenerator;
-use delaunay_edit::delaunay_core::math::{InsertionError, PlaneTests};
-use delaunay_edit::delaunay_core::point::{HasPosition, Point2};
-use delaunay_edit::delaunay_legalization::Placed;
-use delaunay_edit::delaunay_location::{HasMesh, LocationViews, PositionInTriangulation};
-use delaunay_edit::half_edge_dcel::{
-    Dcel, DirectedEdgeHandle, FaceHandle, FixedDirectedEdgeHandle, FixedDirectedEdgeIterator,
-    FixedFaceHandle, FixedFaceIterator, FixedUndirectedEdgeHandle, FixedUndirectedEdgeIterator,
-    FixedVertexHandle, FixedVertexIterator, MeshViews, UndirectedEdgeHandle, VertexHandle,
+use delaunay_legalization::Embedding;
+use delaunay_location::{HasMesh, LocationViews, PositionInTriangulation};
+use half_edge_dcel::{
+    Dcel, DirectedEdgeHandle, FaceHandle, MeshViews, UndirectedEdgeHandle, VertexHandle,
+};
+use half_edge_links::{
+    FixedDirectedEdgeHandle, FixedDirectedEdgeIterator, FixedFaceHandle, FixedFaceIterator,
+    FixedUndirectedEdgeHandle, FixedUndirectedEdgeIterator, FixedVertexHandle, FixedVertexIterator,
 };
 use half_edge_mesh::VoronoiViews;
 use std::alloc::{AllocError, Global};
@@ -665,7 +655,7 @@ pub trait Triangulation: Drop
             (place_of Self.Vertex.Scalar.whole point) result }
     {
         let dcel = self.s();
-        let answer = Placed { dcel, tests }.locate_with_hint(point, hint);
+        let answer = Embedding { dcel, tests }.locate_with_hint(point, hint);
         let vertex = vertex_near(dcel, &answer);
         self.hint_generator().notify_vertex_lookup(vertex);
         answer

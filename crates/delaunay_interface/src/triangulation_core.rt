@@ -1,20 +1,18 @@
 //! The struct that both triangulation types are.
 ghost use Rattle.std.specs.Prelude.{◌≡◌, IfOk};
-ghost use Rattle.delaunay_edit.specs.delaunay_core.Place.{place_of};
-ghost use Rattle.delaunay_edit.specs.delaunay_legalization.Constraints.{constraints_by};
-ghost use Rattle.delaunay_edit.specs.delaunay_legalization.State.{state_of};
-ghost use Rattle.delaunay_edit.specs.Counting.{IsCounted};
-ghost use Rattle.delaunay_edit.specs.Headline.{AreSites, IsDelaunay, IsWellFormed};
-ghost use Rattle.delaunay_edit.specs.Storage.{IsCopy, KeepsImage};
+ghost use Rattle.{delaunay_core.specs.place_of, delaunay_edit.specs.KeepsImage};
+ghost use Rattle.delaunay_legalization.specs.{constraints_by, state_of};
+ghost use Rattle.delaunay_edit.specs.{AreSites, IsCopy, IsCounted, IsDelaunay, IsWellFormed};
 
-use delaunay_edit::delaunay_core::math::PlaneTests;
-use delaunay_edit::delaunay_core::point::{HasPosition, Point2};
-use delaunay_edit::delaunay_core::{HintGenerator, LastUsedVertexHintGenerator};
-use delaunay_edit::delaunay_legalization::{CdtEdge, EdgeConstraints, EdgeSet, NoConstraints};
-use delaunay_edit::delaunay_location::HasMesh;
-use delaunay_edit::delaunay_vertices::RemovalLists;
-use delaunay_edit::half_edge_dcel::{Dcel, FixedVertexHandle};
+use delaunay_core::math::PlaneTests;
+use delaunay_core::point::{HasPosition, Point2};
+use delaunay_core::{HintGenerator, LastUsedVertexHintGenerator};
 use delaunay_edit::{CrossingLists, EdgeData};
+use delaunay_legalization::{CdtEdge, EdgeConstraints, EdgeSet, NoConstraints};
+use delaunay_location::HasMesh;
+use delaunay_vertices::RemovalLists;
+use half_edge_dcel::Dcel;
+use half_edge_links::FixedVertexHandle;
 use std::alloc::{AllocError, Global};
 use std::marker::{Model, PhantomData};
 
@@ -39,7 +37,7 @@ pub struct TriangulationCore<
     pub(crate) work: EdgeSet,
     // What a removal lists besides.
     pub(crate) lists: RemovalLists,
-    // The edges that cross a piece of a path while it becomes one.
+    // The edges that cross a subconstraint of a path while it becomes one.
     pub(crate) crossing: CrossingLists,
     pub(crate) num_constraints: usize,
     pub(crate) hint_generator: L,
@@ -50,9 +48,8 @@ pub struct TriangulationCore<
 impl<V: HasPosition, DE, UE, F, L: HintGenerator<V::Scalar>, M: EdgeData<UE>> Model
     for TriangulationCore<V, DE, UE, F, L, M> {
     ghost use Rattle.std.specs.Prelude.{◌*◌, map};
-    ghost use Rattle.delaunay_edit.specs.plane.Hint.{IsAtMostOf};
-    ghost use Rattle.delaunay_edit.specs.delaunay_legalization.State.{State, state_of};
-    ghost use Rattle.delaunay_edit.specs.Counting.{IsCounted};
+    ghost use Rattle.{delaunay_legalization.specs.state_of, plane.specs.IsAtMostOf};
+    ghost use Rattle.{delaunay_edit.specs.IsCounted, delaunay_legalization.specs.State.State};
 
     ghost Value = { State V DE UE F };
 
@@ -171,13 +168,13 @@ pub type DelaunayTriangulation<V, DE = (), UE = (), F = (), L = LastUsedVertexHi
 /// sites for its vertices and for positions in range that are inserted, and that positions asked
 /// for are covered.
 ///
-/// Here a wall from vertex 0 to vertex 2, where no other constraint crosses it:
+/// Here a constraint from vertex 0 to vertex 2, where no other constraint crosses it:
 ///
 /// ```
 /// if site.can_add_constraint(from, to, &ExactTests) {
 ///     let made = site.add_constraint(from, to, &ExactTests)?; // true
 /// }
-/// println!(rt; "{} walls", site.num_constraints())?; // 1 walls
+/// println!(rt; "{} constraints", site.num_constraints())?; // 1 constraints
 /// ```
 pub type ConstrainedDelaunayTriangulation<
     V,

@@ -5,29 +5,15 @@ use Rattle.std.proofs.Common.{ℕ, List, length, map, sym, ap, subst, inl, inr, 
 use Rattle.std.specs.Prelude.{pos}
 use Rattle.std.proofs.lemmas.List.{length-append, length-map, length-set, map-append, map-set}
 use Rattle.std.proofs.lemmas.List.{get_or_push, get_or-set_same}
-use Rattle.delaunay_interface.specs.plane.Fraction.{Point, whole}
-use Rattle.delaunay_interface.specs.plane.Location.{Location, on_vertex, IsLocation}
-use Rattle.delaunay_interface.specs.plane.Plain.{Plain, Appends, Inserts, Replaces, points_of}
-use Rattle.delaunay_interface.specs.plane_theorems.Tiling.Laws.{IsSameLocation}
-use Rattle.delaunay_interface.proofs.plane_theorems.Tiling.Locations.{each_point_has_one_location}
-use Rattle.delaunay_interface.specs.delaunay_legalization.Drawn.{faces_of, edges_of, outer_of}
-use Rattle.delaunay_interface.proofs.delaunay_legalization_lemmas.OwnEdges.{own_edges}
-use Rattle.delaunay_interface.specs.delaunay_legalization.Constraints.{points_and_constraints_by}
-use Rattle.delaunay_interface.specs.delaunay_legalization.Known.{point_at}
-use Rattle.delaunay_interface.specs.delaunay_legalization.Shape.{IsTriangulated}
-use Rattle.delaunay_interface.specs.delaunay_legalization.State.{State, triangulation_of}
-use Rattle.delaunay_interface.specs.delaunay_location.declared.position_in_triangulation.PositionInTriangulation.{PositionInTriangulation}
-use Rattle.delaunay_interface.specs.delaunay_location.declared.position_in_triangulation.PositionInTriangulation.TheVariants.{
-  OnVertex,
-  OnEdge,
-  OnFace,
-  OutsideOfConvexHull,
-  NoTriangulation,
-}
-use Rattle.delaunay_interface.specs.delaunay_location.Location.{location_of}
-use Rattle.delaunay_interface.proofs.delaunay_location_lemmas.Locating.{at_vertex}
-use Rattle.delaunay_interface.specs.delaunay_edit.Elements.{FindsLocation}
-use Rattle.delaunay_interface.specs.delaunay_edit.Headline.{IsWellFormed}
+use Rattle.plane.specs.{Appends, Inserts, IsLocation, Location, on_vertex, Plain, Point, points_of}
+use Rattle.{plane_theorems.proofs.each_point_has_one_location, plane_theorems.specs.IsSameLocation}
+use Rattle.delaunay_legalization.specs.{edges_of, faces_of, IsTriangulated, outer_of, point_at}
+use Rattle.delaunay_legalization.specs.{points_and_constraints_by, State.State, triangulation_of}
+use Rattle.delaunay_legalization.proofs.{own_edges}
+use Rattle.delaunay_location.specs.{location_of, NoTriangulation, OnEdge, OnFace, OnVertex}
+use Rattle.delaunay_location.specs.{OutsideOfConvexHull, PositionInTriangulation}
+use Rattle.{delaunay_location.proofs.Locating.at_vertex, plane.specs.Replaces, plane.specs.whole}
+use Rattle.delaunay_edit.specs.{FindsLocation, IsWellFormed}
 
 module _ {V : Type 0} (position : V → Point) (old new : Plain V) (v : V) where
   -- a value that was put in comes last

@@ -7,20 +7,15 @@ use Rattle.std.specs.Prelude.{◌↔◌, Contains}
 use Rattle.std.proofs.lemmas.List.{length_push}
 use Rattle.std.proofs.lemmas.List.Elements.{Contains-append_left, Contains-append_right}
 use Rattle.std.proofs.lemmas.List.Elements.{Contains-push}
-use Rattle.delaunay_interface.specs.plane.Fraction.{Point}
-use Rattle.delaunay_interface.specs.plane.Pairs.{Joins}
-use Rattle.delaunay_interface.specs.plane.Plain.{Plain, Edit as PlainEdit, Run}
-use Rattle.delaunay_interface.specs.delaunay_legalization.Constraints.{points_and_constraints_by}
-use Rattle.delaunay_interface.specs.delaunay_legalization.State.{State}
-use Rattle.delaunay_journal.specs.declared.edit.Edit.{Edit}
-use Rattle.delaunay_journal.specs.declared.edit.Edit.TheVariants.{Insert, Remove, Replace, Clear}
-use Rattle.delaunay_journal.specs.declared.edit.Edit.TheVariants.{AddConstraint, ReleaseConstraint}
-use Rattle.delaunay_journal.specs.declared.edit.Outcome.{Outcome}
-use Rattle.delaunay_journal.specs.declared.edit.Outcome.TheVariants.{Inserted, Removed, Replaced}
-use Rattle.delaunay_journal.specs.declared.edit.Outcome.TheVariants.{Cleared, Added}
-use Rattle.delaunay_journal.specs.declared.edit.Outcome.TheVariants.{Released, Refused}
-use Rattle.delaunay_journal.specs.Journal.{Gives, Replays, edit_made, edits_made}
-use Rattle.delaunay_journal.specs.Marking.{Marking}
+use Rattle.plane.specs.{Joins, Plain, Point, Run}
+use Rattle.plane.specs.PlainEdits.{Edit as PlainEdit}
+use Rattle.delaunay_legalization.specs.{points_and_constraints_by, State.State}
+use Rattle.delaunay_journal.specs.{AddConstraint, Added, Edit, Gives, Insert, Outcome, Refused}
+use Rattle.delaunay_journal.specs.Journal.{edit_made, edits_made, Replays}
+use Rattle.delaunay_journal.specs.{declared.edit.Edit.TheVariants.Replace, Marking.Marking}
+use Rattle.delaunay_journal.specs.declared.edit.Edit.TheVariants.{Clear, ReleaseConstraint, Remove}
+use Rattle.delaunay_journal.specs.declared.edit.Outcome.TheVariants.{Cleared, Inserted, Released}
+use Rattle.delaunay_journal.specs.declared.edit.Outcome.TheVariants.{Removed, Replaced}
 
 -- ---- an edit that comes now, and those after it
 module _ {A : Type 0} {left rest : List A} {first : A} (is : left ≡ first ∷ rest) where

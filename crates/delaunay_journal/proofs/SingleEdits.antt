@@ -3,33 +3,22 @@
 -- unjoined_is_free, joined_by_edge, edge_joined_by, pair_released.
 use Rattle.std.proofs.Common.{◌≡◌, ◌∙◌, ◌*◌, ◌/◌, ◌<◌}
 use Rattle.std.proofs.Common.{ℕ, Bool, List, map, Ok, Err, refl, sym, ap, subst, inl, inr}
-use Rattle.delaunay_interface.specs.half_edge_links.Mesh.{origin, rev}
-use Rattle.delaunay_interface.specs.plane.Fraction.{Point}
-use Rattle.delaunay_interface.specs.plane.Pairs.{Joins, IsSamePair}
-use Rattle.delaunay_interface.specs.plane.Plain.{Plain, Releases}
-use Rattle.delaunay_interface.proofs.delaunay_legalization_lemmas.EdgePairs.{joins_edge}
-use Rattle.delaunay_interface.proofs.delaunay_legalization_lemmas.MeshLegal.{same_joined}
-use Rattle.delaunay_interface.proofs.delaunay_legalization_lemmas.MeshLegal.{turned_join}
-use Rattle.delaunay_interface.proofs.delaunay_legalization_lemmas.MeshStays.{same_pair_back}
-use Rattle.delaunay_interface.specs.delaunay_core.declared.math.InsertionError.{InsertionError}
-use Rattle.delaunay_interface.specs.delaunay_legalization.declared.cdt_edge.CdtEdge.{CdtEdge}
-use Rattle.delaunay_interface.specs.delaunay_legalization.CdtEdge.{is_constraint}
-use Rattle.delaunay_interface.specs.delaunay_legalization.Known.{point_at}
-use Rattle.delaunay_interface.specs.delaunay_legalization.Shape.{IsTriangulated}
-use Rattle.delaunay_interface.specs.delaunay_legalization.State.{State}
-use Rattle.delaunay_interface.proofs.delaunay_legalization_lemmas.ConstraintEdges.{constraints_are_edges}
-use Rattle.delaunay_interface.proofs.delaunay_edit_lemmas.AddingPieces.{half_ends}
-use Rattle.delaunay_interface.specs.delaunay_edit.Constrained.{constrained, constraint_edges}
-use Rattle.delaunay_interface.specs.delaunay_edit.Constrained.{constraints_of}
-use Rattle.delaunay_interface.specs.delaunay_edit.ConstraintEdits.{AddsConstraint, FreesEdge}
-use Rattle.delaunay_interface.specs.delaunay_edit.Edits.{InsertsVertex, RemovesVertex}
-use Rattle.delaunay_interface.specs.Views.{AreNotJoined}
-use Rattle.delaunay_journal.specs.declared.edit.Outcome.TheVariants.{Refused}
+use Rattle.plane.specs.{IsSamePair, Joins, Plain, Point, Releases}
+use Rattle.plane.proofs.{same_joined, turned_join}
+use Rattle.half_edge_links.specs.{origin, rev}
+use Rattle.{delaunay_core.specs.InsertionError, delaunay_edit.proofs.AddingSubconstraints.half_ends}
+use Rattle.delaunay_legalization.specs.{is_constraint, IsTriangulated, point_at, State.State}
+use Rattle.delaunay_legalization.specs.declared.cdt_edge.CdtEdge.{CdtEdge}
+use Rattle.delaunay_legalization.proofs.{constraints_are_edges, joins_edge}
+use Rattle.delaunay_legalization.proofs.MeshStays.{same_pair_back}
+use Rattle.delaunay_edit.specs.{AddsConstraint, constrained, constraint_edges, constraints_of}
+use Rattle.delaunay_edit.specs.{ConstraintEdits.FreesEdge, InsertsVertex, RemovesVertex}
+use Rattle.delaunay_interface.specs.{AreNotJoined}
+use Rattle.delaunay_journal.specs.{declared.edit.Refusal.TheVariants.NoConstraints, Gives, Refused}
+use Rattle.delaunay_journal.specs.Journal.{edit_of, JoinsPair, ReleasesPair}
+use Rattle.delaunay_journal.specs.Marking.{flag_marking, no_marking}
 use Rattle.delaunay_journal.specs.declared.edit.PairEdit.{PairEdit}
 use Rattle.delaunay_journal.specs.declared.edit.PairEdit.TheVariants.{Join, Release}
-use Rattle.delaunay_journal.specs.declared.edit.Refusal.TheVariants.{NoConstraints}
-use Rattle.delaunay_journal.specs.Journal.{Gives, JoinsPair, ReleasesPair, edit_of}
-use Rattle.delaunay_journal.specs.Marking.{flag_marking, no_marking}
 
 -- ---- a pair in either order
 same_either : (a b i j : ℕ) → IsSamePair a b i j → IsSamePair a b j i

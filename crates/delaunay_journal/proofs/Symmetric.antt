@@ -1,19 +1,13 @@
 -- What is asked of two vertices is answered alike in either order.
 -- Lemmas: queries_are_symmetric.
 use Rattle.std.proofs.Common.{◌≡◌, ◌<◌, ◌∙◌, ℕ, List, length, sym, ap, subst, inl, inr}
-use Rattle.delaunay_interface.proofs.half_edge_links_lemmas.Lists.Rev.{rev-rev, rev_within}
-use Rattle.delaunay_interface.specs.half_edge_dcel.Contents.{Contents}
-use Rattle.delaunay_interface.specs.half_edge_links.Mesh.{origin, rev}
-use Rattle.delaunay_interface.specs.plane.Fraction.{Point}
-use Rattle.delaunay_interface.specs.plane.Pairs.{EachPairOnce}
-use Rattle.delaunay_interface.proofs.plane.Indexes.{turned_join}
-use Rattle.delaunay_interface.specs.delaunay_legalization.Drawn.{edges_of}
-use Rattle.delaunay_interface.proofs.delaunay_legalization_lemmas.MeshStays.{one_way}
-use Rattle.delaunay_interface.specs.delaunay_legalization.State.{State}
-use Rattle.delaunay_interface.specs.delaunay_edit.Constrained.{constraints_of}
-use Rattle.delaunay_interface.specs.delaunay_edit.Headline.{IsWellFormed}
-use Rattle.delaunay_interface.specs.Views.{AreNotJoined, IsEdgeBetween}
-use Rattle.delaunay_journal.specs.Laws.{QueriesAreSymmetric}
+use Rattle.half_edge_links.proofs.{rev-rev, rev_within}
+use Rattle.{half_edge_dcel.specs.Contents, half_edge_links.specs.origin, half_edge_links.specs.rev}
+use Rattle.{delaunay_legalization.specs.edges_of, plane.proofs.turned_join}
+use Rattle.{delaunay_legalization.specs.State.State, plane.specs.EachPairOnce, plane.specs.Point}
+use Rattle.delaunay_edit.specs.{constraints_of, IsWellFormed}
+use Rattle.delaunay_interface.specs.{AreNotJoined, IsEdgeBetween}
+use Rattle.{delaunay_journal.specs.Laws.QueriesAreSymmetric, delaunay_legalization.proofs.one_way}
 
 module _ {V D U F : Type 0} (position : V → Point) (constraints : List U → List ℕ)
     (s : State V D U F) (formed : IsWellFormed position constraints s) where

@@ -6,19 +6,13 @@ use Rattle.std.proofs.Common.{inl, inr, arith}
 use Rattle.std.specs.Prelude.{nat_eq, if◌then◌else◌, pos, swap_remove}
 use Rattle.std.proofs.lemmas.Bool.Decides.{nat_tests}
 use Rattle.std.proofs.lemmas.List.{length-append, length-map, get_or_append_left}
-use Rattle.delaunay_interface.specs.plane.Fraction.{Point, whole, IsPositive, WithinSegment}
-use Rattle.delaunay_interface.specs.plane.Pairs.{Joins, IsSamePair, place}
-use Rattle.delaunay_interface.specs.plane.Plain.{Plain, IsPlain, IsSameState, points_of, Appends}
-use Rattle.delaunay_interface.specs.plane.Plain.{Carries, AreStraightHalves, Removes}
-use Rattle.delaunay_interface.proofs.plane.Means.{turned_mean_of_two}
-use Rattle.delaunay_interface.proofs.plane.Indexes.{turned_join}
-use Rattle.delaunay_interface.proofs.plane.Decisions.{Decision, decide_within_segment}
-use Rattle.delaunay_interface.proofs.plane_theorems.Tiling.Locations.{no_edges_cross}
-use Rattle.delaunay_interface.specs.delaunay_legalization.Drawn.{faces_of, edges_of, outer_of}
-use Rattle.delaunay_interface.proofs.delaunay_legalization_lemmas.OwnEdges.{own_edges}
-use Rattle.delaunay_interface.specs.delaunay_legalization.Constraints.{points_and_constraints_by}
-use Rattle.delaunay_interface.specs.delaunay_legalization.State.{State}
-use Rattle.delaunay_interface.specs.delaunay_edit.Headline.{IsWellFormed}
+use Rattle.plane.specs.{Appends, AreStraightHalves, Carries, IsPlain, IsPositive, IsSamePair}
+use Rattle.plane.specs.{IsSameState, Joins, place, Plain, Point, points_of, Removes, whole}
+use Rattle.plane.specs.{WithinSegment}
+use Rattle.plane.proofs.{decide_within_segment, Decision, turned_join, turned_mean_of_two}
+use Rattle.delaunay_legalization.specs.{edges_of, faces_of, outer_of, points_and_constraints_by}
+use Rattle.{delaunay_legalization.proofs.own_edges, delaunay_legalization.specs.State.State}
+use Rattle.{delaunay_edit.specs.IsWellFormed, plane_theorems.proofs.no_edges_cross}
 use Rattle.delaunay_journal.proofs.Inserted.{appended_point, appended_points}
 
 -- without its last entry, which was put in behind it, a list is as it was

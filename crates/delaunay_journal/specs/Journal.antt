@@ -2,34 +2,25 @@
 use Rattle.std.specs.Prelude.{◌≡◌, ◌≢◌, ◌↔◌, ◌<◌, ◌≤◌, [], ◌∷◌, ◌++◌}
 use Rattle.std.specs.Prelude.{ℕ, Bool, true, false, List, length, map, Some, Ok}
 use Rattle.std.specs.Prelude.{Err, IsTrue, slice_get, slice_set}
-use Rattle.delaunay_interface.specs.half_edge_links.Mesh.{empty}
-use Rattle.delaunay_interface.specs.plane.Fraction.{Point}
-use Rattle.delaunay_interface.specs.plane.Pairs.{Joins, SamePairs}
-use Rattle.delaunay_interface.specs.plane.Plain.{Plain, Edit as PlainEdit, insert, replace, remove}
-use Rattle.delaunay_interface.specs.plane.Plain.{add, release, clear, Adds, CanAdd, IsCleared}
-use Rattle.delaunay_interface.specs.plane.Plain.{Releases, Replaces}
-use Rattle.delaunay_interface.specs.delaunay_legalization.Stays.{KeepsIndexes}
-use Rattle.delaunay_interface.specs.delaunay_legalization.Constraints.{constraints_by}
-use Rattle.delaunay_interface.specs.delaunay_legalization.Constraints.{points_and_constraints_by}
-use Rattle.delaunay_interface.specs.delaunay_legalization.Known.{point_at}
-use Rattle.delaunay_interface.specs.delaunay_legalization.State.{State}
-use Rattle.delaunay_interface.specs.delaunay_edit.Adding.{MarksSome}
-use Rattle.delaunay_interface.specs.delaunay_edit.Edits.{InsertsVertex, RemovesVertex}
-use Rattle.delaunay_journal.specs.declared.edit.Edit.{Edit}
-use Rattle.delaunay_journal.specs.declared.edit.Edit.TheVariants.{Insert, Remove, Replace, Clear}
-use Rattle.delaunay_journal.specs.declared.edit.Edit.TheVariants.{AddConstraint, ReleaseConstraint}
-use Rattle.delaunay_journal.specs.declared.edit.Outcome.{Outcome}
-use Rattle.delaunay_journal.specs.declared.edit.Outcome.TheVariants.{Inserted, Removed, Replaced}
-use Rattle.delaunay_journal.specs.declared.edit.Outcome.TheVariants.{Cleared, Added}
-use Rattle.delaunay_journal.specs.declared.edit.Outcome.TheVariants.{Released, Refused}
-use Rattle.delaunay_journal.specs.declared.edit.PairEdit.{PairEdit}
+use Rattle.plane.specs.{Adds, CanAdd, insert, Joins, Plain, Point, Releases, Replaces, SamePairs}
+use Rattle.plane.specs.PlainEdits.{add, clear, Edit as PlainEdit, IsCleared, release, remove}
+use Rattle.half_edge_links.specs.{empty}
+use Rattle.delaunay_legalization.specs.{constraints_by, KeepsIndexes, point_at}
+use Rattle.delaunay_legalization.specs.{points_and_constraints_by, State.State}
+use Rattle.delaunay_edit.specs.{InsertsVertex, MarksSome, RemovesVertex}
+use Rattle.delaunay_journal.specs.{declared.edit.Refusal.TheVariants.OutOfMemory, Marking.Marking}
+use Rattle.delaunay_journal.specs.{declared.edit.Edit.Edit, declared.edit.Edit.TheVariants.Replace}
+use Rattle.delaunay_journal.specs.declared.edit.Edit.TheVariants.{AddConstraint, Clear, Insert}
+use Rattle.delaunay_journal.specs.declared.edit.Edit.TheVariants.{ReleaseConstraint, Remove}
+use Rattle.delaunay_journal.specs.{declared.edit.Outcome.Outcome, declared.edit.PairEdit.PairEdit}
+use Rattle.delaunay_journal.specs.declared.edit.Outcome.TheVariants.{Added, Cleared, Inserted}
+use Rattle.delaunay_journal.specs.declared.edit.Outcome.TheVariants.{Refused, Released, Removed}
+use Rattle.delaunay_journal.specs.declared.edit.Outcome.TheVariants.{Replaced}
 use Rattle.delaunay_journal.specs.declared.edit.PairEdit.TheVariants.{Join, Release}
-use Rattle.delaunay_journal.specs.declared.edit.Refusal.{Refusal}
-use Rattle.delaunay_journal.specs.declared.edit.Refusal.TheVariants.{Insertion, NoVertex}
-use Rattle.delaunay_journal.specs.declared.edit.Refusal.TheVariants.{OtherPosition, NoConstraints}
-use Rattle.delaunay_journal.specs.declared.edit.Refusal.TheVariants.{Conflict, NotConstrained}
-use Rattle.delaunay_journal.specs.declared.edit.Refusal.TheVariants.{OutOfMemory}
-use Rattle.delaunay_journal.specs.Marking.{Marking}
+use Rattle.{delaunay_journal.specs.declared.edit.Refusal.Refusal, plane.specs.PlainEdits.replace}
+use Rattle.delaunay_journal.specs.declared.edit.Refusal.TheVariants.{Conflict, Insertion}
+use Rattle.delaunay_journal.specs.declared.edit.Refusal.TheVariants.{NoConstraints, NotConstrained}
+use Rattle.delaunay_journal.specs.declared.edit.Refusal.TheVariants.{NoVertex, OtherPosition}
 
 module _ {V : Type 0} where
   -- an edit of the constraints between two vertices, as an edit

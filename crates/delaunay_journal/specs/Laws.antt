@@ -1,19 +1,12 @@
 -- What follows of several calls.
 use Rattle.std.specs.Prelude.{◌≡◌, ◌↔◌, ◌<◌, ℕ, List, length}
-use Rattle.delaunay_interface.specs.half_edge_dcel.Contents.{Contents}
-use Rattle.delaunay_interface.specs.half_edge_links.Mesh.{rev}
-use Rattle.delaunay_interface.specs.plane.Fraction.{Point}
-use Rattle.delaunay_interface.specs.plane.Pairs.{Joins}
-use Rattle.delaunay_interface.specs.plane.Plain.{Plain, IsSameState, Appends, Inserts, Removes}
-use Rattle.delaunay_interface.specs.delaunay_legalization.declared.cdt_edge.CdtEdge.{CdtEdge}
-use Rattle.delaunay_interface.specs.delaunay_legalization.Constraints.{points_and_constraints_by}
-use Rattle.delaunay_interface.specs.delaunay_legalization.State.{State}
-use Rattle.delaunay_interface.specs.delaunay_location.declared.position_in_triangulation.PositionInTriangulation.{PositionInTriangulation}
-use Rattle.delaunay_interface.specs.delaunay_location.declared.position_in_triangulation.PositionInTriangulation.TheVariants.{OnVertex}
-use Rattle.delaunay_interface.specs.delaunay_edit.Constrained.{constraints_of}
-use Rattle.delaunay_interface.specs.delaunay_edit.Elements.{FindsLocation}
-use Rattle.delaunay_interface.specs.delaunay_edit.Headline.{IsWellFormed}
-use Rattle.delaunay_interface.specs.Views.{AreNotJoined, IsEdgeBetween}
+use Rattle.plane.specs.{Appends, Inserts, IsSameState, Joins, Plain, Point, Removes}
+use Rattle.half_edge_links.specs.{rev}
+use Rattle.{delaunay_legalization.specs.points_and_constraints_by, half_edge_dcel.specs.Contents}
+use Rattle.delaunay_legalization.specs.{declared.cdt_edge.CdtEdge.CdtEdge, State.State}
+use Rattle.delaunay_location.specs.{OnVertex, PositionInTriangulation}
+use Rattle.delaunay_edit.specs.{constraints_of, FindsLocation, IsWellFormed}
+use Rattle.delaunay_interface.specs.{AreNotJoined, IsEdgeBetween}
 
 -- after an insertion that gave the vertex i, whether it was put in or took the place of another,
 -- each location of its position is on i

@@ -1,7 +1,6 @@
 -- How data of edges get the mark of a constraint.
 use Rattle.std.specs.Prelude.{Bool, true, false}
-use Rattle.delaunay_interface.specs.delaunay_legalization.declared.cdt_edge.CdtEdge.{CdtEdge}
-use Rattle.delaunay_interface.specs.delaunay_legalization.CdtEdge.{is_constraint, with_mark}
+use Rattle.delaunay_legalization.specs.{declared.cdt_edge.CdtEdge.CdtEdge, is_constraint, with_mark}
 
 -- whether they can have it, which have it, and the data with it and without it
 pub record Marking (U : Type 0) : Type 0 where

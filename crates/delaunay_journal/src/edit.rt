@@ -1,7 +1,7 @@
 //! Edits as values, and what they give.
 
-use delaunay_interface::delaunay_core::math::InsertionError;
-use delaunay_interface::half_edge_mesh::FixedVertexHandle;
+use delaunay_core::math::InsertionError;
+use half_edge_links::FixedVertexHandle;
 
 /// An edit of a triangulation. Its handles are those of the state that it is made on. A
 /// triangulation without constraints refuses the last two.

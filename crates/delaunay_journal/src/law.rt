@@ -1,11 +1,11 @@
 //! What follows of several calls.
 ghost use Rattle.std.specs.Prelude.{◌≡◌, ◌-ℤ◌, List};
-ghost use Rattle.delaunay_interface.specs.plane.Side.{Side, opposite};
+ghost use Rattle.plane.specs.{opposite, Side};
 ghost use Rattle.delaunay_journal.specs.Laws.{LocationFindsInsertion, QueriesAreSymmetric};
 ghost use Rattle.delaunay_journal.specs.Laws.{RemovalUndoesInsertion};
 
-use delaunay_interface::delaunay_core::math::PointProjection;
-use delaunay_interface::delaunay_core::point::{Point2, SpadeNum};
+use delaunay_core::math::PointProjection;
+use delaunay_core::point::{Point2, SpadeNum};
 
 /// A law: after an insertion of a value into a triangulation of vertices `V`, edges `D` and `U` and
 /// faces `F`, its position is located on the vertex whose handle the insertion gave.

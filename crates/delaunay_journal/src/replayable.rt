@@ -1,13 +1,13 @@
 //! The types on which lists of edits are replayed, and the edits of their constraints.
 ghost use Rattle.std.specs.Prelude.{◌≡◌};
-ghost use Rattle.delaunay_interface.specs.delaunay_edit.Headline.{AreSites, IsDelaunay};
-ghost use Rattle.delaunay_journal.specs.Journal.{Gives, edit_of};
-ghost use Rattle.delaunay_journal.specs.Marking.{Marking, flag_marking, no_marking};
+ghost use Rattle.delaunay_edit.specs.{AreSites, IsDelaunay};
+ghost use Rattle.delaunay_journal.specs.Journal.{edit_of, Gives};
+ghost use Rattle.delaunay_journal.specs.Marking.{flag_marking, Marking, no_marking};
 
-use crate::edit::{Outcome, PairEdit, Refusal};
-use delaunay_interface::delaunay_core::HintGenerator;
-use delaunay_interface::delaunay_core::math::PlaneTests;
-use delaunay_interface::delaunay_core::point::HasPosition;
+use crate::{Outcome, PairEdit, Refusal};
+use delaunay_core::HintGenerator;
+use delaunay_core::math::PlaneTests;
+use delaunay_core::point::HasPosition;
 use delaunay_interface::{ConstrainedDelaunayTriangulation, DelaunayTriangulation, Triangulation};
 
 /// A triangulation on which lists of edits are replayed: a `DelaunayTriangulation`, which refuses

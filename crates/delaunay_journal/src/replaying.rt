@@ -1,18 +1,15 @@
 //! A list of edits.
 ghost use Rattle.std.specs.Prelude.{◌≡◌, Contains, IfOk, OnErr};
-ghost use Rattle.delaunay_interface.specs.plane.Plain.{Run};
-ghost use Rattle.delaunay_interface.specs.plane.Tests.{InRange};
-ghost use Rattle.delaunay_interface.specs.delaunay_legalization.Constraints.{points_and_constraints_by};
-ghost use Rattle.delaunay_interface.specs.delaunay_edit.Headline.{AreSites, IsDelaunay};
+ghost use Rattle.plane.specs.{InRange, Run};
+ghost use Rattle.delaunay_legalization.specs.{points_and_constraints_by};
+ghost use Rattle.delaunay_edit.specs.{AreSites, IsDelaunay};
+ghost use Rattle.delaunay_journal.specs.Journal.{edits_made, Replays};
 ghost use Rattle.delaunay_journal.specs.declared.edit.Edit.TheVariants.{Insert};
-ghost use Rattle.delaunay_journal.specs.Journal.{Replays, edits_made};
 
-use crate::edit::{Edit, Outcome};
-use crate::replayable::Replayable;
-use crate::steps::make_edit;
+use crate::{Edit, Outcome, Replayable, make_edit};
+use delaunay_core::math::PlaneTests;
+use delaunay_core::point::HasPosition;
 use delaunay_interface::Triangulation;
-use delaunay_interface::delaunay_core::math::PlaneTests;
-use delaunay_interface::delaunay_core::point::HasPosition;
 use std::alloc::AllocError;
 
 /// Makes the edits of a list, one after another, and gives what each gave. An edit that is refused

@@ -1,17 +1,15 @@
 //! One edit.
 ghost use Rattle.std.specs.Prelude.{◌≡◌, ◌↔◌, map, IsTrue};
-ghost use Rattle.delaunay_interface.specs.plane.Tests.{InRange};
-ghost use Rattle.delaunay_interface.specs.delaunay_core.Place.{place_of};
-ghost use Rattle.delaunay_interface.specs.delaunay_edit.Headline.{AreSites, IsDelaunay};
+ghost use Rattle.plane.specs.{InRange};
+ghost use Rattle.{delaunay_core.specs.place_of, delaunay_journal.specs.Journal.Gives};
+ghost use Rattle.delaunay_edit.specs.{AreSites, IsDelaunay};
 ghost use Rattle.delaunay_journal.specs.declared.edit.Edit.TheVariants.{Insert, Remove, Replace};
-ghost use Rattle.delaunay_journal.specs.Journal.{Gives};
 
-use crate::edit::{Edit, Outcome, PairEdit, Refusal};
-use crate::replayable::Replayable;
+use crate::{Edit, Outcome, PairEdit, Refusal, Replayable};
+use delaunay_core::math::PlaneTests;
+use delaunay_core::point::{HasPosition, Point2, SpadeNum};
 use delaunay_interface::Triangulation;
-use delaunay_interface::delaunay_core::math::PlaneTests;
-use delaunay_interface::delaunay_core::point::{HasPosition, Point2, SpadeNum};
-use delaunay_interface::half_edge_mesh::FixedVertexHandle;
+use half_edge_links::FixedVertexHandle;
 
 // Whether two points are one.
 fn is_same<S: SpadeNum>(first: Point2<S>, second: Point2<S>) -> bool
@@ -86,8 +84,8 @@ fn replace<T: Replayable>(
 ///
 /// ```
 /// match make_edit(&mut site, Edit::AddConstraint(from, to), &ExactTests) {
-///     Outcome::Added(_) => println!(rt; "a wall")?,
-///     Outcome::Refused(why) => println!(rt; "no wall: {why:?}")?,
+///     Outcome::Added(_) => println!(rt; "a constraint")?,
+///     Outcome::Refused(why) => println!(rt; "no constraint: {why:?}")?,
 ///     _ => println!(rt; "another edit")?,
 /// }
 /// ```

@@ -5,11 +5,9 @@ use Rattle.std.proofs.Common.{◌≡◌, ℕ, ◌+◌, ◌/◌, ◌≤◌, List}
 use Rattle.std.proofs.Common.{length, get_or, sym, ap, ◌∙◌, subst, arith, inl, inr}
 use Rattle.std.specs.Prelude.{◌<◌, Contains}
 use Rattle.std.proofs.lemmas.Bool.{cases_eq}
-use Rattle.delaunay_legalization.specs.half_edge_links.Mesh.{Mesh, next, prev, rev}
-use Rattle.delaunay_legalization.specs.plane.Fraction.{Point}
-use Rattle.delaunay_legalization.proofs.plane_theorems.Tiling.Totals.{get_or_any}
-use Rattle.delaunay_legalization.specs.Legal.{Gains}
-use Rattle.delaunay_legalization.specs.Among.{FailOnlyOf}
+use Rattle.{plane.specs.Point, plane_theorems.proofs.get_or_any}
+use Rattle.half_edge_links.specs.{Mesh, next, prev, rev}
+use Rattle.delaunay_legalization.specs.{FailOnlyOf, Gains}
 use Rattle.delaunay_legalization.specs.Pushing.{GainsAmong, GainsRoundAmong}
 
 -- ---- the sides

@@ -4,33 +4,20 @@ use Rattle.std.proofs.Common.{◌≡◌, ◌⊎◌, ℕ, ◌*◌, ◌/◌, ◌<�
 use Rattle.std.proofs.Common.{length, refl, sym, ap, ◌∙◌, subst, arith}
 use mathlib.Core.Logic.{◌≢◌, inl, inr}
 use Rattle.std.specs.Prelude.{Contains}
-use Rattle.delaunay_legalization.specs.half_edge_links.Mesh.{Mesh, origin, next, prev, face, rev}
-use Rattle.delaunay_legalization.specs.half_edge_links.Mesh.{edge_at}
-use Rattle.delaunay_legalization.specs.half_edge_links.Mesh.{IsValidMesh}
-use Rattle.delaunay_legalization.specs.half_edge_links.Flip.{IsFlippable, Flips, flipped}
-use Rattle.delaunay_legalization.proofs.half_edge_links_lemmas.Lists.Rev.{rev-rev, rev_within}
-use Rattle.delaunay_legalization.specs.half_edge_links.Places.{AreSixPlaces}
-use Rattle.delaunay_legalization.proofs.half_edge_links_lemmas.Sound.Triangles as T
-use Rattle.delaunay_legalization.proofs.half_edge_links_lemmas.Faces.FlipLemmas.{flips}
-use Rattle.delaunay_legalization.proofs.half_edge_links_lemmas.Faces.FlipSound.{origin_kept}
-use Rattle.delaunay_legalization.proofs.plane.Centre.{circle_turned}
-use Rattle.delaunay_legalization.specs.plane.Circle.{InsideCircle}
-use Rattle.delaunay_legalization.specs.plane.Fraction.{Point}
-use Rattle.delaunay_legalization.specs.plane.Pairs.{place}
-use Rattle.delaunay_legalization.specs.plane_theorems.Tiling.Local.{LocalMesh, IsMesh}
-use Rattle.delaunay_legalization.proofs.plane_theorems.Tiling.Tiles.{point_at}
-use Rattle.delaunay_legalization.specs.plane_theorems.Edits.Change.{IsFaceOf}
-use Rattle.delaunay_legalization.proofs.plane_theorems.Edits.Legalization.Flipping.{one_question}
-use Rattle.delaunay_legalization.proofs.plane_theorems.Edits.LocalMesh.Kept.{turning_of, index_of}
-use Rattle.delaunay_legalization.specs.Drawn.{faces_of, outer_of}
-use Rattle.delaunay_legalization.specs.Legal.{AreEdges, IsFailing, IsPartlyLegal, Gains, GainsRound}
+use Rattle.plane.specs.{InsideCircle, place, Point}
+use Rattle.half_edge_links.specs.{AreSixPlaces, edge_at, face, flipped, Flips, IsFlippable}
+use Rattle.half_edge_links.specs.{IsValidMesh, Mesh, next, origin, prev, rev}
+use Rattle.half_edge_links.proofs.{flips, origin_kept, rev-rev, rev_within}
+use Rattle.plane_theorems.specs.{IsFaceOf, IsMesh, LocalMesh}
+use Rattle.plane_theorems.proofs.{Edits.LocalMesh.Kept.index_of, one_question, point_at, turning_of}
+use Rattle.delaunay_legalization.specs.{AreEdges, faces_of, FailOnlyOf, Gains, GainsRound}
+use Rattle.delaunay_legalization.specs.{IsFailing, IsPartlyLegal, IsQuiet, outer_of}
+use Rattle.delaunay_legalization.specs.{Among.IsQuietEdge, Pushing.GainsRoundAmong}
+use Rattle.{delaunay_legalization.proofs.FarSides.listed_or_not, plane.proofs.circle_turned}
+use Rattle.delaunay_legalization.proofs.{Legalizing.edges_gained, TurnedEnds.KeepsOtherOrigins}
 use Rattle.delaunay_legalization.proofs.MeshEdits.{face_before, face_behind}
+use Rattle.half_edge_links.proofs.Sound.Triangles as T
 use Rattle.delaunay_legalization.proofs.MeshLegal as M
-use Rattle.delaunay_legalization.proofs.TurnedEnds.{KeepsOtherOrigins}
-use Rattle.delaunay_legalization.specs.Among.{IsQuiet, IsQuietEdge, FailOnlyOf}
-use Rattle.delaunay_legalization.specs.Pushing.{GainsRoundAmong}
-use Rattle.delaunay_legalization.proofs.FarSides.{listed_or_not}
-use Rattle.delaunay_legalization.proofs.Legalizing.{edges_gained}
 
 -- ---- a failing edge is not quiet
 -- directed edge h is none of the three of the face on the left of directed edge e

@@ -5,21 +5,14 @@ use Rattle.std.proofs.Common.{◌≡◌, ◌⊎◌, [], ◌∷◌, sym, subst, a
 use mathlib.Core.Logic.{inl, inr}
 use Rattle.std.specs.Prelude.{ℤ, pos, ◌+ℤ◌, ◌-ℤ◌, ◌*ℤ◌, ◌<ℤ◌, ◌≤ℤ◌}
 use Rattle.std.proofs.lemmas.Int.{ints}
-use Rattle.delaunay_legalization.specs.plane.Fraction.{Point, whole, IsPositive, WithinSegment}
-use Rattle.delaunay_legalization.proofs.plane.IntegerOrder.{mul-nonneg_ℤ, mul-nonneg_of_nonpos_ℤ}
-use Rattle.delaunay_legalization.proofs.plane.IntegerOrder.{mul-nonpos_of_nonneg_nonpos_ℤ}
-use Rattle.delaunay_legalization.proofs.plane.IntegerOrder.{nonneg_from_ℤ}
-use Rattle.delaunay_legalization.proofs.plane.IntegerOrder.{lt_or_ge_ℤ}
-use Rattle.delaunay_legalization.proofs.plane.Steps.{weak}
-use Rattle.delaunay_legalization.proofs.plane.Solver.{num, ◌⊕◌, ◌⊖◌, ◌⊗◌, ring_in, ring_in_from}
-use Rattle.delaunay_legalization.proofs.plane.Means.{two_weights}
-use Rattle.delaunay_legalization.proofs.plane.Bracket.{bracket, lift}
-use Rattle.delaunay_legalization.proofs.plane.BracketIdentities.{bracket-outer, bracket-last}
-use Rattle.delaunay_legalization.proofs.plane.Collinear.{place_on, place_of_start, within_by_places}
-use Rattle.delaunay_legalization.proofs.plane.Collinear.{same_by_places}
+use Rattle.plane.specs.{IsPositive, Point, whole, WithinSegment}
+use Rattle.plane.proofs.{◌⊕◌, ◌⊖◌, ◌⊗◌, at_most_by_difference, bracket, bracket-last, bracket-outer}
+use Rattle.plane.proofs.{less_if_not_same, lift, lt_or_ge_ℤ, mul-nonneg_of_nonpos_ℤ, mul-nonneg_ℤ}
+use Rattle.plane.proofs.{mul-nonpos_of_nonneg_nonpos_ℤ, num, place_of_start, place_on, ring_in}
+use Rattle.plane.proofs.{ring_in_from, same_by_places, sum_not_negative, two_weights, weak}
+use Rattle.plane.proofs.{within_by_places}
+use Rattle.plane.proofs.{IntegerOrder.nonneg_from_ℤ, Signs.difference_not_positive}
 use Rattle.delaunay_legalization.specs.Between.{IsFrom, IsInBox}
-use Rattle.delaunay_legalization.proofs.plane.Signs.{at_most_by_difference, difference_not_positive}
-use Rattle.delaunay_legalization.proofs.plane.Signs.{less_if_not_same, sum_not_negative}
 
 -- the part of a place that one coordinate has is not negative, nor more than that of the end
 part_low : (u v p : ℤ) → IsFrom u v p → pos 0 ≤ℤ ((v -ℤ u) *ℤ (p -ℤ pos 1 *ℤ u))

@@ -11,8 +11,7 @@ use Rattle.std.proofs.lemmas.Bool.{ne_eqb, cases_eq, cases_lt}
 use Rattle.std.proofs.lemmas.List.{get_or-set_same, get_or-set_other, get_or_past}
 use Rattle.std.proofs.lemmas.Nat.Bits.{bit_at-zero, bit_at_set_same, bit_at_set_other}
 use Rattle.std.proofs.lemmas.Nat.Bits.{bit_at_clear_same, bit_at_clear_other, shr_and_one}
-use Rattle.delaunay_legalization.proofs.plane_theorems.Tiling.Totals.{get_or_any}
-use Rattle.delaunay_legalization.specs.Bits.{has_bit}
+use Rattle.{delaunay_legalization.specs.has_bit, plane_theorems.proofs.get_or_any}
 
 -- the bit of a place that is not there is not set
 pub no_bit : (k : ℕ) → has_bit [] k ≡ false
@@ -40,8 +39,8 @@ module _ (words : List ℕ) (n word : ℕ) (here : n / 64 < length words) (b : B
     (at : nat_eq (bit_at word (n % 64)) 1 ≡ b)
     (other : (i : ℕ) → i < 64 → i ≢ n % 64
     → bit_at word i ≡ bit_at (get_or words (n / 64) 0) i) where
-  placed : get_or (set words (n / 64) word) (n / 64) 0 ≡ word
-  placed = get_or-set_same words (n / 64) word 0 here
+  embedding : get_or (set words (n / 64) word) (n / 64) 0 ≡ word
+  embedding = get_or-set_same words (n / 64) word 0 here
 
   pub one_bit : (k : ℕ) → has_bit (set words (n / 64) word) k
       ≡ cond (nat_eq n k) b (has_bit words k)
@@ -50,7 +49,7 @@ module _ (words : List ℕ) (n word : ℕ) (here : n / 64 < length words) (b : B
         | inl e ↦ subst (λ c. has_bit (set words (n / 64) word) k ≡ cond c b (has_bit words k))
             (sym (eq-eqb n k e))
             (subst (λ (x : ℕ). has_bit (set words (n / 64) word) x ≡ b) e
-            (ap (λ (x : ℕ). nat_eq (bit_at x (n % 64)) 1) placed ∙ at))
+            (ap (λ (x : ℕ). nat_eq (bit_at x (n % 64)) 1) embedding ∙ at))
         | inr a ↦ subst (λ c. has_bit (set words (n / 64) word) k ≡ cond c b (has_bit words k))
             (sym (ne_eqb n k a)) (as_before a (cases_eq (k / 64) (n / 64)))
       ]
@@ -65,7 +64,7 @@ module _ (words : List ℕ) (n word : ℕ) (here : n / 64 < length words) (b : B
           → has_bit (set words (n / 64) word) k ≡ has_bit words k
       as_before a (inl e) =
           let there : get_or (set words (n / 64) word) (k / 64) 0 ≡ word =
-          ap (λ (x : ℕ). get_or (set words (n / 64) word) x 0) e ∙ placed in
+          ap (λ (x : ℕ). get_or (set words (n / 64) word) x 0) e ∙ embedding in
           let apart : k % 64 ≢ n % 64 = λ f. a (same_number e f) in
           ap (λ (x : ℕ). nat_eq (bit_at x (k % 64)) 1) there
           ∙ ap (λ (x : ℕ). nat_eq x 1) (other (k % 64) low apart)

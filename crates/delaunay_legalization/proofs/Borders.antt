@@ -4,10 +4,9 @@
 use Rattle.std.proofs.Common.{◌≡◌, ◌<◌, [], ◌∷◌, ◌∙◌}
 use Rattle.std.proofs.Common.{ℕ, zero, suc, List, length, sym, ap, subst, arith}
 use Rattle.std.specs.Prelude.{slice_index}
-use Rattle.half_edge_dcel.specs.half_edge_links.Mesh.{Mesh, origin, next, prev, face, AreSoundLinks}
-use Rattle.half_edge_dcel.specs.half_edge_links.Peel.{turn, spoke, IsWheel, IsStrip}
-use Rattle.half_edge_dcel.specs.Hole.{IsBorder, IsHub}
-use Rattle.half_edge_dcel.specs.Removal.{AreSidesOf, first_spoke}
+use Rattle.half_edge_links.specs.{AreSoundLinks, face, IsStrip, IsWheel, Mesh, next, origin, prev}
+use Rattle.half_edge_links.specs.{spoke, turn}
+use Rattle.half_edge_dcel.specs.{AreSidesOf, IsBorder, IsHub, Removal.first_spoke}
 
 -- the three sides round a vertex with three faces
 pub border_of_wheel : (m : Mesh) (v first : ℕ) → AreSoundLinks m → IsWheel m first → origin m first

@@ -4,26 +4,17 @@
 use Rattle.std.proofs.Common.{◌≡◌, ◌⊎◌, ◌*◌, ◌/◌, ◌<◌, ◌∙◌, ℕ, Bool, true, false, List, length, map}
 use Rattle.std.proofs.Common.{refl, sym, ap, subst, inl, inr, arith}
 use Rattle.std.specs.Prelude.{◌↔◌, ℤ, IsTrue}
-use Rattle.delaunay_legalization.specs.half_edge_dcel.Contents.{Contents}
-use Rattle.delaunay_legalization.specs.half_edge_links.Mesh.{Mesh, origin, next, prev, face, rev}
-use Rattle.delaunay_legalization.specs.plane.Circle.{InsideCircle}
-use Rattle.delaunay_legalization.specs.plane.Fraction.{Point, whole}
-use Rattle.delaunay_legalization.specs.plane.Pairs.{Joins}
-use Rattle.delaunay_legalization.specs.plane.Side.{TurnsLeft}
-use Rattle.delaunay_legalization.proofs.plane_theorems.Edits.LocalMesh.Kept.{turning_of}
-use Rattle.delaunay_legalization.specs.Drawn.{faces_of, outer_of}
-use Rattle.delaunay_legalization.specs.Legal.{IsFailing}
-use Rattle.delaunay_legalization.proofs.MeshEdits.{face_before}
-use Rattle.delaunay_legalization.proofs.MeshLegal as M
-use Rattle.delaunay_core.specs.Place.{place_of}
-use Rattle.delaunay_legalization.specs.Around.{CanTurn, IsOpposite, Stays}
-use Rattle.delaunay_legalization.specs.Known.{point_at, IsVertexSite}
-use Rattle.delaunay_legalization.specs.Shape.{IsTriangulated}
-use Rattle.delaunay_legalization.specs.State.{State, state_of}
-use Rattle.delaunay_legalization.specs.declared.around.Opposite.{Opposite}
-use Rattle.delaunay_legalization.proofs.Legalizing.{positive}
+use Rattle.plane.specs.{InsideCircle, Joins, Point, TurnsLeft, whole}
+use Rattle.half_edge_links.specs.{face, Mesh, next, origin, prev, rev}
+use Rattle.delaunay_core.specs.{place_of}
+use Rattle.delaunay_legalization.specs.{faces_of, IsFailing, IsTriangulated, outer_of, point_at}
+use Rattle.delaunay_legalization.specs.{Around.CanTurn, Around.IsOpposite, Around.Stays, state_of}
+use Rattle.delaunay_legalization.specs.{declared.around.Opposite.Opposite, Known.IsVertexSite}
+use Rattle.{delaunay_legalization.specs.State.State, half_edge_dcel.specs.Contents}
+use Rattle.delaunay_legalization.proofs.{Legalizing.positive, MeshEdits.face_before}
 use Rattle.delaunay_legalization.proofs.OppositeTurns.{either_in, failing_either}
-use Rattle.delaunay_legalization.proofs.Questions.{both_ways}
+use Rattle.{delaunay_legalization.proofs.Questions.both_ways, plane_theorems.proofs.turning_of}
+use Rattle.delaunay_legalization.proofs.MeshLegal as M
 
 -- ---- an edge
 -- directed edge e goes from one point to another, and the corners opposite it are where these are
@@ -107,7 +98,7 @@ module _ {S V D U F P : Type 0} {number : S → ℤ} {place : V → Point} {IsSi
   opposite = next c.mesh h
 
   kept : IsTriangulated place (state_of c)
-  kept = turn.placed.kept
+  kept = turn.embedding.kept
 
   outer : IsTrue it.is_outer ↔ ((face c.mesh opposite ≡ 0) ⊎ (face c.mesh (rev opposite) ≡ 0))
   outer = subst (λ (f : ℕ). IsTrue it.is_outer ↔ ((f ≡ 0) ⊎ (face c.mesh (rev opposite) ≡ 0)))
@@ -155,7 +146,7 @@ pub flips_either : {V D U F P : Type 0} {place : V → Point} {IsSite : P → Po
     → IsFailing (map place c.vertices) c.mesh (next c.mesh h) → e ≡ next c.mesh h → k ≡ e / 2
     → MayFlip place c k
 flips_either {place = place} {c = c} {h = h} turn x at half =
-    let kept = turn.placed.kept in
+    let kept = turn.embedding.kept in
     subst (λ (j : ℕ). MayFlip place c j) (sym (half ∙ ap (λ (z : ℕ). z / 2) at)) (record {
       within = rw kept.fits.directed_fit
           (either_in (map place c.vertices) c.mesh kept.valid kept.shape h turn.within x);

@@ -3,15 +3,11 @@
 use Rattle.std.proofs.Common.{◌≡◌, ℕ, ◌*◌, List, length, subst, inl, inr}
 use Rattle.std.specs.Prelude.{Bool, Contains}
 use Rattle.std.specs.List.{range_with_len}
-use Rattle.delaunay_legalization.specs.half_edge_links.Mesh.{Mesh, IsValidMesh}
-use Rattle.delaunay_legalization.specs.plane.Pairs.{Joins}
-use Rattle.delaunay_legalization.specs.Drawn.{edges_of}
-use Rattle.delaunay_legalization.specs.Legal.{pair_at}
+use Rattle.{half_edge_links.specs.IsValidMesh, half_edge_links.specs.Mesh, plane.specs.Joins}
+use Rattle.delaunay_legalization.specs.{constraint_pairs, edges_of, marked_edges, pair_at}
+use Rattle.delaunay_legalization.proofs.{Constraints.fixed_within, WorkList.pairs_are_edges}
 use Rattle.delaunay_legalization.proofs.Entries.{index_listed}
 use Rattle.delaunay_legalization.proofs.WorkLists.{contains_map, contains_map_from}
-use Rattle.delaunay_legalization.specs.Constraints.{marked_edges, constraint_pairs}
-use Rattle.delaunay_legalization.proofs.Constraints.{fixed_within}
-use Rattle.delaunay_legalization.proofs.WorkList.{pairs_are_edges}
 
 module _ {U : Type 0} (marks : U → Bool) (constraints : List U → List ℕ)
     (marked : (ds : List U) → constraints ds ≡ marked_edges marks ds) (m : Mesh) (ds : List U)

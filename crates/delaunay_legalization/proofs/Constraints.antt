@@ -6,11 +6,9 @@ use Rattle.std.proofs.Common.{arith}
 use mathlib.Core.Logic.{inl, inr}
 use Rattle.std.specs.Prelude.{Contains, Some, slice_get, if◌then◌else◌}
 use Rattle.std.proofs.lemmas.Option.{slice_get_within}
-use Rattle.delaunay_legalization.proofs.plane_theorems.Tiling.Totals.{Contains-head, Contains-later}
-use Rattle.delaunay_legalization.proofs.plane_theorems.Tiling.Totals.{Contains-none}
-use Rattle.delaunay_legalization.proofs.plane_theorems.Tiling.Totals.{Contains-cases}
+use Rattle.plane_theorems.proofs.{Contains-cases, Contains-head, Contains-later, Contains-none}
+use Rattle.delaunay_legalization.specs.{marked_edges, marked_from}
 use Rattle.delaunay_legalization.proofs.Entries.{one_value}
-use Rattle.delaunay_legalization.specs.Constraints.{marked_from, marked_edges}
 
 later : (b : Bool) (k : ℕ) (ks : List ℕ) (j : ℕ) → Contains ks j
     → Contains (if b then k ∷ ks else ks) j

@@ -1,17 +1,22 @@
--- The directed edges of a mesh and the pairs of vertices that its edges join.
--- Notions: Contains-map, Contains-map_from; rev_of_even, rev_of_odd, half_of_even, half_of_odd,
--- no_joins, starts_within, edge_joins, joins_edge.
+-- The directed edges of a mesh, and the pairs of vertices that they join.
+-- edge_joins: each directed edge joins its start to its end, among the pairs of the edges
+-- joins_edge: two vertices that are joined have a directed edge from the one to the other
+-- no_joins: the empty list joins no pair
+-- rev_of_even, rev_of_odd: the reverses of the edges 2 k and 2 k + 1
+-- half_of_even, half_of_odd: the undirected edge of both is k
+-- Contains-map, Contains-map_from: the values of a function over a list are its values at the
+--   indexes
+-- starts_within: an edge starts at one of the vertices
 use Rattle.std.proofs.Common.{◌≡◌, ◌≢◌, ◌⊎◌, ◌+◌, ◌*◌, ◌/◌, ◌%◌, ◌<◌, ◌∙◌, []}
 use Rattle.std.proofs.Common.{ℕ, List, length, map, get_or, refl, sym, ap, inl, inr, arith, subst}
 use Rattle.std.specs.Prelude.{Contains}
 use Rattle.std.proofs.lemmas.Bool.{cases_eq}
 use Rattle.std.proofs.lemmas.Grind.{common_steps}
 use Rattle.std.proofs.lemmas.List.{get_or-map, length-map}
-use Rattle.half_edge_dcel.specs.half_edge_links.Mesh.{Mesh, origin, rev, AreSoundLinks}
-use Rattle.half_edge_dcel.specs.half_edge_links.Outline.{Ends, ends}
-use Rattle.half_edge_dcel.proofs.half_edge_links_lemmas.Sound.Ends.{length-ends_twice, get_or-ends}
-use Rattle.plane.specs.Pairs.{Joins}
-use Rattle.delaunay_legalization.specs.Drawn.{pair_of, edges_of}
+use Rattle.plane.specs.{Joins}
+use Rattle.half_edge_links.specs.{AreSoundLinks, Ends, ends, Mesh, origin, rev}
+use Rattle.half_edge_links.proofs.{get_or-ends, length-ends_twice}
+use Rattle.delaunay_legalization.specs.{edges_of, pair_of}
 
 abbrev no_ends : Ends
 no_ends = record { source = 0; target = 0 }

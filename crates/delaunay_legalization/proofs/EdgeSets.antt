@@ -8,12 +8,11 @@ use mathlib.Core.Logic.{inl, inr, ◌≢◌}
 use Rattle.std.specs.Prelude.{◌↔◌, Contains, IsTrue, bit_and, if◌then◌else◌, cond, nat_eq}
 use Rattle.std.proofs.lemmas.Bool.{cases_eq, ne_eqb}
 use Rattle.std.proofs.lemmas.List.{length-append, length-replicate, take_all}
-use Rattle.delaunay_legalization.specs.Bits.{has_bit}
 use Rattle.delaunay_legalization.specs.EdgeSet.{AreFlagged}
 use Rattle.delaunay_legalization.proofs.Bits.{bit_told, bit_within, bits_grown}
-use Rattle.delaunay_legalization.proofs.WorkLists.{once_after, once_before, last_not_before}
-use Rattle.delaunay_legalization.proofs.WorkLists.{at_most_so_many, contains_last, contains_before}
-use Rattle.delaunay_legalization.proofs.WorkLists.{last_or_before}
+use Rattle.delaunay_legalization.proofs.WorkLists.{at_most_so_many, contains_before, contains_last}
+use Rattle.delaunay_legalization.proofs.WorkLists.{last_not_before, last_or_before, once_after}
+use Rattle.{delaunay_legalization.proofs.WorkLists.once_before, delaunay_legalization.specs.has_bit}
 
 -- ---- what flags tell
 -- no flag is both

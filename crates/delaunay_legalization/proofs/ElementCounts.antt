@@ -2,11 +2,10 @@
 -- Lemmas: edges_counted, faces_counted.
 use Rattle.std.proofs.Common.{◌≡◌, ◌∙◌, length, sym, arith}
 use Rattle.std.proofs.lemmas.List.{length-map}
-use Rattle.delaunay_legalization.specs.half_edge_links.Outline.{ends}
-use Rattle.delaunay_legalization.specs.half_edge_links.Triangles.{triangle_at, triangles}
-use Rattle.delaunay_legalization.proofs.half_edge_links_lemmas.Sound.Ends.{length-ends_twice}
-use Rattle.delaunay_legalization.specs.half_edge_dcel.Contents.{Contents, IsMeshWithData}
-use Rattle.delaunay_legalization.specs.Drawn.{corners_of, pair_of, edges_of, faces_of}
+use Rattle.half_edge_links.specs.{ends, triangle_at, triangles}
+use Rattle.half_edge_links.proofs.{length-ends_twice}
+use Rattle.half_edge_dcel.specs.{Contents, IsMeshWithData}
+use Rattle.delaunay_legalization.specs.{corners_of, edges_of, faces_of, pair_of}
 
 module _ {V D U F : Type 0} (c : Contents V D U F) (w : IsMeshWithData c) where
   -- there are as many data of undirected edges as edges of the mesh

@@ -9,19 +9,15 @@ use Rattle.std.proofs.Common.{arith, length-set, get_or-set_same, get_or-set_oth
 use mathlib.Core.Logic.{inl, inr, ◌≢◌}
 use Rattle.std.specs.Prelude.{ℤ, ◌+ℤ◌, Contains}
 use Rattle.std.proofs.lemmas.Int.{ints}
-use Rattle.half_edge_dcel.specs.half_edge_links.Mesh.{Mesh, origin, next, prev, face, face_edge}
-use Rattle.half_edge_dcel.specs.half_edge_links.Mesh.{AreSoundLinks}
-use Rattle.half_edge_dcel.specs.half_edge_links.Triangles.{Triangle, triangles, triangle_at}
-use Rattle.half_edge_dcel.proofs.half_edge_links_lemmas.Sound.Triangles as T
-use Rattle.plane.specs.Tiling.{Face, face as corners}
-use Rattle.plane_theorems.specs.Tiling.Local.{total}
-use Rattle.plane_theorems.proofs.Tiling.Totals.{Contains-head, Contains-later, Contains-none}
-use Rattle.plane_theorems.proofs.Tiling.Totals.{Contains-cases}
-use Rattle.plane_theorems.proofs.Tiling.Totals.{get_or_any}
-use Rattle.plane_theorems.specs.Edits.Change.{IsFaceOf, IsTurnFree}
-use Rattle.plane_theorems.proofs.Edits.LocalMesh.Changes.{total_append}
-use Rattle.delaunay_legalization.specs.Drawn.{corners_of, faces_of}
+use Rattle.plane.specs.{Face, face as corners}
+use Rattle.half_edge_links.specs.{AreSoundLinks, face, face_edge, Mesh, next, origin, prev}
+use Rattle.half_edge_links.specs.{Triangle, triangle_at, triangles}
+use Rattle.plane_theorems.specs.{IsFaceOf, IsTurnFree, total}
+use Rattle.plane_theorems.proofs.{Contains-cases, Contains-head, Contains-later, Contains-none}
+use Rattle.plane_theorems.proofs.{Edits.LocalMesh.Changes.total_append, get_or_any}
+use Rattle.delaunay_legalization.specs.{corners_of, faces_of}
 use Rattle.delaunay_legalization.proofs.OwnEdges.{total-map}
+use Rattle.half_edge_links.proofs.Sound.Triangles as T
 
 -- ---- lists in which one or two entries are written, and some added
 module _ {X : Type 0} (f : X → ℤ) where

@@ -8,22 +8,18 @@ use Rattle.std.specs.Prelude.{ℤ, pos, ◌+ℤ◌, Contains}
 use Rattle.std.specs.List.{AllZip}
 use Rattle.std.proofs.lemmas.Int.{ints}
 use Rattle.std.proofs.lemmas.List.Sorted.{Contains-permutation, IsPermutation-sym}
-use Rattle.half_edge_dcel.specs.half_edge_links.Flow as Sums
-use Rattle.half_edge_dcel.specs.half_edge_links.Triangles.{Triangle}
-use Rattle.half_edge_dcel.specs.Contents.{Contents, IsMeshWithData}
-use Rattle.half_edge_dcel.specs.Removal.{FullFace, full_faces, HasCorners, LosesFaces, FillsHole}
-use Rattle.half_edge_dcel.specs.Removal.{faces_between}
-use Rattle.half_edge_dcel.proofs.OuterSums.{total-permutation, total-append}
-use Rattle.plane.specs.Tiling.{Face, face as corners}
-use Rattle.plane_theorems.specs.Tiling.Local.{total}
-use Rattle.plane_theorems.proofs.Tiling.Totals.{Contains-head, Contains-none, Contains-cases}
-use Rattle.plane_theorems.specs.Edits.Change.{IsFaceOf, IsTurnFree, FacesChange}
-use Rattle.plane_theorems.proofs.Edits.LocalMesh.Changes.{face_kept, turn_of_all}
-use Rattle.delaunay_legalization.specs.Drawn.{corners_of, faces_of}
-use Rattle.delaunay_legalization.proofs.OwnEdges.{total-read}
-use Rattle.delaunay_legalization.proofs.FaceChanges.{contains_map, turned_faces, come_of}
-use Rattle.delaunay_legalization.proofs.FaceChanges.{face_listed}
-use Rattle.delaunay_legalization.proofs.MeshDrops.{whole_faces, mapped_twice}
+use Rattle.plane.specs.{Face, face as corners}
+use Rattle.{half_edge_links.specs.Triangle, plane_theorems.proofs.Edits.LocalMesh.Changes.face_kept}
+use Rattle.plane_theorems.specs.{FacesChange, IsFaceOf, IsTurnFree, total}
+use Rattle.plane_theorems.proofs.{Contains-cases, Contains-head, Contains-none, turn_of_all}
+use Rattle.half_edge_dcel.specs.{Contents, faces_between, FillsHole, full_faces, FullFace}
+use Rattle.half_edge_dcel.specs.{HasCorners, IsMeshWithData, LosesFaces}
+use Rattle.half_edge_dcel.proofs.OuterSums.{total-append, total-permutation}
+use Rattle.delaunay_legalization.specs.{corners_of, faces_of}
+use Rattle.delaunay_legalization.proofs.FaceChanges.{come_of, contains_map, face_listed}
+use Rattle.delaunay_legalization.proofs.{FaceChanges.turned_faces, OwnEdges.total-read}
+use Rattle.delaunay_legalization.proofs.MeshDrops.{mapped_twice, whole_faces}
+use Rattle.half_edge_links.specs.Flow as Sums
 
 none_made : (new : List Face) (i j k : ℕ) → IsFaceOf [] i j k → IsFaceOf new i j k
 none_made new i j k (inl c) = absurd (Contains-none (corners i j k) c)

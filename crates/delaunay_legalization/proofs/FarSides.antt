@@ -5,39 +5,23 @@ use Rattle.std.proofs.Common.{length, refl, sym, ap, ◌∙◌, subst}
 use mathlib.Core.Logic.{◌≢◌, inl, inr}
 use Rattle.std.specs.Prelude.{Contains}
 use Rattle.std.proofs.lemmas.Bool.{cases_eq}
-use Rattle.delaunay_legalization.specs.half_edge_links.Mesh.{Mesh, origin, next, prev, rev}
-use Rattle.delaunay_legalization.specs.half_edge_links.Mesh.{IsValidMesh}
-use Rattle.delaunay_legalization.specs.half_edge_links.Flip.{IsFlippable, Flips, flipped}
-use Rattle.delaunay_legalization.proofs.half_edge_links_lemmas.Lists.Rev.{rev-rev}
-use Rattle.delaunay_legalization.specs.half_edge_links.Places.{AreSixPlaces}
-use Rattle.delaunay_legalization.proofs.half_edge_links_lemmas.Sound.Triangles as T
-use Rattle.delaunay_legalization.proofs.half_edge_links_lemmas.Faces.FlipLemmas.{flips}
-use Rattle.delaunay_legalization.proofs.half_edge_links_lemmas.Faces.FlipSound.{origin_kept}
-use Rattle.delaunay_legalization.proofs.half_edge_links_lemmas.Faces.FlipTriangles.{triangles_flipped}
-use Rattle.delaunay_legalization.specs.plane.Fraction.{Point}
-use Rattle.delaunay_legalization.specs.plane.Pairs.{Joins}
-use Rattle.delaunay_legalization.specs.plane.Tiling.{face as corners}
-use Rattle.delaunay_legalization.specs.plane_theorems.Tiling.Local.{LocalMesh, IsMesh}
-use Rattle.delaunay_legalization.proofs.plane_theorems.Tiling.Totals.{Contains-head, Contains-later}
-use Rattle.delaunay_legalization.proofs.plane_theorems.Tiling.Totals.{Contains-none}
-use Rattle.delaunay_legalization.proofs.plane_theorems.Tiling.Totals.{Contains-cases}
-use Rattle.delaunay_legalization.specs.plane_theorems.Edits.Change.{IsFaceOf, FacesChange}
-use Rattle.delaunay_legalization.specs.plane_theorems.Edits.Legal.{AllPassBut}
-use Rattle.delaunay_legalization.specs.Drawn.{faces_of, outer_of}
-use Rattle.delaunay_legalization.specs.Legal.{pairs_at, AreEdges, IsFailing, IsPartlyLegal, Gains}
-use Rattle.delaunay_legalization.specs.Legal.{GainsRound}
-use Rattle.delaunay_legalization.proofs.FaceChanges.{turned_faces}
+use Rattle.plane.specs.{face as corners, Joins, Point}
+use Rattle.half_edge_links.specs.{AreSixPlaces, flipped, Flips, IsFlippable, IsValidMesh, Mesh}
+use Rattle.half_edge_links.specs.{next, origin, prev, rev}
+use Rattle.half_edge_links.proofs.{flips, origin_kept, rev-rev}
+use Rattle.half_edge_links.proofs.Faces.FlipTriangles.{triangles_flipped}
+use Rattle.plane_theorems.specs.{AllPassBut, FacesChange, IsEmptyRound, IsFaceOf, IsMesh, LocalMesh}
+use Rattle.plane_theorems.proofs.{Contains-cases, Contains-head, Contains-later, Contains-none}
+use Rattle.plane_theorems.proofs.Edits.Legalization.EmptyRound.{failing_is_opposite}
+use Rattle.plane_theorems.proofs.Edits.Legalization.EmptyRound.{flip_stays_empty, spokes_pass}
+use Rattle.delaunay_legalization.specs.{AreEdges, faces_of, Gains, GainsRound, IsFailing}
+use Rattle.delaunay_legalization.specs.{IsPartlyLegal, outer_of, pairs_at, Pushing.KeepsEntries}
+use Rattle.delaunay_legalization.proofs.{FaceChanges.turned_faces, TurnedEnds.other_ends_stay}
+use Rattle.delaunay_legalization.proofs.{Legalizing.edges_gained, MeshStays.half_same}
 use Rattle.delaunay_legalization.proofs.MeshEdits.{face_before, face_behind, flipped_faces}
+use Rattle.delaunay_legalization.proofs.TurnedEnds.{ends_at_next, KeepsOtherOrigins}
+use Rattle.half_edge_links.proofs.Sound.Triangles as T
 use Rattle.delaunay_legalization.proofs.MeshLegal as M
-use Rattle.delaunay_legalization.proofs.MeshStays.{half_same}
-use Rattle.delaunay_legalization.proofs.TurnedEnds.{KeepsOtherOrigins, other_ends_stay}
-use Rattle.delaunay_legalization.proofs.TurnedEnds.{ends_at_next}
-use Rattle.delaunay_legalization.specs.plane_theorems.Edits.EmptyRound.{IsEmptyRound}
-use Rattle.delaunay_legalization.specs.Pushing.{KeepsEntries}
-use Rattle.delaunay_legalization.proofs.plane_theorems.Edits.Legalization.EmptyRound.{failing_is_opposite}
-use Rattle.delaunay_legalization.proofs.plane_theorems.Edits.Legalization.EmptyRound.{flip_stays_empty}
-use Rattle.delaunay_legalization.proofs.plane_theorems.Edits.Legalization.EmptyRound.{spokes_pass}
-use Rattle.delaunay_legalization.proofs.Legalizing.{edges_gained}
 
 -- ---- an edge at the vertex may be left out
 -- a mesh with a face is no line

@@ -2,7 +2,7 @@
 -- Lemmas: flips_fit, few_flips_fit, first_count_is_small.
 use Rattle.std.proofs.Common.{ℕ, ◌+◌, ◌-◌, ◌*◌, ◌≤◌, ◌<◌, ◌^◌, arith}
 use Rattle.std.proofs.lemmas.Nat.{mul-le}
-use Rattle.delaunay_legalization.specs.Flips.{CountsFlips, FlipsFit}
+use Rattle.delaunay_legalization.specs.{CountsFlips, FlipsFit}
 
 below : (before q : ℕ) → q ≤ 4294967296 * 4294967295 → before < 2 ^ 63 → 2 * before + q < 2 ^ 65
 below before q few small = omega (arith, few, small)

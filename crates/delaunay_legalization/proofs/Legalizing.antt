@@ -6,26 +6,17 @@ use Rattle.std.proofs.Common.{◌≡◌, ◌+◌, ◌-◌, ◌*◌, ◌/◌, ◌
 use Rattle.std.proofs.Common.{ℕ, suc, List, length, map, refl, sym, ap, subst, arith}
 use mathlib.Core.Logic.{◌≢◌}
 use Rattle.std.specs.Prelude.{Contains, take}
-use Rattle.delaunay_legalization.specs.half_edge_dcel.Contents.{Contents}
-use Rattle.delaunay_legalization.specs.half_edge_links.Mesh.{Mesh, origin, next, prev, rev}
-use Rattle.delaunay_legalization.specs.half_edge_links.Mesh.{IsValidMesh}
-use Rattle.delaunay_legalization.specs.half_edge_links.Flip.{IsFlippable, flipped}
-use Rattle.delaunay_legalization.proofs.half_edge_links_lemmas.Faces.FlipLemmas.{flips}
-use Rattle.delaunay_legalization.specs.plane.Fraction.{Point}
-use Rattle.delaunay_legalization.specs.plane_theorems.Tiling.Local.{LocalMesh, IsMesh}
-use Rattle.delaunay_legalization.specs.plane.Delaunay.{IsLocallyDelaunay}
-use Rattle.delaunay_legalization.specs.plane_theorems.Edits.Legal.{AllPassBut}
-use Rattle.delaunay_legalization.proofs.plane_theorems.Edits.Legalization.Flipping.{none_left}
 use Rattle.std.proofs.lemmas.List.{length-map}
-use Rattle.delaunay_legalization.specs.Drawn.{drawn, faces_of, edges_of, outer_of}
-use Rattle.delaunay_legalization.specs.Legal.{AreEdges, IsFailing, IsPartlyLegal, Gains, GainsRound}
-use Rattle.delaunay_legalization.specs.Legal.{pairs_at, steps_left}
-use Rattle.delaunay_legalization.specs.Stays.{KeepsIndexes}
-use Rattle.delaunay_legalization.proofs.MeshLegal as M
-use Rattle.delaunay_legalization.proofs.WorkLists.{contains_last}
-use Rattle.delaunay_legalization.specs.Constraints.{constraint_pairs}
-use Rattle.delaunay_legalization.specs.Shape.{IsTriangulated}
+use Rattle.half_edge_links.specs.{flipped, IsFlippable, IsValidMesh, Mesh, next, origin, prev, rev}
+use Rattle.{half_edge_links.proofs.flips, plane.specs.IsLocallyDelaunay, plane.specs.Point}
+use Rattle.plane_theorems.specs.{AllPassBut, IsMesh, LocalMesh}
+use Rattle.plane_theorems.proofs.Edits.Legalization.Flipping.{none_left}
+use Rattle.delaunay_legalization.specs.{AreEdges, constraint_pairs, drawn, edges_of, faces_of}
+use Rattle.delaunay_legalization.specs.{Gains, GainsRound, IsFailing, IsPartlyLegal, IsTriangulated}
+use Rattle.delaunay_legalization.specs.{KeepsIndexes, outer_of, pairs_at, steps_left}
 use Rattle.delaunay_legalization.specs.State.{State}
+use Rattle.{delaunay_legalization.proofs.WorkLists.contains_last, half_edge_dcel.specs.Contents}
+use Rattle.delaunay_legalization.proofs.MeshLegal as M
 
 module _ {points : List Point} {m : Mesh} (s : IsValidMesh m) (shape : IsMesh points (faces_of m)
     (outer_of m)) {e : ℕ} (within : e < length m.half_edges) where

@@ -1,6 +1,6 @@
 pub use Rattle.plane.proofs as plane
 pub use Rattle.plane_theorems.proofs as plane_theorems
-pub use Rattle.half_edge_dcel.proofs.half_edge_links_lemmas as half_edge_links_lemmas
+pub use Rattle.half_edge_links.proofs as half_edge_links_lemmas
 pub use Rattle.half_edge_dcel.proofs as half_edge_dcel_lemmas
 pub use Rattle.delaunay_core.proofs as delaunay_core_lemmas
 -- Lists, and lists of edges to test.
@@ -76,3 +76,26 @@ pub mod AmongSteps
 pub mod AmongSides
 pub mod RoundLists
 pub mod RoundSteps
+pub use ConstraintEdges.{constraints_are_edges}
+pub use Constraints.{fixed_edge_is, fixed_within}
+pub use EdgePairs.{edge_joins, half_of_even, joins_edge, no_joins, rev_of_even}
+pub use ElementCounts.{edges_counted, faces_counted}
+pub use Entries.{one_value}
+pub use FaceChanges.{turned_faces}
+pub use MarkedPairs.{joined_by_mark, JoinsByMark, mark_joins}
+pub use MeshEdits.{face_before}
+pub use MeshLegal.{IsListedEdge, joins_directed, line_has_none, listed_edge, none_or_some}
+pub use MeshLegal.{own_indexes}
+pub use MeshParts.{mesh_edge, mesh_face, outer_bare}
+pub use MeshStars.{edge_of_face}
+pub use MeshStays.{face_there, half_same, halved, one_way, slice_get-set_other}
+pub use OneOutline.{one_outline}
+pub use OuterEdges.{listed, real}
+pub use OutlineGiven.{along_ends, along_goes_on, along_next, indexes, IsGoingAlong}
+pub use OwnEdges.{own_edges}
+pub use Questions.{both_ways, covered_in}
+pub use Rounds.{IsGoingRound, round_at, round_of}
+pub use Shapes.{laid_out_tiles}
+pub use StarTurns.{same_start}
+pub use WorkLists.{at_most_so_many, contains_before, contains_last, contains_map, contains_map_from}
+pub use WorkLists.{once_after}

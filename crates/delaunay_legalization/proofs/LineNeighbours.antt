@@ -7,19 +7,12 @@ use mathlib.Core.Logic.{inl, inr, ◌≢◌}
 use Rattle.std.specs.Prelude.{ℤ, pos, ◌-ℤ◌, ◌<ℤ◌, Contains}
 use Rattle.std.proofs.lemmas.Int.{ints}
 use Rattle.std.proofs.lemmas.Bool.{cases_eq}
-use Rattle.plane.specs.Fraction.{Point, whole}
-use Rattle.plane.specs.Pairs.{IsIndex}
-use Rattle.plane.proofs.IntegerOrder.{lt_or_ge_ℤ}
-use Rattle.plane.proofs.Bracket.{bracket, lift}
-use Rattle.plane.proofs.BracketIdentities.{bracket-outer}
-use Rattle.plane_theorems.specs.Tiling.Local.{LineMesh}
-use Rattle.plane_theorems.proofs.Tiling.Counting.{at}
-use Rattle.plane_theorems.proofs.Tiling.Tiles.{point_at}
-use Rattle.plane_theorems.proofs.Tiling.Line.{SignLine, Adjoin, next_turned}
-use Rattle.plane_theorems.proofs.Tiling.LineMeshes.{line_by_signs}
+use Rattle.plane.specs.{IsIndex, Point, whole}
+use Rattle.plane.proofs.{at_most_both_ways, below_and_not_below, bracket, bracket-outer}
+use Rattle.plane.proofs.{less_twice_is_not_same, lift, lt_or_ge_ℤ}
+use Rattle.plane_theorems.specs.{LineMesh, LineMeshWithout}
+use Rattle.plane_theorems.proofs.{Adjoin, at, line_by_signs, next_turned, point_at, SignLine}
 use Rattle.plane_theorems.proofs.Tiling.LinePlaces as O
-use Rattle.plane_theorems.specs.Edits.Removal.{LineMeshWithout}
-use Rattle.plane.proofs.Signs.{at_most_both_ways, less_twice_is_not_same, below_and_not_below}
 
 -- different vertices have different heights
 abbrev pub HaveOwnHeights : (ℕ → ℤ) → ℕ → Type 0

@@ -4,18 +4,12 @@ use Rattle.std.proofs.Common.{◌≡◌, ◌⊎◌, ℕ, ◌<◌, List, arith}
 use mathlib.Core.Logic.{inl, inr, ◌≢◌}
 use Rattle.std.specs.Prelude.{ℤ, pos, ◌+ℤ◌, ◌-ℤ◌, ◌*ℤ◌, ◌<ℤ◌, ◌≤ℤ◌, Contains}
 use Rattle.std.proofs.lemmas.Int.{ints}
-use Rattle.plane.specs.Fraction.{Point}
-use Rattle.plane.specs.Tiling.{Face}
-use Rattle.plane.proofs.IntegerOrder.{mul-nonneg_ℤ, mul-nonpos_of_nonneg_nonpos_ℤ}
-use Rattle.plane.proofs.IntegerOrder.{nonneg_of_mul-nonneg_ℤ}
-use Rattle.plane.proofs.IntegerOrder.{pos-ne-zero_ℤ, zero_of_mul-zero_ℤ}
-use Rattle.plane.proofs.Steps.{weak, negated_below, zero_or_left, product_zero_left}
-use Rattle.plane.proofs.Bracket.{Vec3, bracket}
-use Rattle.plane.proofs.BracketIdentities.{bracket-swap, pluecker}
-use Rattle.plane.proofs.Generic.{not_on_line}
-use Rattle.plane_theorems.proofs.Tiling.Counting.{at, SignMesh}
-use Rattle.plane_theorems.proofs.Tiling.Sweep.{IsSweep}
-use Rattle.plane.proofs.Signs.{named_difference_is_positive}
+use Rattle.plane.specs.{Face, Point}
+use Rattle.plane.proofs.{bracket, bracket-swap, mul-nonneg_ℤ, mul-nonpos_of_nonneg_nonpos_ℤ}
+use Rattle.plane.proofs.{negated_below, nonneg_of_mul-nonneg_ℤ, not_on_line, pluecker}
+use Rattle.plane.proofs.{pos-ne-zero_ℤ, product_zero_left, Vec3, weak, zero_of_mul-zero_ℤ}
+use Rattle.plane.proofs.{Signs.named_difference_is_positive, zero_or_left}
+use Rattle.plane_theorems.proofs.{at, SignMesh, Tiling.Sweep.IsSweep}
 
 -- ---- steps
 

@@ -7,16 +7,14 @@ use Rattle.std.proofs.Common.{get_or, set, refl, sym, ap, ◌∙◌, subst, inl,
 use Rattle.std.specs.Prelude.{Contains, Some, slice_get}
 use Rattle.std.proofs.lemmas.Bool.{cases_eq}
 use Rattle.std.proofs.lemmas.Option.{slice_get_within, slice_get-get_or}
-use Rattle.delaunay_legalization.specs.half_edge_links.Mesh.{Mesh, origin, rev}
-use Rattle.delaunay_legalization.specs.plane.Pairs.{Joins, IsSamePair}
-use Rattle.delaunay_legalization.specs.Legal.{pair_at}
-use Rattle.delaunay_legalization.specs.Stays.{GoSameWay}
+use Rattle.half_edge_links.specs.{Mesh, origin, rev}
+use Rattle.delaunay_legalization.specs.{constraint_pairs, GoSameDirection, marked_edges, not_both}
+use Rattle.{delaunay_legalization.specs.pair_at, plane.specs.IsSamePair, plane.specs.Joins}
+use Rattle.delaunay_legalization.proofs.Constraints.{fixed_edge_is, fixed_within}
+use Rattle.delaunay_legalization.proofs.Constraints.{is_constraint_edge}
 use Rattle.delaunay_legalization.proofs.Entries.{one_value, some_entry}
 use Rattle.delaunay_legalization.proofs.MeshStays.{slice_get-set_other}
 use Rattle.delaunay_legalization.proofs.WorkLists.{contains_map, contains_map_from, same_map}
-use Rattle.delaunay_legalization.specs.Constraints.{marked_edges, constraint_pairs, not_both}
-use Rattle.delaunay_legalization.proofs.Constraints.{is_constraint_edge, fixed_edge_is}
-use Rattle.delaunay_legalization.proofs.Constraints.{fixed_within}
 
 -- what was written is read
 pub set_entry : {X : Type 0} (xs : List X) (k : ℕ) (d x : X) → slice_get xs k ≡ Some d →
@@ -87,7 +85,7 @@ module _ {U : Type 0} (marks : U → Bool) (constraints : List U → List ℕ)
 
   -- where each constraint keeps its ends, the pairs stay
   pub pairs_stay : (m n : Mesh) (ds : List U)
-      → ((k : ℕ) → Contains (constraints ds) k → GoSameWay m (2 * k) n (2 * k))
+      → ((k : ℕ) → Contains (constraints ds) k → GoSameDirection m (2 * k) n (2 * k))
       → constraint_pairs constraints n ds ≡ constraint_pairs constraints m ds
   pairs_stay m n ds same =
       same_map (pair_at n) (pair_at m) (constraints ds) (λ k c. let s = same k c in

@@ -7,30 +7,20 @@ use Rattle.std.proofs.Common.{ℕ, List, length, map, refl, sym, ap, subst}
 use Rattle.std.proofs.Common.{arith}
 use Rattle.std.specs.Prelude.{Contains, swap_remove, nat_eq, if◌then◌else◌}
 use Rattle.std.proofs.lemmas.Option.{slice_get_within}
-use Rattle.half_edge_dcel.specs.half_edge_links.Mesh.{Mesh, AreSoundLinks, IsAlone, origin}
-use Rattle.half_edge_dcel.specs.half_edge_links.Mesh.{out_edge}
-use Rattle.half_edge_dcel.specs.half_edge_links.Outline.{Ends}
-use Rattle.half_edge_dcel.specs.half_edge_links.Flow.{outline}
-use Rattle.half_edge_dcel.specs.half_edge_links.Triangles.{Triangle, triangles, triangle_at}
-use Rattle.half_edge_dcel.proofs.half_edge_links_lemmas.Removing.OpenSound.{swap_remove_default}
-use Rattle.half_edge_dcel.specs.Contents.{Contents, IsMeshWithData}
-use Rattle.half_edge_dcel.specs.Removal.{FullFace, full_faces, full_faces_of, renumbered_ends}
-use Rattle.half_edge_dcel.specs.Removal.{renumbered_face, DropsVertex}
-use Rattle.half_edge_dcel.proofs.Dropped.{renumbered_triangle}
-use Rattle.plane.specs.Fraction.{Point}
-use Rattle.plane.specs.Plain.{TakesOut}
-use Rattle.plane.specs.Tiling.{Face}
-use Rattle.plane_theorems.specs.Tiling.Local.{LocalMesh, LineMesh}
-use Rattle.plane_theorems.specs.Edits.Removal.{LocalMeshWithout, LineMeshWithout, renumbered}
-use Rattle.plane_theorems.specs.Edits.Removal.{renumbered_pair}
+use Rattle.plane.specs.{Face, Point, TakesOut}
+use Rattle.half_edge_links.specs.{AreSoundLinks, Ends, IsAlone, Mesh, origin, out_edge, outline}
+use Rattle.half_edge_links.specs.{Triangle, triangle_at, triangles}
+use Rattle.half_edge_links.proofs.{map-swap_remove, swap_remove_default}
+use Rattle.plane_theorems.specs.{LineMesh, LineMeshWithout, LocalMesh, LocalMeshWithout}
+use Rattle.plane_theorems.specs.Edits.Removal.{renumbered, renumbered_pair}
 use Rattle.plane_theorems.proofs.Edits.Removal.Renumbering.{last_takes_freed_index}
 use Rattle.plane_theorems.proofs.Edits.Removal.Renumbering.{last_takes_freed_index_on_line}
-use Rattle.delaunay_legalization.specs.Drawn.{corners_of, pair_of, faces_of, outer_of}
-use Rattle.delaunay_legalization.proofs.EdgePairs.{no_joins}
-use Rattle.delaunay_legalization.proofs.Entries.{not_some}
-use Rattle.delaunay_legalization.proofs.OuterEdges.{real}
-use Rattle.delaunay_legalization.proofs.FaceChanges.{length_map}
-use Rattle.half_edge_dcel.proofs.half_edge_links_lemmas.Removing.ShrinkTriangles.{map-swap_remove}
+use Rattle.half_edge_dcel.specs.{Contents, DropsVertex, full_faces, full_faces_of, FullFace}
+use Rattle.half_edge_dcel.specs.{IsMeshWithData, Removal.renumbered_ends, renumbered_face}
+use Rattle.half_edge_dcel.proofs.Dropped.{renumbered_triangle}
+use Rattle.delaunay_legalization.specs.{corners_of, faces_of, outer_of, pair_of}
+use Rattle.delaunay_legalization.proofs.{EdgePairs.no_joins, FaceChanges.length_map}
+use Rattle.delaunay_legalization.proofs.{Entries.not_some, OuterEdges.real}
 
 -- no outer edge starts at a vertex without edges
 pub alone_has_none : (m : Mesh) (v j : ℕ) → AreSoundLinks m → IsAlone m v

@@ -8,38 +8,25 @@ use mathlib.Core.Logic.{inl, ◌≢◌}
 use Rattle.std.specs.Prelude.{ℤ, pos, ◌+ℤ◌, Contains}
 use Rattle.std.proofs.lemmas.Int.{ints}
 use Rattle.std.proofs.lemmas.List.Elements.{Contains-append_left, Contains-append_right}
-use Rattle.half_edge_dcel.specs.half_edge_links.Mesh.{Mesh, origin, next, prev, face, rev}
-use Rattle.half_edge_dcel.specs.half_edge_links.Mesh.{AreSoundLinks}
-use Rattle.half_edge_dcel.specs.half_edge_links.Mesh.{IsInnerEdge}
-use Rattle.half_edge_dcel.specs.half_edge_links.Flip.{IsFlippable}
-use Rattle.half_edge_dcel.specs.half_edge_links.Grow.{IsHalfSplittable}
-use Rattle.half_edge_dcel.specs.half_edge_links.Triangles.{Triangle, triangles, FlipsTriangles}
-use Rattle.half_edge_dcel.specs.half_edge_links.Triangles.{InsertsTriangles}
-use Rattle.half_edge_dcel.specs.half_edge_links.Triangles.{SplitsTriangles}
-use Rattle.half_edge_dcel.specs.half_edge_links.Outline.{KeepsOuter, ReplacesOuter, AddsTriangle}
-use Rattle.half_edge_dcel.specs.half_edge_links.Outline.{HalfSplitsTriangles}
-use Rattle.half_edge_dcel.proofs.half_edge_links_lemmas.Lists.Rev.{rev-rev, rev_within}
-use Rattle.half_edge_dcel.proofs.half_edge_links_lemmas.Sound.Triangles as T
-use Rattle.plane.specs.Fraction.{Point, whole, WithinSegment, InsideTriangle}
-use Rattle.plane.specs.Side.{TurnsLeft}
-use Rattle.plane.specs.Pairs.{place}
-use Rattle.plane.specs.Tiling.{Face, face as corners}
-use Rattle.plane_theorems.specs.Tiling.Local.{total, LocalMesh}
-use Rattle.plane_theorems.proofs.Tiling.Totals.{Contains-head, Contains-later}
-use Rattle.plane_theorems.specs.Edits.Change.{IsFaceOf, FacesChange, OuterChange}
+use Rattle.plane.specs.{Face, face as corners, InsideTriangle, place, Point, TurnsLeft, whole}
+use Rattle.{plane.specs.WithinSegment, plane_theorems.proofs.Edits.LocalMesh.Kept.within_side_kept}
+use Rattle.half_edge_links.specs.{AddsTriangle, AreSoundLinks, face, FlipsTriangles}
+use Rattle.half_edge_links.specs.{HalfSplitsTriangles, InsertsTriangles, IsFlippable}
+use Rattle.half_edge_links.specs.{IsHalfSplittable, IsInnerEdge, KeepsOuter, Mesh, next, origin}
+use Rattle.half_edge_links.specs.{prev, ReplacesOuter, rev, SplitsTriangles, Triangle, triangles}
+use Rattle.half_edge_links.proofs.{rev-rev, rev_within}
+use Rattle.plane_theorems.specs.{FacesChange, IsFaceOf, LocalMesh, OuterChange, total}
+use Rattle.plane_theorems.proofs.{Contains-head, Contains-later, flip_kept}
 use Rattle.plane_theorems.proofs.Edits.LocalMesh.Changes.{total_append}
-use Rattle.plane_theorems.proofs.Edits.LocalMesh.Kept.{inside_face_kept, within_side_kept}
-use Rattle.plane_theorems.proofs.Edits.LocalMesh.Kept.{within_outer_kept}
-use Rattle.plane_theorems.proofs.Edits.LocalMesh.Kept.{flip_kept}
-use Rattle.delaunay_legalization.specs.Drawn.{corners_of, faces_of, outer_of}
-use Rattle.delaunay_legalization.proofs.OuterEdges.{listed}
+use Rattle.plane_theorems.proofs.Edits.LocalMesh.Kept.{inside_face_kept, within_outer_kept}
+use Rattle.delaunay_legalization.specs.{corners_of, faces_of, outer_of}
+use Rattle.delaunay_legalization.proofs.FaceChanges.{come_of, face_listed, face_within, is_face_at}
+use Rattle.delaunay_legalization.proofs.FaceChanges.{listed_face, one_written, set_has, sets_have}
+use Rattle.delaunay_legalization.proofs.FaceChanges.{sets_have_last, total_faces, turned_faces}
+use Rattle.delaunay_legalization.proofs.FaceChanges.{two_set, two_written}
 use Rattle.delaunay_legalization.proofs.OuterChanges.{outer_kept, outer_replaced, own_ends}
-use Rattle.delaunay_legalization.proofs.FaceChanges.{one_written, two_written, two_set, set_has}
-use Rattle.delaunay_legalization.proofs.FaceChanges.{sets_have}
-use Rattle.delaunay_legalization.proofs.FaceChanges.{sets_have_last, face_within, listed_face}
-use Rattle.delaunay_legalization.proofs.FaceChanges.{is_face_at}
-use Rattle.delaunay_legalization.proofs.FaceChanges.{turned_faces, come_of, total_faces}
-use Rattle.delaunay_legalization.proofs.FaceChanges.{face_listed}
+use Rattle.delaunay_legalization.proofs.OuterEdges.{listed}
+use Rattle.half_edge_links.proofs.Sound.Triangles as T
 
 abbrev triple : ℕ → ℕ → ℕ → Triangle
 triple i j k = record { first = i; second = j; third = k }

@@ -6,25 +6,19 @@ use Rattle.std.proofs.Common.{◌≡◌, ◌⊎◌, ◌<◌, [], ◌∷◌, ◌+
 use Rattle.std.proofs.Common.{ℕ, List, length, refl, sym, ap, subst, arith}
 use mathlib.Core.Logic.{inl, inr}
 use Rattle.std.specs.Prelude.{pos, ◌+ℤ◌, Contains}
-use Rattle.half_edge_dcel.specs.half_edge_links.Mesh.{Mesh, origin, next, face, rev, AreSoundLinks}
-use Rattle.half_edge_dcel.specs.half_edge_links.Mesh.{HasApartEnds}
-use Rattle.half_edge_dcel.specs.half_edge_links.Outline.{ClosesOuter, AddsTriangle}
-use Rattle.half_edge_dcel.proofs.half_edge_links_lemmas.Lists.Rev.{rev_within}
-use Rattle.plane.specs.Fraction.{Point}
-use Rattle.plane.specs.Side.{TurnsLeft}
-use Rattle.plane.specs.Pairs.{place}
-use Rattle.plane.specs.Tiling.{Face, face as corners}
-use Rattle.plane_theorems.specs.Tiling.Local.{total, LocalMesh}
-use Rattle.plane_theorems.proofs.Tiling.Totals.{Contains-head, Contains-none, Contains-cases}
-use Rattle.plane_theorems.specs.Edits.Change.{FacesChange, OuterChange, IsFaceOf}
-use Rattle.plane_theorems.specs.Edits.Extension.{steps, last_of, IsSeenRun, IsExtending}
-use Rattle.plane_theorems.proofs.Edits.Insertion.Growing.{extension_goes_on, extension_goes_back}
-use Rattle.plane_theorems.proofs.Edits.Insertion.Growing.{extension_ends}
-use Rattle.delaunay_legalization.specs.Drawn.{faces_of, outer_of}
-use Rattle.delaunay_legalization.proofs.OuterEdges.{listed, real}
-use Rattle.delaunay_legalization.proofs.OuterChanges.{two_pairs, outer_closed}
+use Rattle.plane.specs.{Face, face as corners, place, Point, TurnsLeft}
+use Rattle.half_edge_links.specs.{AddsTriangle, AreSoundLinks, ClosesOuter, face, HasApartEnds}
+use Rattle.half_edge_links.specs.{Mesh, next, origin, rev}
+use Rattle.half_edge_links.proofs.{rev_within}
+use Rattle.plane_theorems.specs.{FacesChange, IsExtending, IsFaceOf, IsSeenRun, last_of, LocalMesh}
+use Rattle.plane_theorems.specs.{OuterChange, steps, total}
+use Rattle.plane_theorems.proofs.{Contains-cases, Contains-head, Contains-none}
+use Rattle.plane_theorems.proofs.Edits.Insertion.Growing.{extension_ends, extension_goes_back}
+use Rattle.plane_theorems.proofs.Edits.Insertion.Growing.{extension_goes_on}
+use Rattle.delaunay_legalization.specs.{faces_of, outer_of}
 use Rattle.delaunay_legalization.proofs.FaceChanges.{turned_faces}
-use Rattle.delaunay_legalization.proofs.MeshEdits.{added_faces}
+use Rattle.delaunay_legalization.proofs.{MeshEdits.added_faces, OuterEdges.listed, OuterEdges.real}
+use Rattle.delaunay_legalization.proofs.OuterChanges.{outer_closed, two_pairs}
 
 -- the ends of outer edges are vertices
 pub ends_below : (m : Mesh) (n : ℕ) → AreSoundLinks m → n ≡ length m.out_edges → (i j : ℕ)

@@ -5,31 +5,19 @@ use Rattle.std.proofs.Common.{◌≡◌, ◌<◌, ◌≤◌, [], ◌∷◌, ◌�
 use Rattle.std.proofs.Common.{ℕ, zero, suc, List, length, map, refl, sym, ap, subst, arith}
 use mathlib.Core.Logic.{inl, inr, ◌≢◌}
 use Rattle.std.specs.Prelude.{Contains}
-use Rattle.half_edge_dcel.specs.Contents.{Contents, IsMeshWithData}
-use Rattle.half_edge_dcel.specs.Growth.{joins}
-use Rattle.half_edge_dcel.specs.Removal.{LosesStrip, faces_between}
-use Rattle.half_edge_dcel.specs.Removal as M
-use Rattle.plane.specs.Fraction.{Point}
-use Rattle.plane.specs.Pairs.{place}
-use Rattle.plane.specs.Side.{side, on, TurnsLeft}
-use Rattle.plane.specs.Tiling.{Face, face as corners}
-use Rattle.plane_theorems.specs.Tiling.Local.{LocalMesh}
-use Rattle.plane_theorems.proofs.Tiling.Flows.{turned}
-use Rattle.plane_theorems.proofs.Tiling.Loops.{outer_is_no_side}
-use Rattle.plane_theorems.proofs.Tiling.Tiles.{point_at, by_signs}
-use Rattle.plane_theorems.proofs.Tiling.Totals.{Contains-none, Contains-cases}
-use Rattle.plane_theorems.specs.Edits.Change.{IsFaceOf, FacesChange, OuterChange}
-use Rattle.plane_theorems.specs.Edits.Removal.{LocalMeshWithout, LineMeshWithout}
-use Rattle.plane_theorems.specs.Edits.RemovalHull.{IsHullStar, NoneTurnsLeft, strip, chain}
-use Rattle.plane_theorems.proofs.Edits.LocalMesh.Changes.{IsOnce, once_none, once_cons}
-use Rattle.plane_theorems.proofs.Edits.Insertion.Hull.{next_unique}
+use Rattle.plane.specs.{Face, face as corners, on, place, Point, side, TurnsLeft}
+use Rattle.plane_theorems.specs.{chain, FacesChange, IsFaceOf, IsHullStar, LineMeshWithout}
+use Rattle.plane_theorems.specs.{LocalMesh, LocalMeshWithout, NoneTurnsLeft, OuterChange, strip}
+use Rattle.plane_theorems.proofs.{by_signs, Contains-cases, Contains-none, IsOnce, next_unique}
+use Rattle.plane_theorems.proofs.{once_cons, once_none, point_at, Tiling.Loops.outer_is_no_side}
 use Rattle.plane_theorems.proofs.Edits.Removal.HullVertex.{corner_goes, corner_leaves_line}
-use Rattle.plane_theorems.proofs.Edits.Removal.HullVertex.{flat_side_closes}
-use Rattle.delaunay_legalization.specs.Drawn.{corners_of, pair_of, faces_of, outer_of}
-use Rattle.delaunay_legalization.proofs.FaceSums.{faces_lost, both_changes}
-use Rattle.delaunay_legalization.proofs.MeshInnerRemoval.{outer_then}
-use Rattle.delaunay_legalization.proofs.OuterChanges.{two_pairs}
-use Rattle.delaunay_legalization.proofs.PairSums.{SumsChange, HaveNoneIn, sums_change, outer_sums}
+use Rattle.plane_theorems.proofs.{Edits.Removal.HullVertex.flat_side_closes, Tiling.Flows.turned}
+use Rattle.half_edge_dcel.specs.{Contents, faces_between, IsMeshWithData, joins, LosesStrip}
+use Rattle.delaunay_legalization.specs.{corners_of, faces_of, outer_of, pair_of}
+use Rattle.delaunay_legalization.proofs.FaceSums.{both_changes, faces_lost}
+use Rattle.delaunay_legalization.proofs.{MeshInnerRemoval.outer_then, OuterChanges.two_pairs}
+use Rattle.delaunay_legalization.proofs.PairSums.{HaveNoneIn, outer_sums, sums_change, SumsChange}
+use Rattle.half_edge_dcel.specs.Removal as M
 
 -- the faces and the ways between neighbours, as the plane lists them
 faces_strip : (v : ℕ) (n : ℕ → ℕ) (k : ℕ) → map corners_of (faces_between v n k) ≡ strip v n k

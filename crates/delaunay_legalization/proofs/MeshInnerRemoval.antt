@@ -5,20 +5,14 @@ use Rattle.std.proofs.Common.{◌≡◌, ◌⊎◌, ℕ, List, [], ◌∷◌, re
 use mathlib.Core.Logic.{inl, inr, ◌≢◌}
 use Rattle.std.specs.Prelude.{ℤ, pos, ◌+ℤ◌, Contains}
 use Rattle.std.proofs.lemmas.Int.{ints}
-use Rattle.half_edge_dcel.specs.Contents.{Contents, IsMeshWithData}
-use Rattle.half_edge_dcel.specs.Removal.{FillsHole, OuterSumsChange}
-use Rattle.plane.specs.Fraction.{Point, WithinSegment}
-use Rattle.plane.specs.Pairs.{place}
-use Rattle.plane.specs.Tiling.{Face, face as corners}
-use Rattle.plane_theorems.specs.Tiling.Local.{LocalMesh}
-use Rattle.plane_theorems.proofs.Tiling.Totals.{Contains-none, Contains-cases}
-use Rattle.plane_theorems.specs.Edits.Change.{FacesChange, OuterChange}
-use Rattle.plane_theorems.specs.Edits.Removal.{IsStar, LocalMeshWithout}
-use Rattle.plane_theorems.proofs.Edits.LocalMesh.Changes.{IsOnce, once_none}
-use Rattle.plane_theorems.proofs.Edits.Removal.InnerVertex.{three_faces_merge, four_faces_merge}
-use Rattle.delaunay_legalization.specs.Drawn.{faces_of, outer_of}
-use Rattle.delaunay_legalization.proofs.FaceSums.{hole_filled, change_as, both_changes}
-use Rattle.delaunay_legalization.proofs.PairSums.{sums_change, outer_sums}
+use Rattle.plane.specs.{Face, face as corners, place, Point, WithinSegment}
+use Rattle.plane_theorems.specs.{FacesChange, IsStar, LocalMesh, LocalMeshWithout, OuterChange}
+use Rattle.plane_theorems.proofs.{Contains-cases, Contains-none, IsOnce, once_none}
+use Rattle.plane_theorems.proofs.Edits.Removal.InnerVertex.{four_faces_merge, three_faces_merge}
+use Rattle.half_edge_dcel.specs.{Contents, FillsHole, IsMeshWithData, OuterSumsChange}
+use Rattle.delaunay_legalization.specs.{faces_of, outer_of}
+use Rattle.delaunay_legalization.proofs.FaceSums.{both_changes, change_as, hole_filled}
+use Rattle.delaunay_legalization.proofs.PairSums.{outer_sums, sums_change}
 
 -- the outer edges stay
 outer_same : {V D U F : Type 0} (old new : Contents V D U F) → IsOnce (outer_of old.mesh)

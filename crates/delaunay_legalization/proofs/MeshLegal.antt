@@ -1,10 +1,16 @@
--- One step of the legalising of a mesh: an edge that passes is dropped, one that fails is turned
--- and leaves the four edges round it.
--- Notions: IsListedEdge; joins_edge, joins_directed, listed_edge, no_outer_face, two_faces,
--- between_inner, line_has_none, local_of, none_or_some, dropped, can_turn, flip_is_local,
--- apart_corners, volume_falls, pairs_stay, has_local, turned, one_more_flip, begins, few_flips,
--- indexes_kept, own_indexes, few_edges, room_for_one, fewer_after_flip, gains_edges, gains_round,
--- gains_last, gains_none.
+-- One step of legalising a mesh: an edge that passes is dropped from the work list, one that fails
+-- is turned and leaves the four edges around it.
+-- IsListedEdge m ks u v h: h goes from u to v, and its undirected edge is in ks
+-- joins_edge, joins_directed: the ends of a listed edge are joined, by its index and by a directed
+--   edge
+-- listed_edge: two vertices that listed edges join have such a directed edge
+-- own_indexes: each edge and face of a mesh has one index
+-- line_has_none: a mesh without faces has no face with given corners
+-- local_of: a mesh with an inner face is a `LocalMesh`
+-- between_inner: an edge with an inner face on each side may be turned
+-- dropped: an edge that is a constraint or does not fail may leave the work list
+-- flip_is_local: the mesh after the turn is a `LocalMesh`
+-- none_or_some: a number is 0 or positive
 use Rattle.std.proofs.Common.{◌≡◌, ◌⊎◌, ◌↔◌, ◌+◌, ◌-◌, ◌*◌, ◌/◌, ◌<◌, ◌≤◌, [], ◌∷◌, ◌++◌, ◌∙◌}
 use Rattle.std.proofs.Common.{ℕ, suc, List, length, refl, sym, ap, subst, arith}
 use mathlib.Core.Logic.{inl, inr, ◌≢◌}
@@ -12,60 +18,38 @@ use Rattle.std.specs.Prelude.{Contains}
 use Rattle.std.proofs.lemmas.Bool.{cases_eq}
 use Rattle.std.proofs.Math.Nat.{mul-le-mul_right, suc-mul}
 use Rattle.std.proofs.lemmas.List.{length-append}
-use Rattle.half_edge_dcel.specs.half_edge_links.Mesh.{Mesh, origin, next, prev, face, rev}
-use Rattle.half_edge_dcel.specs.half_edge_links.Mesh.{AreSoundLinks}
-use Rattle.half_edge_dcel.specs.half_edge_links.Mesh.{IsValidMesh, IsInnerEdge}
-use Rattle.half_edge_dcel.specs.half_edge_links.Flip.{IsFlippable, Flips, flipped}
-use Rattle.half_edge_dcel.specs.half_edge_links.Triangles.{FlipsTriangles}
-use Rattle.half_edge_dcel.specs.half_edge_links.Outline.{KeepsOuter}
-use Rattle.half_edge_dcel.proofs.half_edge_links_lemmas.Lists.Rev.{rev-rev, rev_differs, rev_within}
-use Rattle.half_edge_dcel.proofs.half_edge_links_lemmas.Sound.Triangles as T
-use Rattle.half_edge_dcel.specs.half_edge_links.Places.{AreSixPlaces}
-use Rattle.half_edge_dcel.proofs.half_edge_links_lemmas.Faces.FlipLemmas.{flips}
-use Rattle.half_edge_dcel.proofs.half_edge_links_lemmas.Faces.FlipSound.{origin_kept}
-use Rattle.half_edge_dcel.proofs.half_edge_links_lemmas.Faces.FlipTriangles.{triangles_flipped}
-use Rattle.half_edge_dcel.proofs.half_edge_links_lemmas.Faces.KeepsOuter.{outer_flipped_is}
-use Rattle.plane.specs.Fraction.{Point}
-use Rattle.plane.specs.Side.{TurnsLeft}
-use Rattle.plane.specs.Circle.{InsideCircle}
-use Rattle.plane.specs.Pairs.{place, Joins, IsSamePair}
-use Rattle.plane.specs.Tiling.{Face, face as corners}
-use Rattle.plane_theorems.specs.Tiling.Local.{LocalMesh, IsMesh}
-use Rattle.plane_theorems.proofs.Tiling.Totals.{Contains-head, Contains-none}
-use Rattle.plane_theorems.proofs.Tiling.Counting.{corners_differ}
+use Rattle.plane.specs.{Face, face as corners, InsideCircle, IsSamePair, Joins, place, Point}
+use Rattle.{plane.specs.TurnsLeft, plane_theorems.proofs.Edits.Legalization.Flipping.third_unique}
+use Rattle.half_edge_links.specs.{AreSixPlaces, AreSoundLinks, face, flipped, Flips, FlipsTriangles}
+use Rattle.half_edge_links.specs.{IsFlippable, IsInnerEdge, IsValidMesh, KeepsOuter, Mesh, next}
+use Rattle.half_edge_links.specs.{origin, prev, rev}
+use Rattle.half_edge_links.proofs.{flips, origin_kept, rev-rev, rev_differs, rev_within}
+use Rattle.half_edge_links.proofs.Faces.FlipTriangles.{triangles_flipped}
+use Rattle.half_edge_links.proofs.Faces.KeepsOuter.{outer_flipped_is}
+use Rattle.plane_theorems.specs.{AllPassBut, AreAway, FacesChange, IsFaceOf, IsMesh, lifted_volume}
+use Rattle.plane_theorems.specs.{Edits.Legal.IsRoundSide, LocalMesh, Pass}
+use Rattle.plane_theorems.proofs.{by_signs, Contains-head, Contains-none, corners_differ, once_none}
+use Rattle.plane_theorems.proofs.{one_question, point_at, turning_of}
+use Rattle.plane_theorems.proofs.Edits.Legalization.Away.{away_is_bounded, flip_goes_away}
+use Rattle.plane_theorems.proofs.Edits.Legalization.Flipping.{failing_is_convex, flip_leaves_sides}
+use Rattle.plane_theorems.proofs.Edits.Legalization.Flipping.{flip_lowers, passing_is_dropped}
+use Rattle.delaunay_legalization.specs.{AreEdges, faces_of, Gains, GainsRound, IsFailing}
+use Rattle.delaunay_legalization.specs.{IsPartlyLegal, KeepsIndexes, outer_of, pair_at, pairs_at}
+use Rattle.delaunay_legalization.proofs.EdgePairs.{half_of_even, half_of_odd, rev_of_even}
+use Rattle.delaunay_legalization.proofs.{FaceChanges.turned_faces, TurnedEnds.other_ends_stay}
+use Rattle.delaunay_legalization.proofs.MeshEdits.{end_of_twin, face_before, face_behind}
+use Rattle.delaunay_legalization.proofs.MeshEdits.{flip_kept_by, flipped_faces, start_of_twin}
+use Rattle.delaunay_legalization.proofs.MeshStays.{halved, keeps_indexes, stays_none, stays_turned}
+use Rattle.delaunay_legalization.proofs.{OuterChanges.own_ends, WorkLists.same_map}
+use Rattle.{delaunay_legalization.proofs.OuterEdges.listed, delaunay_legalization.specs.steps_left}
+use Rattle.delaunay_legalization.proofs.TurnedEnds.{ends_at_next, KeepsOtherOrigins}
+use Rattle.delaunay_legalization.proofs.WorkLists.{at_most_so_many, contains_before, contains_last}
+use Rattle.delaunay_legalization.proofs.WorkLists.{contains_map, contains_map_from, last_not_before}
+use Rattle.delaunay_legalization.proofs.WorkLists.{last_or_before, once_after, once_before}
+use Rattle.half_edge_links.proofs.Sound.Triangles as T
 use Rattle.plane_theorems.proofs.Tiling.Covering as C
 use Rattle.plane_theorems.proofs.Tiling.Loops as L
-use Rattle.plane_theorems.proofs.Tiling.Tiles.{point_at, by_signs}
-use Rattle.plane_theorems.specs.Edits.Change.{IsFaceOf, FacesChange}
-use Rattle.plane_theorems.specs.Edits.Legal.{Pass, AllPassBut, IsRoundSide, lifted_volume}
-use Rattle.plane_theorems.specs.Edits.Away.{AreAway}
-use Rattle.plane_theorems.proofs.Edits.LocalMesh.Changes.{once_none}
-use Rattle.plane_theorems.proofs.Edits.LocalMesh.Kept.{turning_of}
-use Rattle.plane_theorems.proofs.Edits.Legalization.Away.{flip_goes_away, away_is_bounded}
-use Rattle.plane_theorems.proofs.Edits.Legalization.Flipping.{one_question, failing_is_convex}
-use Rattle.plane_theorems.proofs.Edits.Legalization.Flipping.{third_unique}
-use Rattle.plane_theorems.proofs.Edits.Legalization.Flipping.{flip_lowers, flip_leaves_sides}
-use Rattle.plane_theorems.proofs.Edits.Legalization.Flipping.{passing_is_dropped}
-use Rattle.delaunay_legalization.specs.Drawn.{faces_of, outer_of}
-use Rattle.delaunay_legalization.specs.Legal.{pair_at, pairs_at, IsFailing, AreEdges, IsPartlyLegal}
-use Rattle.delaunay_legalization.specs.Legal.{Gains}
-use Rattle.delaunay_legalization.specs.Legal.{GainsRound, steps_left}
-use Rattle.delaunay_legalization.specs.Stays.{KeepsIndexes}
-use Rattle.delaunay_legalization.proofs.OuterEdges.{listed}
-use Rattle.delaunay_legalization.proofs.OuterChanges.{own_ends}
-use Rattle.delaunay_legalization.proofs.FaceChanges.{turned_faces}
-use Rattle.delaunay_legalization.proofs.MeshEdits.{start_of_twin, end_of_twin, face_before}
-use Rattle.delaunay_legalization.proofs.MeshEdits.{face_behind}
-use Rattle.delaunay_legalization.proofs.MeshEdits.{flipped_faces, flip_kept_by}
-use Rattle.delaunay_legalization.proofs.EdgePairs.{rev_of_even, half_of_even, half_of_odd}
-use Rattle.delaunay_legalization.proofs.MeshStays.{halved, keeps_indexes, stays_none, stays_turned}
-use Rattle.delaunay_legalization.proofs.TurnedEnds.{KeepsOtherOrigins, other_ends_stay}
-use Rattle.delaunay_legalization.proofs.TurnedEnds.{ends_at_next}
-use Rattle.delaunay_legalization.proofs.WorkLists.{contains_last, contains_before, last_or_before}
-use Rattle.delaunay_legalization.proofs.WorkLists.{once_before, last_not_before, once_after}
-use Rattle.delaunay_legalization.proofs.WorkLists.{contains_map}
-use Rattle.delaunay_legalization.proofs.WorkLists.{contains_map_from, same_map, at_most_so_many}
-pub use Rattle.plane.proofs.Indexes.{same_joined, turned_join}
+pub use Rattle.plane.proofs.{same_joined, turned_join}
 
 -- ---- the edges of a work list
 -- the pairs of a work list join the two ends of each edge in it

@@ -8,23 +8,16 @@ use lib.Dec.{eqb, eqb_refl}
 use borrow.Author.Tests.{eqb-true}
 use Rattle.std.specs.Prelude.{Contains}
 use Rattle.std.proofs.lemmas.Bool.{cases_eq, cases_lt}
-use Rattle.half_edge_dcel.specs.half_edge_links.Mesh.{Mesh, origin, prev, face, rev, IsValidMesh}
-use Rattle.half_edge_dcel.specs.half_edge_links.Peel.{turn, spoke}
-use Rattle.half_edge_dcel.specs.half_edge_links.Round.{IsRound, neighbour}
-use Rattle.half_edge_dcel.proofs.half_edge_links_lemmas.Lists.Rev.{rev-rev, rev_within}
-use Rattle.half_edge_dcel.proofs.half_edge_links_lemmas.Lists.OneOrbit.{edges_go_round}
-use Rattle.half_edge_dcel.specs.Removal.{HasFewEdges}
-use Rattle.plane.specs.Fraction.{Point}
-use Rattle.plane.specs.Pairs.{EachPairOnce}
-use Rattle.plane_theorems.specs.Tiling.Local.{LineMesh, AreEdgesOf}
-use Rattle.plane_theorems.proofs.Tiling.Flows.{is_true}
-use Rattle.plane_theorems.proofs.Tiling.LineMeshes.{joins_line}
-use Rattle.delaunay_legalization.specs.Drawn.{faces_of, edges_of, outer_of}
-use Rattle.delaunay_legalization.proofs.OwnEdges.{own_edges}
-use Rattle.delaunay_legalization.proofs.OuterEdges.{listed, real}
-use Rattle.delaunay_legalization.proofs.OuterChanges.{own_ends}
-use Rattle.delaunay_legalization.proofs.MeshStays.{neighbours_differ}
-use Rattle.delaunay_legalization.proofs.LineNeighbours.{two_neighbours, only_pair}
+use Rattle.plane.specs.{EachPairOnce, Point}
+use Rattle.{plane.proofs.is_true, plane_theorems.specs.AreEdgesOf, plane_theorems.specs.LineMesh}
+use Rattle.half_edge_links.specs.{face, IsRound, IsValidMesh, Mesh, neighbour, origin, prev, rev}
+use Rattle.half_edge_links.specs.{spoke, turn}
+use Rattle.half_edge_links.proofs.{Lists.OneOrbit.edges_go_round, rev-rev, rev_within}
+use Rattle.{half_edge_dcel.specs.HasFewEdges, plane_theorems.proofs.Tiling.LineMeshes.joins_line}
+use Rattle.delaunay_legalization.specs.{edges_of, faces_of, outer_of}
+use Rattle.delaunay_legalization.proofs.LineNeighbours.{only_pair, two_neighbours}
+use Rattle.delaunay_legalization.proofs.{MeshStays.neighbours_differ, OwnEdges.own_edges}
+use Rattle.delaunay_legalization.proofs.{OuterChanges.own_ends, OuterEdges.listed, OuterEdges.real}
 
 -- an edge that comes after itself round a vertex is the vertex's only one
 pub only_edge : (m : Mesh) → IsValidMesh m → (g w : ℕ) → origin m g ≡ w → g < length m.half_edges

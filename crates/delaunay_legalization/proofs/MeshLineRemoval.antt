@@ -4,25 +4,17 @@ use Rattle.std.proofs.Common.{◌≡◌, ◌⊎◌, ◌<◌, [], ◌∷◌, ◌�
 use Rattle.std.proofs.Common.{ℕ, List, length, map, refl, sym, ap, subst, arith}
 use mathlib.Core.Logic.{inl, inr, ◌≢◌}
 use Rattle.std.specs.Prelude.{Contains}
-use Rattle.half_edge_dcel.specs.half_edge_links.Mesh.{AreSoundLinks}
-use Rattle.half_edge_dcel.specs.Contents.{Contents}
-use Rattle.half_edge_dcel.specs.Growth.{joins}
-use Rattle.half_edge_dcel.specs.Removal.{LeavesLine, LeavesMesh}
-use Rattle.plane.specs.Fraction.{Point}
-use Rattle.plane.specs.Pairs.{IsIndex}
-use Rattle.plane_theorems.specs.Tiling.Local.{LineMesh}
-use Rattle.plane_theorems.proofs.Tiling.Totals.{Contains-head, Contains-none, Contains-cases}
-use Rattle.plane_theorems.specs.Edits.Removal.{LineMeshWithout}
-use Rattle.plane_theorems.proofs.Edits.LocalMesh.Changes.{IsOnce, once_none, once_cons}
+use Rattle.{half_edge_links.specs.AreSoundLinks, plane_theorems.proofs.once_none}
+use Rattle.plane_theorems.specs.{LineMesh, LineMeshWithout}
+use Rattle.plane_theorems.proofs.{Contains-cases, Contains-head, Contains-none, IsOnce, once_cons}
 use Rattle.plane_theorems.proofs.Edits.Removal.OnLine.{end_of_line_goes, middle_of_line_goes}
-use Rattle.delaunay_legalization.specs.Drawn.{outer_of}
-use Rattle.delaunay_legalization.proofs.OuterChanges.{two_pairs}
-use Rattle.delaunay_legalization.proofs.PairSums.{SumsChange, HaveNoneIn, gone_there, must_go}
-use Rattle.delaunay_legalization.proofs.PairSums.{sums_change}
-use Rattle.delaunay_legalization.proofs.PairSums.{outer_sums}
-use Rattle.delaunay_legalization.proofs.LineNeighbours.{lone_vertex_goes, apart_neighbours}
+use Rattle.half_edge_dcel.specs.{Contents, joins, LeavesMesh, Removal.LeavesLine}
+use Rattle.{delaunay_legalization.specs.outer_of, plane.specs.IsIndex, plane.specs.Point}
+use Rattle.delaunay_legalization.proofs.{FaceChanges.length_map, OuterChanges.two_pairs}
+use Rattle.delaunay_legalization.proofs.LineNeighbours.{apart_neighbours, lone_vertex_goes}
 use Rattle.delaunay_legalization.proofs.MeshDrops.{alone_has_none, dropped_on_line, index_within}
-use Rattle.delaunay_legalization.proofs.FaceChanges.{length_map}
+use Rattle.delaunay_legalization.proofs.PairSums.{gone_there, HaveNoneIn, must_go, outer_sums}
+use Rattle.delaunay_legalization.proofs.PairSums.{sums_change, SumsChange}
 
 -- the same pairs have the same first
 pub first_of : (x y : ℕ × ℕ) → x ≡ y → x.0 ≡ y.0

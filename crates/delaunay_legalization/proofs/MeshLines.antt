@@ -5,27 +5,19 @@ use Rattle.std.proofs.Common.{◌≡◌, ◌⊎◌, ◌<◌, ◌+◌, [], ◌∷
 use Rattle.std.proofs.Common.{ℕ, List, length, refl, sym, ap, subst, arith}
 use mathlib.Core.Logic.{inl, inr, ◌≢◌}
 use Rattle.std.specs.Prelude.{Contains}
-use Rattle.half_edge_dcel.specs.half_edge_links.Mesh.{Mesh, origin, face, rev, AreSoundLinks}
-use Rattle.half_edge_dcel.specs.half_edge_links.Mesh.{HasApartEnds}
-use Rattle.half_edge_dcel.specs.half_edge_links.Outline.{IsOuterEdge, OuterChanges, SplitsOuter}
-use Rattle.half_edge_dcel.specs.half_edge_links.Outline.{IsThis}
-use Rattle.half_edge_dcel.proofs.half_edge_links_lemmas.Lists.Rev.{rev-rev, rev_within}
-use Rattle.plane.specs.Fraction.{Point, whole, WithinSegment}
-use Rattle.plane.specs.Pairs.{place, IsIndex}
-use Rattle.plane.specs.Location.{IsPast}
-use Rattle.plane_theorems.specs.Tiling.Local.{LineMesh, alone}
-use Rattle.plane_theorems.proofs.Tiling.Totals.{Contains-head, Contains-later, Contains-none}
-use Rattle.plane_theorems.proofs.Tiling.Totals.{Contains-cases}
-use Rattle.plane_theorems.specs.Edits.Change.{OuterChange}
-use Rattle.plane_theorems.proofs.Edits.LocalMesh.Changes.{IsOnce}
-use Rattle.plane_theorems.proofs.Edits.Insertion.OnLine.{past_end, between}
-use Rattle.delaunay_legalization.specs.Drawn.{outer_of}
-use Rattle.delaunay_legalization.proofs.OuterEdges.{listed, changed_pairs}
-use Rattle.delaunay_legalization.proofs.OuterEdges.{GoneAreListed, GoneAreReal, MadeAreListed}
-use Rattle.delaunay_legalization.proofs.OuterEdges.{MadeAreReal}
-use Rattle.delaunay_legalization.proofs.OuterEdges.{AreMadeOnce, AreMadeFresh}
-use Rattle.delaunay_legalization.proofs.OuterChanges.{two_pairs}
+use Rattle.plane.specs.{IsIndex, IsPast, place, Point, whole, WithinSegment}
+use Rattle.half_edge_links.specs.{AreSoundLinks, face, HasApartEnds, IsOuterEdge, IsThis, Mesh}
+use Rattle.half_edge_links.specs.{origin, OuterChanges, rev, SplitsOuter}
+use Rattle.half_edge_links.proofs.{rev-rev, rev_within}
+use Rattle.plane_theorems.specs.{alone, LineMesh, OuterChange}
+use Rattle.plane_theorems.proofs.{Contains-cases, Contains-head, Contains-later, Contains-none}
+use Rattle.plane_theorems.proofs.Edits.Insertion.OnLine.{between, past_end}
+use Rattle.delaunay_legalization.specs.{outer_of}
 use Rattle.delaunay_legalization.proofs.MeshLineRemoval.{first_of, second_of}
+use Rattle.{delaunay_legalization.proofs.OuterChanges.two_pairs, plane_theorems.proofs.IsOnce}
+use Rattle.delaunay_legalization.proofs.OuterEdges.{AreMadeFresh, AreMadeOnce, changed_pairs}
+use Rattle.delaunay_legalization.proofs.OuterEdges.{GoneAreListed, GoneAreReal, listed}
+use Rattle.delaunay_legalization.proofs.OuterEdges.{MadeAreListed, MadeAreReal}
 
 -- ---- one of a few pairs
 four_pairs : (x a b c d : ℕ × ℕ) → Contains (a ∷ b ∷ c ∷ d ∷ []) x

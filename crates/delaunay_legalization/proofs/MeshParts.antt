@@ -5,27 +5,17 @@ use Rattle.std.proofs.Common.{ℕ, List, length, map, refl, ap, subst, inl, inr,
 use Rattle.std.specs.Prelude.{Contains, pos}
 use Rattle.std.proofs.lemmas.List.Elements.{All-get_or, All-map}
 use Rattle.std.proofs.lemmas.List.{length-map, get_or-map}
-use Rattle.delaunay_legalization.specs.half_edge_links.Mesh.{Mesh, origin, next, prev, face_edge}
-use Rattle.delaunay_legalization.specs.half_edge_links.Mesh.{rev}
-use Rattle.delaunay_legalization.specs.half_edge_links.Triangles.{triangle_at, triangles}
-use Rattle.delaunay_legalization.proofs.half_edge_links_lemmas.Lists.Rev.{rev_within}
-use Rattle.delaunay_legalization.specs.plane.Fraction.{Point}
-use Rattle.delaunay_legalization.specs.plane.Tests.{InRange}
-use Rattle.delaunay_legalization.specs.plane.Pairs.{place}
-use Rattle.delaunay_legalization.specs.plane.Side.{TurnsLeft}
-use Rattle.delaunay_legalization.specs.plane.Tiling.{IsTiling, IsFace, HasFace}
-use Rattle.delaunay_legalization.specs.plane.Tiling as T
-use Rattle.delaunay_legalization.specs.plane_theorems.Tiling.Local.{IsMesh}
-use Rattle.delaunay_legalization.proofs.plane_theorems.Tiling.Totals.{Contains-none}
-use Rattle.delaunay_legalization.proofs.plane_theorems.Tiling.Tiles.{by_signs, point_at}
-use Rattle.delaunay_legalization.proofs.plane_theorems.Tiling.Loops as L
-use Rattle.delaunay_legalization.specs.Drawn.{drawn, faces_of, outer_of, corners_of}
-use Rattle.delaunay_legalization.proofs.OuterEdges.{listed}
-use Rattle.delaunay_legalization.specs.State.{State}
-use Rattle.delaunay_legalization.specs.Shape.{IsTriangulated}
-use Rattle.delaunay_legalization.specs.Parts.{IsMeshEdge, IsMeshFace}
-use Rattle.delaunay_legalization.proofs.EdgePairs.{edge_joins, Contains-map}
-use Rattle.delaunay_legalization.proofs.Shapes.{laid_out_tiles, laid_out_distinct}
+use Rattle.plane.specs.{HasFace, InRange, IsFace, IsTiling, place, Point, TurnsLeft}
+use Rattle.half_edge_links.specs.{face_edge, Mesh, next, origin, prev, rev, triangle_at, triangles}
+use Rattle.plane_theorems.specs.{IsMesh}
+use Rattle.plane_theorems.proofs.{by_signs, Contains-none, point_at}
+use Rattle.delaunay_legalization.specs.{corners_of, drawn, faces_of, IsMeshEdge, IsMeshFace}
+use Rattle.delaunay_legalization.specs.{IsTriangulated, outer_of, State.State}
+use Rattle.delaunay_legalization.proofs.EdgePairs.{Contains-map, edge_joins}
+use Rattle.{delaunay_legalization.proofs.OuterEdges.listed, half_edge_links.proofs.rev_within}
+use Rattle.delaunay_legalization.proofs.Shapes.{laid_out_distinct, laid_out_tiles}
+use Rattle.plane.specs.Tiling as T
+use Rattle.plane_theorems.proofs.Tiling.Loops as L
 
 -- there is no face where there is none in the list
 pub no_side : (points : List Point) (m : Mesh) (i j : ℕ) → faces_of m ≡ []

@@ -2,13 +2,10 @@
 -- of the other points.
 -- Lemmas: vertex_goes, vertex_goes_to_line, plain_removes, line_plain_removes.
 use Rattle.std.proofs.Common.{◌≡◌, ℕ, List, [], map, sym, ap, subst}
-use Rattle.half_edge_dcel.specs.Contents.{Contents, IsMeshWithData}
-use Rattle.half_edge_dcel.specs.Removal.{DropsVertex, LeavesMesh}
-use Rattle.plane.specs.Fraction.{Point}
-use Rattle.plane.specs.Plain.{TakesOut}
-use Rattle.plane_theorems.specs.Tiling.Local.{LocalMesh, LineMesh}
-use Rattle.plane_theorems.specs.Edits.Removal.{LocalMeshWithout, LineMeshWithout}
-use Rattle.delaunay_legalization.specs.Drawn.{faces_of, outer_of}
+use Rattle.plane.specs.{Point, TakesOut}
+use Rattle.plane_theorems.specs.{LineMesh, LineMeshWithout, LocalMesh, LocalMeshWithout}
+use Rattle.half_edge_dcel.specs.{Contents, DropsVertex, IsMeshWithData, LeavesMesh}
+use Rattle.delaunay_legalization.specs.{faces_of, outer_of}
 use Rattle.delaunay_legalization.proofs.MeshDrops.{dropped, dropped_faces, dropped_on_line}
 use Rattle.delaunay_legalization.proofs.MeshDrops.{removes_vertex}
 

@@ -6,36 +6,20 @@ use Rattle.std.proofs.Common.{ℕ, suc, List, length, refl, sym, ap, subst, arit
 use mathlib.Core.Logic.{inl, inr, ◌≢◌}
 use Rattle.std.specs.Prelude.{ℤ, pos, ◌+ℤ◌}
 use Rattle.std.proofs.lemmas.Int.{ints}
-use Rattle.half_edge_dcel.specs.half_edge_links.Mesh.{Mesh, origin, next, prev, face, rev}
-use Rattle.half_edge_dcel.specs.half_edge_links.Mesh.{IsValidMesh}
-use Rattle.half_edge_dcel.specs.half_edge_links.Flip.{IsFlippable}
-use Rattle.half_edge_dcel.specs.half_edge_links.Outline.{KeepsOuter}
-use Rattle.half_edge_dcel.specs.half_edge_links.Peel.{spoke}
-use Rattle.half_edge_dcel.specs.half_edge_links.Round.{IsRound, neighbour}
-use Rattle.half_edge_dcel.specs.half_edge_links.Triangles.{FlipsTriangles}
-use Rattle.half_edge_dcel.proofs.half_edge_links_lemmas.Lists.Rev.{rev-rev, rev_within}
-use Rattle.half_edge_dcel.proofs.half_edge_links_lemmas.Sound.Triangles as T
-use Rattle.plane.specs.Fraction.{Point}
-use Rattle.plane.specs.Pairs.{place}
-use Rattle.plane.specs.Side.{TurnsLeft}
-use Rattle.plane.specs.Tiling.{Face, face as corners}
-use Rattle.plane_theorems.specs.Tiling.Local.{LocalMesh}
-use Rattle.plane_theorems.proofs.Tiling.Totals.{Contains-head}
-use Rattle.plane_theorems.specs.Edits.Change.{IsFaceOf, IsTurnFree, FacesChange}
-use Rattle.plane_theorems.specs.Edits.Removal.{IsStar}
-use Rattle.plane_theorems.specs.Edits.RemovalHull.{IsHullStar}
-use Rattle.plane_theorems.specs.Edits.StarFlips.{IsStarFlip, without}
-use Rattle.plane_theorems.proofs.Edits.LocalMesh.Kept.{flip_kept}
+use Rattle.plane.specs.{Face, face as corners, place, Point, TurnsLeft}
+use Rattle.half_edge_links.specs.{face, FlipsTriangles, IsFlippable, IsRound, IsValidMesh}
+use Rattle.half_edge_links.specs.{KeepsOuter, Mesh, neighbour, next, origin, prev, rev, spoke}
+use Rattle.half_edge_links.proofs.{rev-rev, rev_within}
+use Rattle.plane_theorems.specs.{FacesChange, IsFaceOf, IsHullStar, IsStar, IsStarFlip, IsTurnFree}
+use Rattle.plane_theorems.specs.{Edits.StarFlips.without, LocalMesh}
+use Rattle.plane_theorems.proofs.{Contains-head, flip_kept}
+use Rattle.plane_theorems.proofs.Edits.Removal.StarFlips.{hull_star_shrinks, hull_stars_agree}
 use Rattle.plane_theorems.proofs.Edits.Removal.StarFlips.{inner_star_shrinks, stars_agree}
-use Rattle.plane_theorems.proofs.Edits.Removal.StarFlips.{hull_star_shrinks}
-use Rattle.plane_theorems.proofs.Edits.Removal.StarFlips.{hull_stars_agree}
-use Rattle.delaunay_legalization.specs.Drawn.{faces_of, outer_of}
-use Rattle.delaunay_legalization.proofs.OuterChanges.{outer_kept}
-use Rattle.delaunay_legalization.proofs.FaceChanges.{come_of}
-use Rattle.delaunay_legalization.proofs.FaceSums.{change_as}
-use Rattle.delaunay_legalization.proofs.MeshEdits.{flipped_faces}
-use Rattle.delaunay_legalization.proofs.MeshLegal.{between_inner}
-use Rattle.delaunay_legalization.proofs.MeshStays.{halved}
+use Rattle.delaunay_legalization.specs.{faces_of, outer_of}
+use Rattle.delaunay_legalization.proofs.{FaceChanges.come_of, OuterChanges.outer_kept}
+use Rattle.delaunay_legalization.proofs.{FaceSums.change_as, MeshStays.halved}
+use Rattle.delaunay_legalization.proofs.{MeshEdits.flipped_faces, MeshLegal.between_inner}
+use Rattle.half_edge_links.proofs.Sound.Triangles as T
 
 -- ---- the turn of an edge from its other side is the same change of faces
 module _ (old new : List Face) (v b c d : ℕ) where

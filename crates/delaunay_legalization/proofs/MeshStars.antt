@@ -9,34 +9,19 @@ use mathlib.Core.Logic.{inl, inr, ◌≢◌}
 use Rattle.std.specs.Prelude.{Contains, IsSome}
 use Rattle.std.proofs.Math.Numerals.{add-one}
 use Rattle.std.proofs.lemmas.Bool.{cases_lt}
-use Rattle.half_edge_dcel.specs.half_edge_links.Mesh.{Mesh, origin, next, prev, face, rev, out_edge}
-use Rattle.half_edge_dcel.specs.half_edge_links.Mesh.{IsValidMesh}
-use Rattle.half_edge_dcel.specs.half_edge_links.Mesh.{AreSoundLinks, IsInnerEdge}
-use Rattle.half_edge_dcel.specs.half_edge_links.Outline.{IsOuterEdge}
-use Rattle.half_edge_dcel.specs.half_edge_links.Peel.{turn, spoke, IsStrip}
-use Rattle.half_edge_dcel.specs.half_edge_links.Round.{IsRound, neighbour}
-use Rattle.half_edge_dcel.specs.half_edge_links.Triangles.{Triangle, triangles, triangle_at}
-use Rattle.half_edge_dcel.proofs.half_edge_links_lemmas.Lists.Rev.{rev-rev, rev_within}
-use Rattle.half_edge_dcel.proofs.half_edge_links_lemmas.Sound.Triangles as T
-use Rattle.plane.specs.Fraction.{Point}
-use Rattle.plane.specs.Pairs.{EachPairOnce, IsIndex}
-use Rattle.plane.specs.Tiling.{Face, face as corners}
-use Rattle.plane_theorems.specs.Tiling.Local.{LocalMesh}
-use Rattle.plane_theorems.proofs.Tiling.Covering.{no_outer_back}
-use Rattle.plane_theorems.proofs.Tiling.Loops.{mesh_tiles}
-use Rattle.plane_theorems.proofs.Tiling.Tiles.{point_at, by_signs}
-use Rattle.plane_theorems.proofs.Tiling.Totals.{get_or_any}
-use Rattle.plane_theorems.specs.Edits.Change.{IsFaceOf}
-use Rattle.plane_theorems.specs.Edits.Removal.{IsStar}
-use Rattle.plane_theorems.specs.Edits.RemovalHull.{IsHullStar}
-use Rattle.plane_theorems.proofs.Edits.Insertion.Hull.{next_unique}
-use Rattle.plane_theorems.proofs.Edits.Removal.Renumbering.{from_map}
-use Rattle.delaunay_legalization.specs.Drawn.{corners_of, faces_of, edges_of, outer_of}
+use Rattle.plane.specs.{EachPairOnce, Face, face as corners, IsIndex, Point}
+use Rattle.half_edge_links.specs.{AreSoundLinks, face, IsInnerEdge, IsOuterEdge, IsRound, IsStrip}
+use Rattle.half_edge_links.specs.{IsValidMesh, Mesh, neighbour, next, origin, out_edge, prev, rev}
+use Rattle.half_edge_links.specs.{spoke, Triangle, triangle_at, triangles, turn}
+use Rattle.half_edge_links.proofs.{rev-rev, rev_within}
+use Rattle.plane_theorems.specs.{IsFaceOf, IsHullStar, IsStar, LocalMesh}
+use Rattle.plane_theorems.proofs.{by_signs, get_or_any, mesh_tiles, next_unique, point_at}
+use Rattle.plane_theorems.proofs.{Edits.LocalMesh.Changes.from_map, Tiling.Covering.no_outer_back}
+use Rattle.delaunay_legalization.specs.{corners_of, edges_of, faces_of, outer_of}
+use Rattle.delaunay_legalization.proofs.{MeshEdits.face_before, OuterEdges.listed, OuterEdges.real}
+use Rattle.delaunay_legalization.proofs.{MeshStays.neighbours_differ, OuterChanges.own_ends}
 use Rattle.delaunay_legalization.proofs.OwnEdges.{own_edges}
-use Rattle.delaunay_legalization.proofs.OuterEdges.{listed, real}
-use Rattle.delaunay_legalization.proofs.OuterChanges.{own_ends}
-use Rattle.delaunay_legalization.proofs.MeshEdits.{face_before}
-use Rattle.delaunay_legalization.proofs.MeshStays.{neighbours_differ}
+use Rattle.half_edge_links.proofs.Sound.Triangles as T
 
 -- ---- the directed edge of a face at one of its corners
 -- an edge of an inner face, with the corners i, j, k from its start on

@@ -1,7 +1,14 @@
 -- Each edge and face of a mesh has one index, and keeps it while other edges are turned.
--- Lemmas: slice_get-set_other, halved, half_same, same_pair_on, same_pair_back, one_way,
--- neighbours_differ, one_face, face_there, turned_back, edges_once, keeps_indexes, stays_none,
--- stays_turned.
+-- halved: 2 (h / 2) is the directed edge h or its reverse
+-- half_same: directed edges of one undirected edge are equal, or each the reverse of the other
+-- one_way: two directed edges from one vertex to one other are the same edge
+-- face_there: a listed triangle is a face
+-- neighbours_differ: the neighbours of a vertex are different vertices
+-- same_pair_back, same_pair_on: `IsSamePair` is symmetric, and transitive
+-- slice_get-set_other: writing one entry of a list leaves the others
+-- stays_none, stays_turned: where nothing changes, all stays; after one more turn, all but the
+--   pairs listed
+-- keeps_indexes: what was there and is there has its former index
 use Rattle.std.proofs.Common.{◌≡◌, ◌⊎◌, ◌+◌, ◌-◌, ◌*◌, ◌/◌, ◌<◌, [], ◌∙◌}
 use Rattle.std.proofs.Common.{ℕ, suc, List, length, get_or, set, refl, sym, ap, subst, Some, arith}
 use mathlib.Core.Logic.{inl, inr, ◌≢◌}
@@ -10,34 +17,21 @@ use Rattle.std.proofs.lemmas.Bool.{cases_eq, cases_lt}
 use Rattle.std.proofs.lemmas.Grind.{common_steps}
 use Rattle.std.proofs.lemmas.List.{length-map, get_or-map}
 use Rattle.std.proofs.lemmas.Option.{slice_get_within, get_or_from_slice_get, gets}
-use Rattle.half_edge_dcel.specs.half_edge_links.Mesh.{Mesh, origin, next, prev, face, face_edge}
-use Rattle.half_edge_dcel.specs.half_edge_links.Mesh.{rev, AreSoundLinks}
-use Rattle.half_edge_dcel.specs.half_edge_links.Mesh.{IsValidMesh}
-use Rattle.half_edge_dcel.specs.half_edge_links.Outline.{Ends, ends}
-use Rattle.half_edge_dcel.specs.half_edge_links.Peel.{spoke}
-use Rattle.half_edge_dcel.specs.half_edge_links.Round.{IsRound, neighbour}
-use Rattle.half_edge_dcel.specs.half_edge_links.Triangles.{Triangle, triangle_at, triangles}
-use Rattle.half_edge_dcel.specs.half_edge_links.Triangles.{FlipsTriangles}
-use Rattle.half_edge_dcel.proofs.half_edge_links_lemmas.Sound.Ends.{length-ends_twice, get_or-ends}
-use Rattle.half_edge_dcel.proofs.half_edge_links_lemmas.Lists.Rev.{rev-rev, rev_within}
-use Rattle.half_edge_dcel.proofs.half_edge_links_lemmas.Sound.Triangles as T
-use Rattle.plane.specs.Fraction.{Point}
-use Rattle.plane.specs.Pairs.{Joins, IsSamePair, EachPairOnce}
-use Rattle.plane.specs.Tiling.{Face, IsTiling, face as corners}
-use Rattle.plane_theorems.specs.Tiling.Local.{IsMesh}
-use Rattle.plane_theorems.proofs.Tiling.Meshes.{meshes_tile}
-use Rattle.plane_theorems.proofs.Tiling.Totals.{Contains-none}
-use Rattle.plane_theorems.specs.Edits.Change.{IsFaceOf}
-use Rattle.plane_theorems.specs.Edits.Away.{IsAway, AreAway}
-use Rattle.plane_theorems.proofs.Edits.Legalization.Away.{away_is_no_edge, away_back}
-use Rattle.delaunay_legalization.specs.Drawn.{drawn, corners_of, pair_of, faces_of, edges_of}
-use Rattle.delaunay_legalization.specs.Drawn.{outer_of}
-use Rattle.delaunay_legalization.specs.Stays.{GoSameWay, HaveSameCorners, KeepsIndexes, HasSideIn}
-use Rattle.delaunay_legalization.specs.Stays.{StaysBut}
-use Rattle.delaunay_legalization.proofs.EdgePairs.{rev_of_even, edge_joins}
-use Rattle.delaunay_legalization.proofs.OwnEdges.{own_edges}
-use Rattle.delaunay_legalization.proofs.FaceChanges.{turned_faces, contains_map}
-use Rattle.plane.proofs.Indexes.{turned_join}
+use Rattle.plane.specs.{EachPairOnce, Face, face as corners, IsSamePair, IsTiling, Joins, Point}
+use Rattle.half_edge_links.specs.{AreSoundLinks, Ends, ends, face, face_edge, FlipsTriangles}
+use Rattle.half_edge_links.specs.{IsRound, IsValidMesh, Mesh, neighbour, next, origin, prev, rev}
+use Rattle.half_edge_links.specs.{spoke, Triangle, triangle_at, triangles}
+use Rattle.half_edge_links.proofs.{get_or-ends, length-ends_twice, rev-rev, rev_within}
+use Rattle.plane_theorems.specs.{AreAway, Edits.Away.IsAway, IsFaceOf, IsMesh}
+use Rattle.plane_theorems.proofs.{Contains-none, meshes_tile}
+use Rattle.plane_theorems.proofs.Edits.Legalization.Away.{away_back, away_is_no_edge}
+use Rattle.delaunay_legalization.specs.{corners_of, drawn, edges_of, faces_of, GoSameDirection}
+use Rattle.delaunay_legalization.specs.{HaveSameCorners, KeepsIndexes, outer_of, pair_of}
+use Rattle.delaunay_legalization.specs.Stays.{HasSideIn, StaysBut}
+use Rattle.delaunay_legalization.proofs.EdgePairs.{edge_joins, rev_of_even}
+use Rattle.delaunay_legalization.proofs.FaceChanges.{contains_map, turned_faces}
+use Rattle.{delaunay_legalization.proofs.OwnEdges.own_edges, plane.proofs.turned_join}
+use Rattle.half_edge_links.proofs.Sound.Triangles as T
 
 -- another entry than the one that is written stays
 pub slice_get-set_other : {X : Type 0} (xs : List X) (i j : ℕ) (x : X) → j ≢ i
@@ -115,7 +109,7 @@ module _ (m : Mesh) (s : IsValidMesh m) (once : EachPairOnce (edges_of m)) where
 
   -- two directed edges between the same vertices in the same direction are one
   pub one_way : (g h : ℕ) → g < length m.half_edges → h < length m.half_edges
-      → GoSameWay m g m h → h ≡ g
+      → GoSameDirection m g m h → h ≡ g
   one_way g h v w x =
       elim (half_same g h (one_pair (h / 2) (g / 2) (in_pairs h w) (in_pairs g v) same)) [
         | inl e ↦ e
@@ -334,7 +328,7 @@ has_more pairs more keep t (inr (inr j)) = inr (inr (keep t.third t.first j))
 -- an edge is turned whose pair is listed
 pub stays_turned : (was m new : Mesh) (pairs more : List (ℕ × ℕ)) (e : ℕ) → AreSoundLinks m
     → e < length m.half_edges → 0 < face m e → 0 < face m (rev e) → length new.half_edges
-    ≡ length m.half_edges → ((h : ℕ) → h ≢ e → h ≢ rev e → GoSameWay m h new h)
+    ≡ length m.half_edges → ((h : ℕ) → h ≢ e → h ≢ rev e → GoSameDirection m h new h)
     → FlipsTriangles m new e → Joins more (origin m e) (origin m (next m e))
     → ((i j : ℕ) → Joins pairs i j → Joins more i j) → StaysBut pairs was m → StaysBut more was new
 stays_turned was m new pairs more e s w inner twin_inner count others flips here keep stays =

@@ -5,33 +5,22 @@
 use Rattle.std.proofs.Common.{◌≡◌, ◌⊎◌, ◌<◌, ◌≤◌, ◌-◌, ◌*◌, ◌/◌, [], ◌∙◌}
 use Rattle.std.proofs.Common.{ℕ, suc, List, sym, subst, arith}
 use mathlib.Core.Logic.{inl, inr, ◌≢◌}
-use Rattle.half_edge_dcel.specs.half_edge_links.Mesh.{face, rev}
-use Rattle.half_edge_dcel.specs.half_edge_links.Flip.{flipped}
-use Rattle.half_edge_dcel.specs.half_edge_links.Outline.{KeepsOuter}
-use Rattle.half_edge_dcel.specs.half_edge_links.Peel.{spoke}
-use Rattle.half_edge_dcel.specs.half_edge_links.Round.{IsRound, neighbour}
-use Rattle.half_edge_dcel.specs.half_edge_links.Triangles.{FlipsTriangles}
-use Rattle.half_edge_dcel.specs.Contents.{Contents, IsMeshWithData}
-use Rattle.half_edge_dcel.specs.Removal.{FillsHole, LosesStrip}
-use Rattle.plane.specs.Fraction.{Point, WithinSegment}
-use Rattle.plane.specs.Pairs.{place}
-use Rattle.plane.specs.Side.{side, on, TurnsLeft}
-use Rattle.plane_theorems.specs.Tiling.Local.{LocalMesh}
-use Rattle.plane_theorems.specs.Edits.Removal.{IsStar, LocalMeshWithout, LineMeshWithout}
+use Rattle.plane.specs.{on, place, Point, side, TurnsLeft, WithinSegment}
+use Rattle.half_edge_links.specs.{face, flipped, FlipsTriangles, IsRound, KeepsOuter, neighbour}
+use Rattle.half_edge_links.specs.{rev, spoke}
+use Rattle.plane_theorems.specs.{IsStar, LineMeshWithout, LocalMesh, LocalMeshWithout}
+use Rattle.plane_theorems.specs.{NoneTurnsLeft}
 use Rattle.plane_theorems.proofs.Edits.Removal.InnerVertex.{inner_star_flips}
-use Rattle.plane_theorems.specs.Edits.RemovalHull.{NoneTurnsLeft}
-use Rattle.delaunay_legalization.specs.Drawn.{faces_of, outer_of}
-use Rattle.delaunay_legalization.proofs.OuterChanges.{outer_kept}
-use Rattle.delaunay_legalization.proofs.RoundShift.{three_below}
-use Rattle.delaunay_legalization.proofs.MeshStars.{inner_star, hull_star, hull_strip}
-use Rattle.delaunay_legalization.proofs.MeshStars.{neighbours_apart}
-use Rattle.delaunay_legalization.proofs.MeshStarFlips.{spoke_flippable, twin_flippable}
-use Rattle.delaunay_legalization.proofs.MeshStarFlips.{spoke_turned}
-use Rattle.delaunay_legalization.proofs.StarTurns.{TurnsOff, turns_away, first_end, second_end}
-use Rattle.delaunay_legalization.proofs.StarTurns.{third_end}
-use Rattle.delaunay_legalization.proofs.StarTurns.{again_end}
-use Rattle.delaunay_legalization.proofs.MeshInnerRemoval.{three_faces_go, four_faces_go}
+use Rattle.half_edge_dcel.specs.{Contents, FillsHole, IsMeshWithData, LosesStrip}
+use Rattle.delaunay_legalization.specs.{faces_of, outer_of}
 use Rattle.delaunay_legalization.proofs.MeshHullRemoval.{corner_cut, flat_vertex_goes}
+use Rattle.delaunay_legalization.proofs.MeshInnerRemoval.{four_faces_go, three_faces_go}
+use Rattle.delaunay_legalization.proofs.MeshStarFlips.{spoke_flippable, spoke_turned}
+use Rattle.delaunay_legalization.proofs.{MeshStarFlips.twin_flippable, MeshStars.neighbours_apart}
+use Rattle.delaunay_legalization.proofs.MeshStars.{hull_star, hull_strip, inner_star}
+use Rattle.delaunay_legalization.proofs.{OuterChanges.outer_kept, RoundShift.three_below}
+use Rattle.delaunay_legalization.proofs.StarTurns.{again_end, first_end, second_end, third_end}
+use Rattle.delaunay_legalization.proofs.StarTurns.{turns_away, TurnsOff}
 
 module _ {V D U F : Type 0} (points : List Point) (old : Contents V D U F) (before : IsMeshWithData
     old) (local : LocalMesh points (faces_of old.mesh) (outer_of old.mesh)) (v first : ℕ) where

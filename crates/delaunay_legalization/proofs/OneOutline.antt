@@ -4,23 +4,15 @@
 use Rattle.std.proofs.Common.{ℕ, List, length, sym, subst}
 use mathlib.Core.Logic.{inl, inr}
 use Rattle.std.specs.Prelude.{ℤ, Contains}
-use Rattle.half_edge_dcel.specs.half_edge_links.Mesh.{Mesh, origin, next, AreSoundLinks}
-use Rattle.half_edge_dcel.specs.half_edge_links.Mesh.{IsValidMesh}
-use Rattle.half_edge_dcel.specs.half_edge_links.Hull.{HasOneOutline}
-use Rattle.plane.specs.Fraction.{Point}
-use Rattle.plane.proofs.Bracket.{Vec3}
-use Rattle.plane_theorems.specs.Tiling.Local.{IsMesh, LocalMesh}
-use Rattle.plane_theorems.proofs.Tiling.Counting.{SignMesh}
-use Rattle.plane_theorems.proofs.Tiling.Tiles.{point_at, by_signs}
+use Rattle.plane.specs.{Point}
+use Rattle.{plane.proofs.Vec3, plane_theorems.specs.IsMesh, plane_theorems.specs.LocalMesh}
+use Rattle.half_edge_links.specs.{AreSoundLinks, HasOneOutline, IsValidMesh, Mesh, next, origin}
+use Rattle.plane_theorems.proofs.{by_signs, next_unique, point_at, SignMesh}
 use Rattle.plane_theorems.proofs.Tiling.Sweep.{IsSweep, sweep}
-use Rattle.plane_theorems.proofs.Edits.Insertion.Hull.{next_unique}
-use Rattle.delaunay_legalization.specs.Drawn.{faces_of, outer_of}
-use Rattle.delaunay_legalization.proofs.LowestVertex.{turns_at_lowest}
-use Rattle.delaunay_legalization.proofs.OutlineRounds.{IsOut, next_out, end, TurnsUp}
-use Rattle.delaunay_legalization.proofs.OutlineRounds.{outline_by_low}
-use Rattle.delaunay_legalization.proofs.OutlineRounds.{out_pair, same_ends}
-use Rattle.delaunay_legalization.proofs.OutlineRounds.{IsLowest, same_low}
-use Rattle.delaunay_legalization.proofs.OutlineOnLine.{line_outline}
+use Rattle.delaunay_legalization.specs.{faces_of, outer_of}
+use Rattle.delaunay_legalization.proofs.{LowestVertex.turns_at_lowest, OutlineOnLine.line_outline}
+use Rattle.delaunay_legalization.proofs.OutlineRounds.{end, IsLowest, IsOut, next_out, out_pair}
+use Rattle.delaunay_legalization.proofs.OutlineRounds.{outline_by_low, same_ends, same_low, TurnsUp}
 
 -- ---- a mesh with faces: by the heights of a sweep
 module _ (points : List Point) (m : Mesh) (s : AreSoundLinks m)

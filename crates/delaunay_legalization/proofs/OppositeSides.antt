@@ -2,21 +2,14 @@
 -- Notions: HasOpposite; opposite_begins.
 use Rattle.std.proofs.Common.{◌<◌, ◌≡◌, length, ℕ, ◌/◌, List, ◌∙◌, subst}
 use Rattle.std.specs.Prelude.{Contains}
-use Rattle.delaunay_legalization.specs.half_edge_links.Mesh.{Mesh, AreSoundLinks, origin, next}
-use Rattle.delaunay_legalization.specs.half_edge_links.Mesh.{prev, rev}
-use Rattle.delaunay_legalization.proofs.half_edge_links_lemmas.Sound.Triangles as T
-use Rattle.delaunay_legalization.specs.plane.Fraction.{Point}
-use Rattle.delaunay_legalization.specs.plane.Pairs.{Joins}
-use Rattle.delaunay_legalization.specs.plane_theorems.Tiling.Local.{IsMesh}
-use Rattle.delaunay_legalization.specs.plane_theorems.Edits.Change.{IsFaceOf}
-use Rattle.delaunay_legalization.specs.plane_theorems.Edits.EmptyRound.{IsEmptyRound}
-use Rattle.delaunay_legalization.specs.plane_theorems.Edits.Legal.{AllPassBut}
-use Rattle.delaunay_legalization.proofs.plane_theorems.Edits.Legalization.EmptyRound.{opposite_left}
-use Rattle.delaunay_legalization.specs.Drawn.{faces_of, outer_of}
-use Rattle.delaunay_legalization.specs.Legal.{pairs_at}
-use Rattle.delaunay_legalization.proofs.MeshLegal.{joins_directed}
+use Rattle.plane.specs.{Joins, Point}
+use Rattle.half_edge_links.specs.{AreSoundLinks, Mesh, next, origin, prev, rev}
+use Rattle.plane_theorems.specs.{AllPassBut, IsEmptyRound, IsFaceOf, IsMesh}
+use Rattle.plane_theorems.proofs.Edits.Legalization.EmptyRound.{opposite_left}
+use Rattle.delaunay_legalization.specs.{faces_of, outer_of, pairs_at}
+use Rattle.delaunay_legalization.proofs.{MeshLegal.joins_directed, TurnedEnds.ends_at_next}
 use Rattle.delaunay_legalization.proofs.MeshStars.{edge_of_face}
-use Rattle.delaunay_legalization.proofs.TurnedEnds.{ends_at_next}
+use Rattle.half_edge_links.proofs.Sound.Triangles as T
 
 -- the edges opposite vertex v, in the loops of the edges that start there, are among ks
 abbrev pub HasOpposite : Mesh → ℕ → List ℕ → Type 0

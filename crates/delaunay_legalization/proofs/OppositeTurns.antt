@@ -4,29 +4,18 @@
 use Rattle.std.proofs.Common.{◌≡◌, ℕ, ◌*◌, ◌/◌, ◌<◌, List, length, sym, ap, ◌∙◌, subst}
 use mathlib.Core.Logic.{◌≢◌, inl, inr}
 use Rattle.std.proofs.lemmas.Bool.{cases_eq}
-use Rattle.delaunay_legalization.specs.half_edge_links.Mesh.{Mesh, origin, next, prev, face, rev}
-use Rattle.delaunay_legalization.specs.half_edge_links.Mesh.{edge_at}
-use Rattle.delaunay_legalization.specs.half_edge_links.Mesh.{HasLinks, IsValidMesh}
-use Rattle.delaunay_legalization.specs.half_edge_links.Flip.{Flips, flipped}
-use Rattle.delaunay_legalization.specs.half_edge_links.declared.records.HalfEdge.{HalfEdge}
-use Rattle.delaunay_legalization.proofs.half_edge_links_lemmas.Faces.FlipLemmas.{flips_is}
-use Rattle.delaunay_legalization.proofs.half_edge_links_lemmas.Faces.FlipSound.{IsOffFlip}
-use Rattle.delaunay_legalization.proofs.half_edge_links_lemmas.Lists.Rev.{rev-rev, rev_within}
-use Rattle.delaunay_legalization.proofs.half_edge_links_lemmas.Sound.Triangles as T
-use Rattle.delaunay_legalization.specs.plane.Circle.{InsideCircle}
-use Rattle.delaunay_legalization.specs.plane.Fraction.{Point}
-use Rattle.delaunay_legalization.specs.plane.Pairs.{place}
-use Rattle.delaunay_legalization.specs.plane_theorems.Tiling.Local.{LocalMesh, IsMesh}
-use Rattle.delaunay_legalization.proofs.plane_theorems.Tiling.Counting.{corners_differ}
-use Rattle.delaunay_legalization.proofs.plane_theorems.Tiling.Covering as C
-use Rattle.delaunay_legalization.proofs.plane_theorems.Tiling.Tiles.{point_at, by_signs}
-use Rattle.delaunay_legalization.specs.Drawn.{faces_of, outer_of}
-use Rattle.delaunay_legalization.specs.Legal.{IsFailing}
-use Rattle.delaunay_legalization.proofs.MeshEdits.{face_before}
+use Rattle.plane.specs.{InsideCircle, place, Point}
+use Rattle.half_edge_links.specs.{edge_at, face, flipped, Flips, HalfEdge, HasLinks, IsValidMesh}
+use Rattle.half_edge_links.specs.{Mesh, next, origin, prev, rev}
+use Rattle.half_edge_links.proofs.{Faces.FlipSound.IsOffFlip, flips_is, rev-rev, rev_within}
+use Rattle.plane_theorems.specs.{IsMesh, LocalMesh}
+use Rattle.plane_theorems.proofs.{by_signs, corners_differ, point_at}
+use Rattle.delaunay_legalization.specs.{faces_of, IsFailing, outer_of}
+use Rattle.delaunay_legalization.proofs.{AmongSteps.right_by_edges, MeshEdits.face_before}
+use Rattle.delaunay_legalization.proofs.{MeshStays.halved, Spokes.ComesBetween}
+use Rattle.half_edge_links.proofs.Sound.Triangles as T
+use Rattle.plane_theorems.proofs.Tiling.Covering as C
 use Rattle.delaunay_legalization.proofs.MeshLegal as M
-use Rattle.delaunay_legalization.proofs.MeshStays.{halved}
-use Rattle.delaunay_legalization.proofs.AmongSteps.{right_by_edges}
-use Rattle.delaunay_legalization.proofs.Spokes.{ComesBetween}
 
 -- ---- an edge fails in both of its directions
 -- and so does its other direction

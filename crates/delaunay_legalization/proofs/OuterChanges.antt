@@ -4,18 +4,12 @@ use Rattle.std.proofs.Common.{◌≡◌, ◌⊎◌, ◌<◌, ◌+◌, [], ◌∷
 use Rattle.std.proofs.Common.{ℕ, length, refl, sym, ap, subst, arith}
 use mathlib.Core.Logic.{inl, inr, ◌≢◌}
 use Rattle.std.specs.Prelude.{Contains}
-use Rattle.half_edge_dcel.specs.half_edge_links.Mesh.{Mesh, origin, next, face, rev, AreSoundLinks}
-use Rattle.half_edge_dcel.specs.half_edge_links.Mesh.{IsSoundEdge}
-use Rattle.half_edge_dcel.specs.half_edge_links.Outline.{IsOuterEdge, KeepsOuter, ReplacesOuter}
-use Rattle.half_edge_dcel.specs.half_edge_links.Outline.{ClosesOuter}
-use Rattle.half_edge_dcel.specs.half_edge_links.Outline.{IsThis}
-use Rattle.half_edge_dcel.proofs.half_edge_links_lemmas.Lists.Rev.{rev_within}
-use Rattle.plane_theorems.proofs.Tiling.Totals.{Contains-head, Contains-later, Contains-none}
-use Rattle.plane_theorems.proofs.Tiling.Totals.{Contains-cases}
-use Rattle.plane_theorems.specs.Edits.Change.{OuterChange}
-use Rattle.plane_theorems.proofs.Edits.LocalMesh.Changes.{IsOnce}
-use Rattle.delaunay_legalization.specs.Drawn.{outer_of}
-use Rattle.delaunay_legalization.proofs.OuterEdges.{ends_at, listed, changed_pairs}
+use Rattle.half_edge_links.specs.{AreSoundLinks, ClosesOuter, face, IsOuterEdge, IsSoundEdge}
+use Rattle.half_edge_links.specs.{IsThis, KeepsOuter, Mesh, next, origin, ReplacesOuter, rev}
+use Rattle.plane_theorems.proofs.{Contains-cases, Contains-head, Contains-later, Contains-none}
+use Rattle.{plane_theorems.proofs.IsOnce, plane_theorems.specs.OuterChange}
+use Rattle.{delaunay_legalization.specs.outer_of, half_edge_links.proofs.rev_within}
+use Rattle.delaunay_legalization.proofs.OuterEdges.{changed_pairs, ends_at, listed}
 
 one_pair : (x e : ℕ × ℕ) → Contains (e ∷ []) x → e ≡ x
 one_pair x e c = elim (Contains-cases e [] x c) as

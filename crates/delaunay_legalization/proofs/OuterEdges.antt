@@ -8,16 +8,11 @@ use mathlib.Core.Logic.{inl, inr, ◌≢◌}
 use Rattle.std.specs.Prelude.{Contains}
 use Rattle.std.proofs.lemmas.Bool.{cases_eq}
 use Rattle.std.proofs.lemmas.Grind.{common_steps}
-use Rattle.half_edge_dcel.specs.half_edge_links.Mesh.{Mesh, origin, face, rev}
-use Rattle.half_edge_dcel.specs.half_edge_links.Outline.{Ends, IsOuterEdge, OuterChanges}
-use Rattle.half_edge_dcel.specs.half_edge_links.Flow.{outer_among}
-use Rattle.plane_theorems.proofs.Tiling.Totals.{Contains-head, Contains-later, Contains-none}
-use Rattle.plane_theorems.proofs.Tiling.Totals.{Contains-cases}
-use Rattle.plane_theorems.specs.Edits.Change.{OuterChange}
-use Rattle.plane_theorems.proofs.Edits.LocalMesh.Changes.{IsOnce, once_none, once_head, once_tail}
-use Rattle.plane_theorems.proofs.Edits.LocalMesh.Changes.{once_cons}
-use Rattle.delaunay_legalization.specs.Drawn.{pair_of, outer_of}
-use Rattle.plane.proofs.Indexes.{less_or_more}
+use Rattle.half_edge_links.specs.{Ends, face, IsOuterEdge, Mesh, origin, outer_among, OuterChanges}
+use Rattle.{half_edge_links.specs.rev, plane.proofs.less_or_more, plane_theorems.specs.OuterChange}
+use Rattle.plane_theorems.proofs.{Contains-cases, Contains-head, Contains-later, Contains-none}
+use Rattle.plane_theorems.proofs.{IsOnce, once_cons, once_head, once_none, once_tail}
+use Rattle.delaunay_legalization.specs.{outer_of, pair_of}
 
 -- the ends of a directed edge
 abbrev pub ends_at : Mesh → ℕ → ℕ × ℕ

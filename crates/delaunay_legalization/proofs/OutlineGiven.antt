@@ -11,16 +11,11 @@ use Rattle.std.specs.List.{range_with_len}
 use Rattle.std.proofs.Math.Nat.{mod_self, mod-eq_of_lt}
 use Rattle.std.proofs.lemmas.Bool.{cases_eq}
 use Rattle.std.proofs.lemmas.List.FromFn.{get_or-map-range_with_len, length-map-range_with_len}
-use Rattle.half_edge_dcel.specs.half_edge_links.Mesh.{Mesh, next, iterate, IsValidMesh}
-use Rattle.half_edge_dcel.specs.half_edge_links.Hull.{HasOneOutline}
-use Rattle.half_edge_dcel.specs.Contents.{Contents}
-use Rattle.half_edge_dcel.specs.Left.{each_in}
-use Rattle.half_edge_dcel.specs.Rounds.{GivesOuterLoop, IsOuterLoop}
-use Rattle.plane_theorems.proofs.Tiling.Totals.{Contains-none, Contains-cases, Contains-head}
-use Rattle.plane_theorems.proofs.Tiling.Totals.{Contains-later}
-use Rattle.plane_theorems.proofs.Edits.LocalMesh.Changes.{IsOnce}
-use Rattle.delaunay_legalization.proofs.Entries.{not_some}
-use Rattle.delaunay_legalization.proofs.OutlineRounds.{IsOut}
+use Rattle.half_edge_links.specs.{HasOneOutline, IsValidMesh, iterate, Mesh, next}
+use Rattle.plane_theorems.proofs.{Contains-cases, Contains-head, Contains-later, Contains-none}
+use Rattle.plane_theorems.proofs.{IsOnce}
+use Rattle.half_edge_dcel.specs.{Contents, each_in, GivesOuterLoop, Rounds.IsOuterLoop}
+use Rattle.delaunay_legalization.proofs.{Entries.not_some, OutlineRounds.IsOut}
 
 -- all outer edges, each once, and each with its next one after it, the first one after the last
 pub record IsOutlineList (m : Mesh) (edges : List ℕ) : Type 0 where

@@ -5,26 +5,19 @@ use mathlib.Core.Logic.{inl, inr, ◌≢◌}
 use Rattle.std.specs.Prelude.{ℤ, ◌<ℤ◌, Contains}
 use Rattle.std.proofs.lemmas.Bool.{cases_eq}
 use Rattle.std.proofs.lemmas.List.{length-map}
-use Rattle.half_edge_dcel.specs.half_edge_links.Mesh.{Mesh, origin, next, prev, rev, IsValidMesh}
-use Rattle.half_edge_dcel.specs.half_edge_links.Outline.{IsOuterEdge}
-use Rattle.half_edge_dcel.specs.half_edge_links.Triangles.{triangles, triangle_at}
-use Rattle.half_edge_dcel.specs.half_edge_links.Hull.{HasOneOutline}
-use Rattle.half_edge_dcel.proofs.half_edge_links_lemmas.Lists.Rev.{rev-rev, rev_within}
-use Rattle.plane.specs.Fraction.{Point}
-use Rattle.plane.proofs.Signs.{less_if_not_same, less_both_ways}
-use Rattle.plane.proofs.IntegerOrder.{lt_or_ge_ℤ}
-use Rattle.plane_theorems.specs.Tiling.Local.{LineMesh}
-use Rattle.plane_theorems.proofs.Tiling.Tiles.{point_at}
-use Rattle.plane_theorems.proofs.Tiling.Line.{SignLine, Adjoin, next_turned}
-use Rattle.plane_theorems.proofs.Tiling.LineMeshes.{line_by_signs}
-use Rattle.delaunay_legalization.specs.Drawn.{corners_of, faces_of, outer_of}
+use Rattle.plane.proofs.{less_both_ways, less_if_not_same, lt_or_ge_ℤ}
+use Rattle.half_edge_links.specs.{HasOneOutline, IsOuterEdge, IsValidMesh, Mesh, next, origin, prev}
+use Rattle.half_edge_links.specs.{rev, triangle_at, triangles}
+use Rattle.{half_edge_links.proofs.rev-rev, half_edge_links.proofs.rev_within, plane.specs.Point}
+use Rattle.plane_theorems.specs.{LineMesh}
+use Rattle.plane_theorems.proofs.{Adjoin, line_by_signs, next_turned, point_at, SignLine}
+use Rattle.delaunay_legalization.specs.{corners_of, faces_of, outer_of}
+use Rattle.delaunay_legalization.proofs.MeshLineEnds.{is_outer, only_edge}
+use Rattle.delaunay_legalization.proofs.OuterEdges.{one_edge, real}
+use Rattle.delaunay_legalization.proofs.OutlineRounds.{end, IsLowest, IsOut, next_out, out_edge}
+use Rattle.delaunay_legalization.proofs.OutlineRounds.{out_pair, outline_by_low, same_ends}
+use Rattle.delaunay_legalization.proofs.OutlineRounds.{same_low, TurnsUp}
 use Rattle.delaunay_legalization.proofs.LineNeighbours as N
-use Rattle.delaunay_legalization.proofs.MeshLineEnds.{only_edge, is_outer}
-use Rattle.delaunay_legalization.proofs.OuterEdges.{real, one_edge}
-use Rattle.delaunay_legalization.proofs.OutlineRounds.{IsOut, next_out, end, TurnsUp}
-use Rattle.delaunay_legalization.proofs.OutlineRounds.{outline_by_low}
-use Rattle.delaunay_legalization.proofs.OutlineRounds.{out_edge, out_pair}
-use Rattle.delaunay_legalization.proofs.OutlineRounds.{same_ends, IsLowest, same_low}
 
 -- ---- a mesh of points on one line: by their places along it
 module _ (points : List Point) (m : Mesh) (valid : IsValidMesh m) (bare : faces_of m ≡ [])

@@ -9,15 +9,12 @@ use mathlib.Core.Logic.{inl, inr}
 use Rattle.std.specs.Prelude.{ℤ, ◌<ℤ◌, ◌≤ℤ◌, neg_ℤ, Contains}
 use Rattle.std.proofs.lemmas.Int.{ints}
 use Rattle.std.proofs.lemmas.Bool.{cases_eq}
-use Rattle.half_edge_dcel.specs.half_edge_links.Mesh.{Mesh, origin, next, prev, face, iterate}
-use Rattle.half_edge_dcel.specs.half_edge_links.Mesh.{AreSoundLinks}
-use Rattle.half_edge_dcel.specs.half_edge_links.Outline.{IsOuterEdge}
-use Rattle.half_edge_dcel.specs.half_edge_links.Hull.{IsClosedAlong, HasOneOutline}
-use Rattle.half_edge_dcel.proofs.half_edge_links_lemmas.Lists.Orbits.{step_add, comes_back}
-use Rattle.plane.proofs.Signs.{less_if_not_same, at_most_both_ways}
-use Rattle.plane_theorems.proofs.Tiling.Rising.{greatest}
-use Rattle.plane_theorems.proofs.Edits.LocalMesh.Changes.{IsOnce}
-use Rattle.delaunay_legalization.specs.Drawn.{outer_of}
+use Rattle.plane.proofs.{at_most_both_ways, less_if_not_same}
+use Rattle.half_edge_links.specs.{AreSoundLinks, face, HasOneOutline, IsClosedAlong, IsOuterEdge}
+use Rattle.half_edge_links.specs.{iterate, Mesh, next, origin, prev}
+use Rattle.half_edge_links.proofs.{Lists.Orbits.comes_back, step_add}
+use Rattle.plane_theorems.proofs.{IsOnce}
+use Rattle.{delaunay_legalization.specs.outer_of, plane_theorems.proofs.Tiling.Rising.greatest}
 use Rattle.delaunay_legalization.proofs.LineNeighbours.{HaveOwnHeights}
 use Rattle.delaunay_legalization.proofs.OuterEdges.{listed, one_edge}
 

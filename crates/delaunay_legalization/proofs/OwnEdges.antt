@@ -1,17 +1,15 @@
--- The two ways of each edge of a mesh are the sides of its faces and its outer edges, as the plane
--- reads them.
--- Lemmas: total-read, total-map, own_edges.
+-- Both directions of each edge of a mesh are the sides of its faces and its outer edges, as sums
+-- over the plane's lists.
+-- own_edges: the edges of a valid mesh are `AreEdgesOf` its faces and outer edges
+-- total-read, total-map: the sum of f over the values of g is the sum of f after g, by either
+--   `total`
 use Rattle.std.proofs.Common.{◌≡◌, List, [], ◌∷◌, map, refl, sym, ◌∙◌}
 use Rattle.std.specs.Prelude.{ℤ, ◌+ℤ◌}
-use Rattle.half_edge_dcel.specs.half_edge_links.Mesh.{Mesh, IsValidMesh}
-use Rattle.half_edge_dcel.specs.half_edge_links.Triangles.{triangles}
-use Rattle.half_edge_dcel.specs.half_edge_links.Outline.{ends}
-use Rattle.half_edge_dcel.specs.half_edge_links.Flow.{outline}
-use Rattle.half_edge_dcel.specs.half_edge_links.Flow as F
-use Rattle.half_edge_dcel.proofs.half_edge_links_lemmas.Sound.Flow.{sides_add_up}
-use Rattle.plane_theorems.specs.Tiling.Local.{total, around, along, AreEdgesOf}
-use Rattle.delaunay_legalization.specs.Drawn.{corners_of, pair_of, faces_of, edges_of, outer_of}
-use Rattle.half_edge_dcel.proofs.half_edge_links_lemmas.Lists.Sums.{same_sum}
+use Rattle.half_edge_links.specs.{ends, IsValidMesh, Mesh, outline, triangles}
+use Rattle.half_edge_links.proofs.{Lists.Sums.same_sum, Sound.Flow.sides_add_up}
+use Rattle.plane_theorems.specs.{along, AreEdgesOf, around, total}
+use Rattle.delaunay_legalization.specs.{corners_of, edges_of, faces_of, outer_of, pair_of}
+use Rattle.half_edge_links.specs.Flow as F
 
 -- the sum over a list that was read anew
 pub total-read : {X Y : Type 0} (f : Y → ℤ) (g : X → Y) (xs : List X)

@@ -5,21 +5,15 @@ use Rattle.std.proofs.Common.{◌≡◌, ◌⊎◌, ℕ, List, map, get_or, sym,
 use mathlib.Core.Logic.{inl, inr}
 use Rattle.std.specs.Prelude.{ℤ, pos, ◌+ℤ◌, ◌≤ℤ◌, ◌<ℤ◌, Contains}
 use Rattle.std.proofs.lemmas.Int.{ints}
-use Rattle.plane.proofs.IntegerOrder.{lt_or_ge_ℤ}
-use Rattle.half_edge_dcel.specs.half_edge_links.Mesh.{Mesh}
-use Rattle.half_edge_dcel.specs.half_edge_links.Outline.{Ends}
-use Rattle.half_edge_dcel.specs.half_edge_links.Flow.{outline}
-use Rattle.half_edge_dcel.specs.Removal.{OuterSumsChange}
-use Rattle.plane_theorems.specs.Tiling.Local.{total, along}
-use Rattle.plane_theorems.proofs.Tiling.Flows.{is_pair, is_pair_nonneg, is_pair_own, pair_found}
-use Rattle.plane_theorems.proofs.Tiling.Flows.{outer_counts}
-use Rattle.plane_theorems.proofs.Tiling.Loops.{listed_once}
+use Rattle.plane.proofs.{lt_or_ge_ℤ, Signs.neither_sign_is_zero}
+use Rattle.half_edge_links.specs.{Ends, Mesh, outline}
+use Rattle.plane_theorems.specs.{along, OuterChange, total}
+use Rattle.{plane_theorems.proofs.IsOnce, plane_theorems.proofs.Tiling.Flows.pair_found}
+use Rattle.plane_theorems.proofs.{Edits.LocalMesh.Changes.has_pair_or_not, Tiling.Loops.listed_once}
+use Rattle.plane_theorems.proofs.Tiling.Flows.{is_pair, is_pair_nonneg, is_pair_own, outer_counts}
 use Rattle.plane_theorems.proofs.Tiling.Totals.{total_nonneg, total_positive, total_twice}
-use Rattle.plane_theorems.specs.Edits.Change.{OuterChange}
-use Rattle.plane_theorems.proofs.Edits.LocalMesh.Changes.{IsOnce, has_pair_or_not}
-use Rattle.delaunay_legalization.specs.Drawn.{pair_of, outer_of}
-use Rattle.delaunay_legalization.proofs.OwnEdges.{total-read}
-use Rattle.plane.proofs.Signs.{neither_sign_is_zero}
+use Rattle.delaunay_legalization.specs.{outer_of, pair_of}
+use Rattle.{delaunay_legalization.proofs.OwnEdges.total-read, half_edge_dcel.specs.OuterSumsChange}
 
 -- how often a pair is listed
 pub times : List (ℕ × ℕ) → ℕ → ℕ → ℤ

@@ -1,16 +1,11 @@
 -- A mesh over its points through a flip.
 -- Lemma: kept_flipped.
 use Rattle.std.proofs.Common.{◌≡◌, ℕ, ◌<◌, length, map, sym, subst, inl}
-use Rattle.delaunay_legalization.specs.half_edge_dcel.Contents.{Contents, FitsMesh, IsMeshWithData}
-use Rattle.delaunay_legalization.specs.half_edge_links.Mesh.{Mesh}
-use Rattle.delaunay_legalization.specs.half_edge_links.Flip.{flipped}
-use Rattle.delaunay_legalization.specs.plane.Fraction.{Point}
-use Rattle.delaunay_legalization.specs.plane_theorems.Tiling.Local.{IsMesh}
-use Rattle.delaunay_legalization.specs.Drawn.{faces_of, outer_of}
-use Rattle.delaunay_legalization.specs.Legal.{IsFailing}
+use Rattle.plane.specs.{Point}
+use Rattle.{half_edge_links.specs.flipped, half_edge_links.specs.Mesh, plane_theorems.specs.IsMesh}
+use Rattle.half_edge_dcel.specs.{Contents, FitsMesh, IsMeshWithData}
+use Rattle.delaunay_legalization.specs.{faces_of, IsFailing, IsTriangulated, outer_of, state_of}
 use Rattle.delaunay_legalization.proofs.MeshLegal.{flip_is_local, local_of}
-use Rattle.delaunay_legalization.specs.Shape.{IsTriangulated}
-use Rattle.delaunay_legalization.specs.State.{state_of}
 
 -- where a failing edge is turned, the mesh is one of a triangulation still
 pub kept_flipped : {V D U F : Type 0} {place : V → Point} {old new : Contents V D U F} {e : ℕ}

@@ -4,16 +4,12 @@
 use Rattle.std.proofs.Common.{◌≡◌, ℕ, List, [], ◌∷◌, length, ◌<◌, ◌/◌, sym, ◌∙◌, subst}
 use Rattle.std.specs.Prelude.{Contains}
 use Rattle.std.specs.Borrow.{Bor}
-use Rattle.delaunay_legalization.specs.half_edge_links.Mesh.{Mesh, IsValidMesh, next}
-use Rattle.delaunay_legalization.specs.half_edge_dcel.Contents.{Contents, IsMeshWithData}
-use Rattle.delaunay_legalization.specs.half_edge_dcel.Rounds.{GivesRound}
-use Rattle.delaunay_legalization.proofs.plane_theorems.Tiling.Totals.{Contains-none}
-use Rattle.delaunay_legalization.proofs.plane_theorems.Edits.LocalMesh.Changes.{once_none}
-use Rattle.delaunay_legalization.specs.Legal.{AreEdges, Gains}
-use Rattle.delaunay_legalization.specs.Star.{HasSidesAt, HasStar}
-use Rattle.delaunay_legalization.proofs.Rounds.{IsGoingRound, next_within, round_begins}
-use Rattle.delaunay_legalization.proofs.Rounds.{round_goes_on, round_ends, seen_as}
-use Rattle.delaunay_legalization.proofs.Stars.{sides_kept}
+use Rattle.half_edge_links.specs.{IsValidMesh, Mesh, next}
+use Rattle.plane_theorems.proofs.{Contains-none, once_none}
+use Rattle.half_edge_dcel.specs.{Contents, GivesRound, IsMeshWithData}
+use Rattle.delaunay_legalization.specs.{AreEdges, Gains, Star.HasSidesAt, Star.HasStar}
+use Rattle.delaunay_legalization.proofs.Rounds.{IsGoingRound, next_within, round_begins, round_ends}
+use Rattle.delaunay_legalization.proofs.{Rounds.round_goes_on, Rounds.seen_as, Stars.sides_kept}
 
 -- what is left of the edges of vertex v, and the list so far: it has the sides at each other edge
 pub record IsPushing {V D U F : Type 0} (c : Contents V D U F) (v : ℕ)

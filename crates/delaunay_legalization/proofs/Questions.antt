@@ -1,13 +1,14 @@
--- What answers to a few tests say of points.
--- Lemmas: within_if, if_within, both_ways, covered_in.
+-- What the answers of a few tests say of points.
+-- both_ways: no truth value is both true and false
+-- covered_in: a listed site is covered, where all sites are
+-- within_if, if_within: strictly between two points exactly where on their line, in their box and
+--   at neither
 use Rattle.std.proofs.Common.{◌≡◌, ◌≢◌, Bool, true, false, List, subst}
 use Rattle.std.specs.Prelude.{All, Contains}
-use Rattle.delaunay_legalization.specs.plane.Fraction.{Point, whole, WithinSegment}
-use Rattle.delaunay_legalization.specs.plane.Side.{side, on}
-use Rattle.delaunay_legalization.proofs.plane.Sides.{on_if, if_on}
-use Rattle.delaunay_legalization.proofs.plane_theorems.Tiling.Edges.{within_on}
-use Rattle.delaunay_legalization.specs.Between.{IsInBox}
-use Rattle.delaunay_legalization.proofs.Between.{within_of_box, box_of_within}
+use Rattle.plane.specs.{on, Point, side, whole, WithinSegment}
+use Rattle.plane_theorems.proofs.{within_on}
+use Rattle.{delaunay_legalization.specs.Between.IsInBox, plane.proofs.if_on, plane.proofs.on_if}
+use Rattle.delaunay_legalization.proofs.Between.{box_of_within, within_of_box}
 
 -- a point on the line through two others, in their box and at neither, is strictly between them, by
 -- the side

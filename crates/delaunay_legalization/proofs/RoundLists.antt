@@ -4,21 +4,13 @@ use Rattle.std.proofs.Common.{◌≡◌, ◌≢◌, ◌⊎◌, ℕ, ◌/◌, ◌
 use Rattle.std.proofs.Common.{length, refl, sym, ◌∙◌, subst, inl, inr}
 use Rattle.std.specs.Prelude.{Contains}
 use Rattle.std.proofs.lemmas.Bool.{cases_eq}
-use Rattle.delaunay_legalization.specs.half_edge_links.Mesh.{Mesh, IsValidMesh, next}
-use Rattle.delaunay_legalization.specs.plane.Fraction.{Point}
-use Rattle.delaunay_legalization.specs.plane.Pairs.{Joins}
-use Rattle.delaunay_legalization.proofs.plane_theorems.Tiling.Totals.{Contains-head, Contains-later}
-use Rattle.delaunay_legalization.proofs.plane_theorems.Tiling.Totals.{Contains-none}
-use Rattle.delaunay_legalization.proofs.plane_theorems.Tiling.Totals.{Contains-cases}
-use Rattle.delaunay_legalization.proofs.plane_theorems.Edits.LocalMesh.Changes.{IsOnce, once_none}
-use Rattle.delaunay_legalization.proofs.plane_theorems.Edits.LocalMesh.Changes.{once_head}
-use Rattle.delaunay_legalization.proofs.plane_theorems.Edits.LocalMesh.Changes.{once_tail}
-use Rattle.delaunay_legalization.proofs.plane_theorems.Edits.LocalMesh.Changes.{once_cons}
-use Rattle.delaunay_legalization.specs.Legal.{AreEdges, Gains, IsPartlyLegal, pair_at, pairs_at}
+use Rattle.half_edge_links.specs.{IsValidMesh, Mesh, next}
+use Rattle.plane_theorems.proofs.{Contains-cases, Contains-head, Contains-later, Contains-none}
+use Rattle.plane_theorems.proofs.{IsOnce, once_cons, once_head, once_none, once_tail}
+use Rattle.delaunay_legalization.specs.{AreEdges, Gains, IsPartlyLegal, pair_at, pairs_at}
+use Rattle.delaunay_legalization.proofs.{FarSides.with_one, Legalizing.edges_gained}
+use Rattle.{delaunay_legalization.proofs.Pushing.no_edges, plane.specs.Joins, plane.specs.Point}
 use Rattle.delaunay_legalization.proofs.WorkLists.{contains_last, contains_map, contains_map_from}
-use Rattle.delaunay_legalization.proofs.FarSides.{with_one}
-use Rattle.delaunay_legalization.proofs.Legalizing.{edges_gained}
-use Rattle.delaunay_legalization.proofs.Pushing.{no_edges}
 
 -- ---- an edge of a list is put at its end
 -- rest and k have all that the list ks has, and k but once

@@ -5,10 +5,8 @@ use Rattle.std.proofs.Common.{ℕ, zero, suc, length, refl, sym, ap, subst, arit
 use mathlib.Core.Logic.{inl, inr, ◌≢◌}
 use Rattle.std.proofs.Math.Nat.{suc-mul, le-mul_of_pos_right}
 use Rattle.std.proofs.lemmas.Bool.{cases_lt}
-use Rattle.half_edge_dcel.specs.half_edge_links.Mesh.{Mesh, origin, face, rev}
-use Rattle.half_edge_dcel.specs.half_edge_links.Peel.{turn, spoke}
-use Rattle.half_edge_dcel.specs.half_edge_links.Round.{IsRound, neighbour}
-use Rattle.half_edge_dcel.specs.half_edge_links.Triangles.{triangle_at}
+use Rattle.half_edge_links.specs.{face, IsRound, Mesh, neighbour, origin, rev, spoke, triangle_at}
+use Rattle.half_edge_links.specs.{turn}
 
 -- what comes again after so many steps
 module _ {X : Type 0} (f : ℕ → X) (count : ℕ) (again : (i : ℕ) → f (i + count) ≡ f i) where

@@ -5,53 +5,33 @@ use Rattle.std.proofs.Common.{◌≡◌, ◌≢◌, ℕ, suc, ◌+◌, ◌*◌, 
 use Rattle.std.proofs.Common.{length, map, Option, Some, None, IsSome, IsNone, refl, sym, ap, ◌∙◌}
 use Rattle.std.proofs.Common.{subst, inl, inr, arith}
 use Rattle.std.specs.Prelude.{Contains}
-use Rattle.delaunay_legalization.specs.half_edge_dcel.Contents.{Contents}
-use Rattle.delaunay_legalization.specs.half_edge_links.Flip.{flipped}
-use Rattle.delaunay_legalization.specs.half_edge_links.Mesh.{Mesh, IsValidMesh, origin, next, prev}
-use Rattle.delaunay_legalization.specs.half_edge_links.Mesh.{rev}
-use Rattle.delaunay_legalization.specs.half_edge_links.Mesh.{out_edge}
-use Rattle.delaunay_legalization.specs.half_edge_links.Peel.{turn}
-use Rattle.delaunay_legalization.proofs.half_edge_links_lemmas.Lists.Rev.{rev-rev, rev_within}
-use Rattle.delaunay_legalization.specs.plane.Fraction.{Point}
-use Rattle.delaunay_legalization.specs.plane.Pairs.{Joins}
-use Rattle.delaunay_legalization.specs.plane_theorems.Tiling.Local.{IsMesh}
-use Rattle.delaunay_legalization.proofs.plane_theorems.Tiling.Totals.{Contains-head, Contains-later}
-use Rattle.delaunay_legalization.proofs.plane_theorems.Tiling.Totals.{Contains-none}
-use Rattle.delaunay_legalization.proofs.plane_theorems.Tiling.Totals.{Contains-cases}
-use Rattle.delaunay_legalization.specs.plane_theorems.Edits.EmptyRound.{IsEmptyRound}
-use Rattle.delaunay_legalization.specs.plane_theorems.Edits.Legal.{lifted_volume}
-use Rattle.delaunay_legalization.proofs.plane_theorems.Edits.LocalMesh.Changes.{once_head}
-use Rattle.delaunay_legalization.specs.Drawn.{faces_of, outer_of}
-use Rattle.delaunay_legalization.specs.Legal.{AreEdges, Gains, IsFailing, IsPartlyLegal}
-use Rattle.delaunay_legalization.proofs.MeshLegal as M
-use Rattle.delaunay_legalization.proofs.MeshStays.{halved}
-use Rattle.delaunay_legalization.proofs.WorkLists.{last_or_before, once_after}
-use Rattle.delaunay_legalization.specs.declared.sides.Sides.TheVariants.{Round}
+use Rattle.half_edge_links.specs.{flipped, IsValidMesh, Mesh, next, origin, out_edge, prev, rev}
+use Rattle.{half_edge_links.specs.turn, plane.proofs.turned_join}
+use Rattle.half_edge_links.proofs.{rev-rev, rev_within}
+use Rattle.plane_theorems.specs.{IsEmptyRound, IsMesh, lifted_volume}
+use Rattle.plane_theorems.proofs.{Contains-cases, Contains-head, Contains-later, Contains-none}
+use Rattle.{half_edge_dcel.specs.Contents, plane_theorems.proofs.once_head}
+use Rattle.delaunay_legalization.specs.{AreEdges, constraint_pairs, faces_of, FlipsFit, Gains}
+use Rattle.delaunay_legalization.specs.{IsFailing, IsPartlyLegal, IsTriangulated, Legalizes}
+use Rattle.delaunay_legalization.specs.{outer_of, point_at, state_of}
 use Rattle.delaunay_legalization.specs.Around.{CanGoRound, Stays, Turns}
-use Rattle.delaunay_legalization.specs.Constraints.{constraint_pairs}
-use Rattle.delaunay_legalization.specs.Flips.{FlipsFit}
-use Rattle.delaunay_legalization.specs.Known.{point_at}
-use Rattle.delaunay_legalization.specs.Legalized.{Legalizes}
-use Rattle.delaunay_legalization.specs.Shape.{IsTriangulated}
-use Rattle.delaunay_legalization.specs.State.{state_of}
-use Rattle.delaunay_legalization.proofs.FarSides.{GainsFarSides, flip_keeps_empty, turned_far}
-use Rattle.delaunay_legalization.proofs.FarSides.{with_one}
-use Rattle.delaunay_legalization.proofs.Legalizing.{IsUnderway, edges_gained, half_within}
-use Rattle.delaunay_legalization.proofs.Legalizing.{step_fits, step_kept}
-use Rattle.delaunay_legalization.proofs.Legalizing.{turned_by, underway_begins}
-use Rattle.delaunay_legalization.proofs.OppositeSides.{opposite_begins}
+use Rattle.delaunay_legalization.specs.declared.sides.Sides.TheVariants.{Round}
+use Rattle.delaunay_legalization.proofs.FarSides.{flip_keeps_empty, GainsFarSides, turned_far}
+use Rattle.delaunay_legalization.proofs.{FarSides.with_one, MeshStays.halved, Stepping.steps_end}
+use Rattle.delaunay_legalization.proofs.Legalizing.{edges_gained, half_within, IsUnderway}
+use Rattle.delaunay_legalization.proofs.Legalizing.{step_fits, step_kept, turned_by}
+use Rattle.delaunay_legalization.proofs.{Legalizing.underway_begins, OppositeSides.opposite_begins}
 use Rattle.delaunay_legalization.proofs.OppositeTurns.{beyond_differs, comes_between, either_in}
-use Rattle.delaunay_legalization.proofs.OppositeTurns.{failing_either}
-use Rattle.delaunay_legalization.proofs.OppositeTurns.{failing_twin, opposite_behind, opposite_here}
-use Rattle.delaunay_legalization.proofs.OppositeTurns.{opposite_others}
-use Rattle.delaunay_legalization.proofs.Pushing.{no_edges}
-use Rattle.delaunay_legalization.proofs.plane.Indexes.{turned_join}
-use Rattle.delaunay_legalization.proofs.Spokes.{AreNext, ComesBetween, all_left, count_left}
-use Rattle.delaunay_legalization.proofs.Spokes.{how_many_left, next_is_left}
-use Rattle.delaunay_legalization.proofs.Spokes.{none_behind, one_fewer, one_more_left}
-use Rattle.delaunay_legalization.proofs.Stepping.{steps_end}
-use Rattle.delaunay_legalization.proofs.RoundLists.{LieOpposite, PutsLast, legal_with_more, none_in}
-use Rattle.delaunay_legalization.proofs.RoundLists.{opposites, put_last}
+use Rattle.delaunay_legalization.proofs.OppositeTurns.{failing_either, failing_twin}
+use Rattle.delaunay_legalization.proofs.OppositeTurns.{opposite_behind, opposite_here}
+use Rattle.delaunay_legalization.proofs.{OppositeTurns.opposite_others, Spokes.one_more_left}
+use Rattle.{delaunay_legalization.proofs.Pushing.no_edges, plane.specs.Joins, plane.specs.Point}
+use Rattle.delaunay_legalization.proofs.RoundLists.{legal_with_more, LieOpposite, none_in}
+use Rattle.delaunay_legalization.proofs.RoundLists.{opposites, put_last, PutsLast}
+use Rattle.delaunay_legalization.proofs.Spokes.{all_left, AreNext, ComesBetween, count_left}
+use Rattle.delaunay_legalization.proofs.Spokes.{how_many_left, next_is_left, none_behind, one_fewer}
+use Rattle.delaunay_legalization.proofs.WorkLists.{last_or_before, once_after}
+use Rattle.delaunay_legalization.proofs.MeshLegal as M
 
 -- ---- from edge to edge
 -- from edge h on the edges opposite vertex v are left to test, until its edge first comes again

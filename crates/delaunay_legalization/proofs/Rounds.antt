@@ -9,20 +9,12 @@ use Rattle.std.specs.Prelude.{Contains}
 use Rattle.std.specs.Borrow.{Bor}
 use Rattle.std.specs.List.{range_with_len}
 use Rattle.std.proofs.lemmas.List.FromFn.{length-map-range_with_len, get_or-map-range_with_len}
-use Rattle.delaunay_legalization.specs.half_edge_links.Mesh.{Mesh, IsValidMesh, origin, out_edge}
-use Rattle.delaunay_legalization.specs.half_edge_links.Peel.{spoke}
-use Rattle.delaunay_legalization.specs.half_edge_links.Round.{IsRound}
-use Rattle.delaunay_legalization.specs.half_edge_dcel.Contents.{Contents}
-use Rattle.delaunay_legalization.specs.half_edge_dcel.Left.{each_in}
-use Rattle.delaunay_legalization.specs.half_edge_dcel.Rounds.{GivesRound}
-use Rattle.delaunay_legalization.proofs.half_edge_links_lemmas.Lists.OneOrbit.{edges_go_round}
-use Rattle.delaunay_legalization.proofs.half_edge_links_lemmas.Removing.CollapseLemmas.{some_of}
-use Rattle.delaunay_legalization.proofs.plane_theorems.Tiling.Totals.{Contains-head, Contains-later}
-use Rattle.delaunay_legalization.proofs.plane_theorems.Tiling.Totals.{Contains-none}
-use Rattle.delaunay_legalization.proofs.plane_theorems.Tiling.Totals.{Contains-cases}
-use Rattle.delaunay_legalization.proofs.plane_theorems.Edits.LocalMesh.Changes.{IsOnce, once_none}
-use Rattle.delaunay_legalization.proofs.plane_theorems.Edits.LocalMesh.Changes.{once_tail}
-use Rattle.delaunay_legalization.proofs.Entries.{not_some, index_listed}
+use Rattle.half_edge_links.specs.{IsRound, IsValidMesh, Mesh, origin, out_edge, spoke}
+use Rattle.half_edge_links.proofs.{Lists.OneOrbit.edges_go_round, Removing.CollapseLemmas.some_of}
+use Rattle.plane_theorems.proofs.{Contains-cases, Contains-head, Contains-later, Contains-none}
+use Rattle.plane_theorems.proofs.{IsOnce, once_none, once_tail}
+use Rattle.half_edge_dcel.specs.{Contents, each_in, GivesRound}
+use Rattle.delaunay_legalization.proofs.Entries.{index_listed, not_some}
 use Rattle.delaunay_legalization.proofs.RoundShift.{round_from}
 use Rattle.delaunay_legalization.proofs.WorkLists.{contains_map, contains_map_from}
 

@@ -3,20 +3,13 @@
 use Rattle.std.proofs.Common.{◌≡◌, ◌≢◌, ◌<◌, []}
 use Rattle.std.proofs.Common.{ℕ, List, length, refl, sym, ap, subst, inl, inr, arith}
 use Rattle.std.specs.Prelude.{All}
-use Rattle.delaunay_legalization.specs.half_edge_links.Mesh.{Mesh, IsValidMesh, empty}
-use Rattle.delaunay_legalization.specs.half_edge_dcel.Contents.{Contents, IsMeshWithData}
-use Rattle.delaunay_legalization.specs.plane.Fraction.{Point, whole}
-use Rattle.delaunay_legalization.specs.plane.Tests.{InRange}
-use Rattle.delaunay_legalization.specs.plane.Pairs.{place}
-use Rattle.delaunay_legalization.specs.plane.Tiling.{Face, IsTiling}
-use Rattle.delaunay_legalization.specs.plane_theorems.Tiling.Local.{IsMesh}
-use Rattle.delaunay_legalization.proofs.plane_theorems.Tiling.Meshes.{meshes_tile}
-use Rattle.delaunay_legalization.proofs.plane_theorems.Tiling.LineMeshes.{no_vertex}
-use Rattle.delaunay_legalization.specs.Known.{point_at}
-use Rattle.delaunay_legalization.specs.Drawn.{drawn, faces_of, edges_of, outer_of}
-use Rattle.delaunay_legalization.proofs.OwnEdges.{own_edges}
-use Rattle.delaunay_legalization.specs.State.{state_of}
-use Rattle.delaunay_legalization.specs.Shape.{IsTriangulated}
+use Rattle.plane.specs.{Face, InRange, IsTiling, place, Point, whole}
+use Rattle.half_edge_links.specs.{empty, IsValidMesh, Mesh}
+use Rattle.plane_theorems.proofs.{meshes_tile, Tiling.LineMeshes.no_vertex}
+use Rattle.half_edge_dcel.specs.{Contents, IsMeshWithData}
+use Rattle.delaunay_legalization.specs.{drawn, edges_of, faces_of, IsTriangulated, outer_of}
+use Rattle.delaunay_legalization.specs.{point_at, state_of}
+use Rattle.{delaunay_legalization.proofs.OwnEdges.own_edges, plane_theorems.specs.IsMesh}
 
 -- what a valid mesh over its points draws is a tiling
 pub laid_out_tiles : (points : List Point) (m : Mesh) → IsValidMesh m

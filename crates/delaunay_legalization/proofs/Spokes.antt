@@ -8,19 +8,12 @@ use Rattle.std.specs.Prelude.{Contains}
 use Rattle.std.specs.List.{range_with_len}
 use Rattle.std.proofs.lemmas.Bool.{eq-eqb}
 use Rattle.std.proofs.lemmas.Bool.Decides.{eqb_tells}
-use Rattle.delaunay_legalization.specs.half_edge_links.Mesh.{Mesh, IsValidMesh, origin, out_edge}
-use Rattle.delaunay_legalization.specs.half_edge_links.Peel.{turn, spoke}
-use Rattle.delaunay_legalization.specs.half_edge_links.Round.{IsRound}
-use Rattle.delaunay_legalization.specs.half_edge_dcel.Walks.{walk}
-use Rattle.delaunay_legalization.proofs.half_edge_links_lemmas.Lists.OneOrbit.{edges_go_round}
-use Rattle.delaunay_legalization.proofs.plane_theorems.Tiling.Totals.{Contains-head, Contains-later}
-use Rattle.delaunay_legalization.proofs.plane_theorems.Tiling.Totals.{Contains-cases}
-use Rattle.delaunay_legalization.proofs.plane_theorems.Edits.LocalMesh.Changes.{IsOnce, once_head}
-use Rattle.delaunay_legalization.proofs.plane_theorems.Edits.LocalMesh.Changes.{once_tail}
-use Rattle.delaunay_legalization.proofs.plane_theorems.Edits.LocalMesh.Changes.{once_cons}
-use Rattle.delaunay_legalization.proofs.Entries.{index_listed}
-use Rattle.delaunay_legalization.proofs.WorkLists.{contains_map, contains_map_from, at_most_so_many}
-use Rattle.delaunay_legalization.proofs.Rounds.{spokes_once}
+use Rattle.half_edge_links.specs.{IsRound, IsValidMesh, Mesh, origin, out_edge, spoke, turn}
+use Rattle.plane_theorems.proofs.{Contains-cases, Contains-head, Contains-later, IsOnce, once_cons}
+use Rattle.plane_theorems.proofs.{once_head, once_tail}
+use Rattle.{half_edge_dcel.specs.walk, half_edge_links.proofs.Lists.OneOrbit.edges_go_round}
+use Rattle.delaunay_legalization.proofs.{Entries.index_listed, Rounds.spokes_once}
+use Rattle.delaunay_legalization.proofs.WorkLists.{at_most_so_many, contains_map, contains_map_from}
 
 -- from edge h on these edges come, and then edge first
 pub Follow : Mesh → ℕ → ℕ → List ℕ → Type 0

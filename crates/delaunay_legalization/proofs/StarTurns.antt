@@ -5,19 +5,12 @@
 -- again_end, strip_left, wheel_of_three.
 use Rattle.std.proofs.Common.{◌≡◌, ℕ, zero, suc, ◌<◌, ◌*◌, ◌/◌, length, sym, ap, ◌∙◌, subst, arith}
 use mathlib.Core.Logic.{inl, inr, ◌≢◌}
-use Rattle.half_edge_dcel.specs.half_edge_links.declared.records.HalfEdge.{HalfEdge}
-use Rattle.half_edge_dcel.specs.half_edge_links.Mesh.{Mesh, edge_at, origin, next, prev, face, rev}
-use Rattle.half_edge_dcel.specs.half_edge_links.Mesh.{IsValidMesh}
-use Rattle.half_edge_dcel.specs.half_edge_links.Mesh.{AreSoundLinks}
-use Rattle.half_edge_dcel.specs.half_edge_links.Flip.{IsFlippable, Flips, flipped}
-use Rattle.half_edge_dcel.specs.half_edge_links.Peel.{turn, spoke, IsWheel, IsStrip}
-use Rattle.half_edge_dcel.specs.half_edge_links.Round.{IsRound, neighbour}
-use Rattle.half_edge_dcel.proofs.half_edge_links_lemmas.Faces.FlipLemmas.{flips_is}
-use Rattle.half_edge_dcel.proofs.half_edge_links_lemmas.Faces.FlipSound.{IsOffFlip, origin_kept}
-use Rattle.half_edge_dcel.proofs.half_edge_links_lemmas.Lists.Rev.{rev-rev}
-use Rattle.half_edge_dcel.proofs.half_edge_links_lemmas.Sound.Triangles as T
-use Rattle.delaunay_legalization.proofs.MeshStays.{halved}
-use Rattle.delaunay_legalization.proofs.TurnedEnds.{KeepsOtherOrigins}
+use Rattle.half_edge_links.specs.{AreSoundLinks, edge_at, face, flipped, Flips, HalfEdge}
+use Rattle.half_edge_links.specs.{IsFlippable, IsRound, IsStrip, IsValidMesh, IsWheel, Mesh}
+use Rattle.half_edge_links.specs.{neighbour, next, origin, prev, rev, spoke, turn}
+use Rattle.half_edge_links.proofs.{Faces.FlipSound.IsOffFlip, flips_is, origin_kept, rev-rev}
+use Rattle.delaunay_legalization.proofs.{MeshStays.halved, TurnedEnds.KeepsOtherOrigins}
+use Rattle.half_edge_links.proofs.Sound.Triangles as T
 
 -- what a turn of edge e leaves at the vertex where it starts, whichever of its two directions was
 -- turned

@@ -5,26 +5,16 @@ use Rattle.std.proofs.Common.{◌≡◌, ◌⊎◌, ◌/◌, ◌<◌, [], ◌∷
 use Rattle.std.proofs.Common.{ℕ, List, length, sym, ap, subst, inl, inr, arith}
 use Rattle.std.specs.Prelude.{Contains}
 use Rattle.std.proofs.lemmas.Bool.{cases_eq}
-use Rattle.delaunay_legalization.specs.half_edge_links.Mesh.{Mesh, AreSoundLinks, next, prev, rev}
-use Rattle.delaunay_legalization.proofs.half_edge_links_lemmas.Lists.Rev.{rev_within}
-use Rattle.delaunay_legalization.proofs.half_edge_links_lemmas.Sound.Triangles as T
-use Rattle.delaunay_legalization.specs.plane.Fraction.{Point, Fraction, whole}
-use Rattle.delaunay_legalization.specs.plane.Circle.{InsideCircle}
-use Rattle.delaunay_legalization.specs.plane.Pairs.{place, Joins}
-use Rattle.delaunay_legalization.specs.plane.Tiling.{Face}
-use Rattle.delaunay_legalization.specs.plane_theorems.Tiling.Local.{IsMesh}
-use Rattle.delaunay_legalization.proofs.plane_theorems.Tiling.Appended.{kept_point}
-use Rattle.delaunay_legalization.proofs.plane_theorems.Tiling.Totals.{Contains-none}
-use Rattle.delaunay_legalization.specs.plane_theorems.Edits.Change.{IsFaceOf}
-use Rattle.delaunay_legalization.specs.plane_theorems.Edits.Legal.{Pass, AllPassBut}
-use Rattle.delaunay_legalization.specs.Drawn.{faces_of}
-use Rattle.delaunay_legalization.specs.Legal.{pairs_at}
+use Rattle.plane.specs.{Face, Fraction, InsideCircle, Joins, place, Point, whole}
+use Rattle.half_edge_links.specs.{AreSoundLinks, Mesh, next, prev, rev}
+use Rattle.{half_edge_links.proofs.rev_within, plane_theorems.proofs.Edits.LocalMesh.Kept.index_of}
+use Rattle.plane_theorems.specs.{AllPassBut, IsFaceOf, IsMesh, Pass}
+use Rattle.plane_theorems.proofs.{Contains-none, kept_point, none_in_empty}
+use Rattle.delaunay_legalization.specs.{faces_of, MakesFacesAt, pairs_at}
+use Rattle.delaunay_legalization.specs.Star.{AllPassBeside, HasSidesAt, HasStar, IsOneOf}
 use Rattle.delaunay_legalization.proofs.MeshLegal.{joins_directed}
-use Rattle.delaunay_legalization.proofs.MeshStars.{IsEdgeOfFace, edge_of_face}
-use Rattle.delaunay_legalization.specs.Star.{IsOneOf, MakesFacesAt, AllPassBeside, HasSidesAt}
-use Rattle.delaunay_legalization.specs.Star.{HasStar}
-use Rattle.delaunay_legalization.proofs.plane_theorems.Edits.LocalMesh.Kept.{index_of}
-use Rattle.delaunay_legalization.proofs.plane_theorems.Edits.Legalization.NewPoint.{none_in_empty}
+use Rattle.delaunay_legalization.proofs.MeshStars.{edge_of_face, IsEdgeOfFace}
+use Rattle.half_edge_links.proofs.Sound.Triangles as T
 
 -- the corners of a face are points
 pub face_corners : (points : List Point) (faces : List Face) (outer : List (ℕ × ℕ))

@@ -6,33 +6,21 @@ use Rattle.std.proofs.Common.{◌≡◌, ℕ, ◌+◌, ◌*◌, ◌<◌, ◌≤�
 use Rattle.std.proofs.Common.{length, map, refl, sym, ap, subst, arith}
 use Rattle.std.specs.Prelude.{◌^◌, Contains}
 use Rattle.std.proofs.lemmas.List.{length-append}
-use Rattle.delaunay_legalization.specs.half_edge_dcel.Contents.{Contents}
-use Rattle.delaunay_legalization.specs.half_edge_links.Flip.{flipped}
-use Rattle.delaunay_legalization.specs.half_edge_links.Mesh.{Mesh, IsValidMesh, origin, rev}
-use Rattle.delaunay_legalization.specs.plane.Delaunay.{IsLocallyDelaunay}
-use Rattle.delaunay_legalization.specs.plane.Fraction.{Point}
-use Rattle.delaunay_legalization.specs.plane.Pairs.{Joins}
-use Rattle.delaunay_legalization.specs.plane_theorems.Tiling.Local.{IsMesh}
-use Rattle.delaunay_legalization.specs.Drawn.{drawn, faces_of, outer_of}
-use Rattle.delaunay_legalization.specs.Legal.{AreEdges, GainsRound, IsFailing, IsPartlyLegal}
-use Rattle.delaunay_legalization.specs.Legal.{steps_left}
-use Rattle.delaunay_legalization.proofs.half_edge_links_lemmas.Sound.Valid.{valid_flipped}
-use Rattle.delaunay_legalization.proofs.MeshLegal.{dropped}
-use Rattle.delaunay_legalization.proofs.WorkLists.{contains_last, contains_before, once_before}
-use Rattle.delaunay_legalization.specs.declared.sides.Sides.{Sides}
-use Rattle.delaunay_legalization.specs.declared.sides.Sides.TheVariants.{Round, Among}
-use Rattle.delaunay_legalization.specs.Constraints.{constraint_pairs}
-use Rattle.delaunay_legalization.specs.Flips.{FlipsFit}
-use Rattle.delaunay_legalization.specs.Legalized.{Legalizes}
-use Rattle.delaunay_legalization.specs.Shape.{IsTriangulated}
-use Rattle.delaunay_legalization.specs.Sides.{AreLeftToTest, GainsSides, Suffice}
-use Rattle.delaunay_legalization.specs.State.{state_of}
-use Rattle.delaunay_legalization.proofs.AmongSteps.{six, moves, only_stay, legal_among}
-use Rattle.delaunay_legalization.proofs.Legalizing.{IsUnderway, underway_begins, step_fits}
-use Rattle.delaunay_legalization.proofs.Legalizing.{step_kept}
-use Rattle.delaunay_legalization.proofs.Legalizing.{underway_ends, underway_counts, underway_keeps}
-use Rattle.delaunay_legalization.proofs.Legalizing.{turned_by, fewer_by, fixed_stay}
-use Rattle.delaunay_legalization.proofs.Legalizing.{failing_apart, failing_flippable}
+use Rattle.plane.specs.{IsLocallyDelaunay, Joins, Point}
+use Rattle.half_edge_links.specs.{flipped, IsValidMesh, Mesh, origin, rev}
+use Rattle.{half_edge_dcel.specs.Contents, half_edge_links.proofs.Sound.Valid.valid_flipped}
+use Rattle.delaunay_legalization.specs.{AreEdges, AreLeftToTest, constraint_pairs, drawn, faces_of}
+use Rattle.delaunay_legalization.specs.{FlipsFit, GainsRound, IsFailing, IsPartlyLegal}
+use Rattle.delaunay_legalization.specs.{IsTriangulated, Legalizes, outer_of, state_of, steps_left}
+use Rattle.delaunay_legalization.specs.{declared.sides.Sides.Sides, Sides.GainsSides, Sides.Suffice}
+use Rattle.delaunay_legalization.specs.declared.sides.Sides.TheVariants.{Among, Round}
+use Rattle.delaunay_legalization.proofs.AmongSteps.{legal_among, moves, only_stay, six}
+use Rattle.delaunay_legalization.proofs.Legalizing.{failing_apart, failing_flippable, fewer_by}
+use Rattle.delaunay_legalization.proofs.Legalizing.{fixed_stay, IsUnderway, step_fits, step_kept}
+use Rattle.delaunay_legalization.proofs.Legalizing.{turned_by, underway_begins, underway_counts}
+use Rattle.delaunay_legalization.proofs.Legalizing.{underway_ends, underway_keeps}
+use Rattle.{delaunay_legalization.proofs.MeshLegal.dropped, plane_theorems.specs.IsMesh}
+use Rattle.delaunay_legalization.proofs.WorkLists.{contains_before, contains_last, once_before}
 
 -- ---- one step
 module _ (points : List Point) (m : Mesh) (s : IsValidMesh m) (shape : IsMesh points (faces_of m)

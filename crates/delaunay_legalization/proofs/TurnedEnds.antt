@@ -1,8 +1,8 @@
 -- Where directed edges start and end, before and after one edge is turned.
 -- Notions: KeepsOtherOrigins; other_ends_stay, ends_at_next.
 use Rattle.std.proofs.Common.{◌≡◌, ◌≢◌, ℕ, ◌<◌, length, sym, ap, ◌∙◌}
-use Rattle.half_edge_dcel.specs.half_edge_links.Mesh.{Mesh, origin, next, rev, AreSoundLinks}
-use Rattle.half_edge_dcel.proofs.half_edge_links_lemmas.Lists.Rev.{rev-rev}
+use Rattle.half_edge_links.specs.{AreSoundLinks, Mesh, next, origin, rev}
+use Rattle.half_edge_links.proofs.{rev-rev}
 
 -- all directed edges but the two of edge e start where they did
 abbrev pub KeepsOtherOrigins : Mesh → Mesh → ℕ → Type 0

@@ -4,12 +4,9 @@ use Rattle.std.proofs.Common.{◌≡◌, ℕ, ◌*◌, ◌<◌, length, sym, ap,
 use Rattle.std.specs.List.{range_with_len}
 use Rattle.std.proofs.lemmas.List.{same_lists, length-map, get_or-map}
 use Rattle.std.proofs.lemmas.List.FromFn.{length-map-range_with_len, get_or-map-range_with_len}
-use Rattle.delaunay_legalization.specs.half_edge_links.Mesh.{Mesh, origin, IsValidMesh}
-use Rattle.delaunay_legalization.specs.half_edge_links.Outline.{Ends, ends}
-use Rattle.delaunay_legalization.proofs.half_edge_links_lemmas.Sound.Ends.{length-ends_twice}
-use Rattle.delaunay_legalization.proofs.half_edge_links_lemmas.Sound.Ends.{get_or-ends}
-use Rattle.delaunay_legalization.specs.Drawn.{pair_of, edges_of}
-use Rattle.delaunay_legalization.specs.Legal.{pair_at, pairs_at}
+use Rattle.half_edge_links.specs.{Ends, ends, IsValidMesh, Mesh, origin}
+use Rattle.half_edge_links.proofs.{get_or-ends, length-ends_twice}
+use Rattle.delaunay_legalization.specs.{edges_of, pair_at, pair_of, pairs_at}
 use Rattle.delaunay_legalization.proofs.EdgePairs.{rev_of_even}
 
 module _ (m : Mesh) (n : ℕ) (count : 2 * n ≡ length m.half_edges) where

@@ -1,6 +1,13 @@
--- Lists with each entry once, as they grow and shrink at their end.
--- Lemmas: contains_last, contains_before, last_or_before, once_before, last_not_before,
--- once_after, contains_map, contains_map_from, same_map, at_most_so_many.
+-- Lists that have each entry once, as they grow and shrink at their end.
+-- contains_last, contains_before: a list with one more entry has that entry, and its former ones
+-- last_or_before: and no other
+-- once_after, once_before: each entry stays listed once with a new last entry; without the last
+--   entry
+-- last_not_before: the last entry is not among those before it
+-- contains_map, contains_map_from: the values of a function over a list are its values at the
+--   entries
+-- at_most_so_many: a list of numbers below n, each once, has at most n entries
+-- same_map: functions that agree on a list have the same values over it
 use Rattle.std.proofs.Common.{◌≡◌, ◌⊎◌, ◌<◌, ◌≤◌, [], ◌∷◌, ◌++◌}
 use Rattle.std.proofs.Common.{ℕ, zero, suc, List, length, map, refl, sym, ap, subst, arith}
 use mathlib.Core.Logic.{inl, inr}
@@ -8,10 +15,8 @@ use Rattle.std.specs.Prelude.{Contains}
 use Rattle.std.proofs.lemmas.Bool.{cases_eq}
 use Rattle.std.proofs.lemmas.List.Elements.{Contains-append_left, Contains-append_right}
 use Rattle.std.proofs.lemmas.List.Elements.{Contains-append_cases}
-use Rattle.plane_theorems.proofs.Tiling.Totals.{Contains-head, Contains-later, Contains-none}
-use Rattle.plane_theorems.proofs.Tiling.Totals.{Contains-cases}
-use Rattle.plane_theorems.proofs.Edits.LocalMesh.Changes.{IsOnce, once_none, once_head, once_tail}
-use Rattle.plane_theorems.proofs.Edits.LocalMesh.Changes.{once_cons}
+use Rattle.plane_theorems.proofs.{Contains-cases, Contains-head, Contains-later, Contains-none}
+use Rattle.plane_theorems.proofs.{IsOnce, once_cons, once_head, once_none, once_tail}
 use Rattle.plane_theorems.proofs.Edits.LocalMesh.Changes.{once_length}
 
 -- a list contains the entry that was put at its end

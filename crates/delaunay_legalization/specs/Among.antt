@@ -1,10 +1,8 @@
 -- Meshes where only some edges may fail: each other edge between two faces has an empty circle on
 -- one of its sides.
 use Rattle.std.specs.Prelude.{◌≡◌, ◌⊎◌, ℕ, ◌*◌, ◌<◌, List, length, Contains}
-use Rattle.delaunay_legalization.specs.half_edge_links.Mesh.{Mesh, origin, next, prev, face, rev}
-use Rattle.delaunay_legalization.specs.plane.Circle.{InsideCircle}
-use Rattle.delaunay_legalization.specs.plane.Fraction.{Point}
-use Rattle.delaunay_legalization.specs.plane.Pairs.{place}
+use Rattle.plane.specs.{InsideCircle, place, Point}
+use Rattle.half_edge_links.specs.{face, Mesh, next, origin, prev, rev}
 
 -- no point is inside the circle of the face on the left of directed edge h
 abbrev HasEmptyCircle : List Point → Mesh → ℕ → Type 0

@@ -2,25 +2,17 @@
 -- edges.
 use Rattle.std.specs.Prelude.{◌≡◌, ◌↔◌, ◌⊎◌, ◌+◌, ◌*◌, ◌/◌, ◌<◌, ◌^◌}
 use Rattle.std.specs.Prelude.{ℕ, ℤ, List, length, map, IsTrue, Some}
-use Rattle.delaunay_legalization.specs.half_edge_dcel.Contents.{Contents}
-use Rattle.delaunay_legalization.specs.half_edge_links.Flip.{flipped}
-use Rattle.delaunay_legalization.specs.half_edge_links.Mesh.{Mesh, origin, next, prev, face, rev}
-use Rattle.delaunay_legalization.specs.half_edge_links.Mesh.{out_edge}
-use Rattle.delaunay_legalization.specs.plane.Fraction.{Point}
-use Rattle.delaunay_legalization.specs.plane.Pairs.{Joins}
-use Rattle.delaunay_legalization.specs.plane_theorems.Edits.EmptyRound.{IsEmptyRound}
-use Rattle.delaunay_legalization.specs.Drawn.{faces_of}
-use Rattle.delaunay_legalization.specs.Legal.{IsFailing}
-use Rattle.delaunay_core.specs.Place.{place_of}
-use Rattle.delaunay_legalization.specs.Flips.{FlipsFit}
-use Rattle.delaunay_legalization.specs.Known.{IsVertexSite}
-use Rattle.delaunay_legalization.specs.Placed.{IsPlaced}
-use Rattle.delaunay_legalization.specs.declared.around.Opposite.{Opposite}
+use Rattle.half_edge_links.specs.{face, flipped, Mesh, next, origin, out_edge, prev, rev}
+use Rattle.{half_edge_dcel.specs.Contents, plane_theorems.specs.IsEmptyRound}
+use Rattle.delaunay_core.specs.{place_of}
+use Rattle.delaunay_legalization.specs.{Drawn.faces_of, Known.IsVertexSite, Legal.IsFailing}
+use Rattle.delaunay_legalization.specs.{declared.around.Opposite.Opposite, Embedding.IsEmbedding}
+use Rattle.{delaunay_legalization.specs.Flips.FlipsFit, plane.specs.Joins, plane.specs.Point}
 
 -- the edge opposite vertex v, in the face on the left of its edge h, may be tested and turned
 pub record CanTurn {V D U F P : Type 0} (place : V → Point) (IsSite : P → Point → Type 0)
     (c : Contents V D U F) (t : P) (h flips : ℕ) : Type 0 where
-  pub placed : IsPlaced place IsSite c t
+  pub embedding : IsEmbedding place IsSite c t
   pub within : h < length c.mesh.half_edges
   pub fits : IsFailing (map place c.vertices) c.mesh (next c.mesh h) → flips + 1 < 2 ^ 64
 

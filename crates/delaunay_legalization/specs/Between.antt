@@ -1,6 +1,6 @@
 -- A point strictly between two others, by its coordinates.
 use Rattle.std.specs.Prelude.{◌⊎◌, ℤ, ◌≤ℤ◌}
-use Rattle.delaunay_legalization.specs.plane.Fraction.{Point}
+use Rattle.plane.specs.{Point}
 
 -- c is between a and b or equal to one of them
 abbrev pub IsFrom : ℤ → ℤ → ℤ → Type 0

@@ -1,10 +1,12 @@
--- Which edges are constraints, so that no legalising flips them: those whose data are marked.
+-- Which edges are constraints, which no legalising flips: those whose data are marked.
+-- constraints_by cs s: the pairs of vertices that the constraints of a triangulation join
+-- points_and_constraints_by cs s: the plain state: the vertices, and these pairs
+-- constraint_pairs cs m ds: the pairs, by the mesh and the data of its edges
+-- marked_edges marks ds: the indexes of the marked data
+-- marked_from marks first ds: the same, where the first of the data has the index first
 use Rattle.std.specs.Prelude.{◌≡◌, ℕ, suc, Bool, true, false, List, [], ◌∷◌, if◌then◌else◌, refl}
-use Rattle.delaunay_legalization.specs.half_edge_dcel.Contents.{Contents}
-use Rattle.delaunay_legalization.specs.half_edge_links.Mesh.{Mesh}
-use Rattle.delaunay_legalization.specs.Legal.{pairs_at}
-use Rattle.delaunay_legalization.specs.plane.Plain.{Plain}
-use Rattle.delaunay_legalization.specs.State.{State}
+use Rattle.{half_edge_dcel.specs.Contents, half_edge_links.specs.Mesh, plane.specs.Plain}
+use Rattle.{delaunay_legalization.specs.Legal.pairs_at, delaunay_legalization.specs.State.State}
 
 -- the indexes of the marked data, where the first has this index
 abbrev pub marked_from : {U : Type 0} → (U → Bool) → ℕ → List U → List ℕ

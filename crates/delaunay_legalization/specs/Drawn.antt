@@ -1,11 +1,12 @@
--- What the links of a mesh draw: its faces, edges and outer edges by the indexes of their vertices.
+-- The faces, edges and outer edges of a mesh, by the indexes of their vertices.
+-- faces_of m: the inner faces, by index
+-- edges_of m: the undirected edges, by index
+-- outer_of m: the directed edges with the outer face on their left
+-- drawn points m: points, with the faces and edges of a mesh
+-- corners_of, pair_of: the corners of one face as a `Face`; the ends of one edge as a pair
 use Rattle.std.specs.Prelude.{ℕ, List, map}
-use Rattle.half_edge_dcel.specs.half_edge_links.Mesh.{Mesh}
-use Rattle.half_edge_dcel.specs.half_edge_links.Triangles.{Triangle, triangles}
-use Rattle.half_edge_dcel.specs.half_edge_links.Outline.{Ends, ends}
-use Rattle.half_edge_dcel.specs.half_edge_links.Flow.{outline}
-use Rattle.plane.specs.Fraction.{Point}
-use Rattle.plane.specs.Tiling.{Face, Triangulation}
+use Rattle.plane.specs.{Face, Point, Triangulation}
+use Rattle.half_edge_links.specs.{Ends, ends, Mesh, outline, Triangle, triangles}
 
 -- three corners as a face of a triangulation
 abbrev pub corners_of : Triangle → Face

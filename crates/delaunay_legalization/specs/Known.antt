@@ -1,6 +1,9 @@
 -- Positions by index.
+-- point_at points i: the point with index i; (0, 0) past the end of the list
+-- IsKnown points p: p is one of the points
+-- IsVertexSite IsSite points v p: p is the position of vertex v, and a site
 use Rattle.std.specs.Prelude.{◌≡◌, ℕ, ◌<◌, List, length, pos, slice_index_or}
-use Rattle.delaunay_legalization.specs.plane.Fraction.{Point}
+use Rattle.plane.specs.{Point}
 
 -- the point of an index (at an index past the end, (0, 0))
 abbrev pub point_at : List Point → ℕ → Point

@@ -1,15 +1,17 @@
 -- The edges of a mesh that are still to be tested while it is legalised.
+-- pair_at m k, pairs_at m ks: the ends of undirected edge k; of each edge of a list
+-- AreEdges m ks: ks are undirected edges of the mesh, each once
+-- IsFailing points m e: e lies between two inner faces and fails the circle test
+-- Gains old new k: the list has its former entries, and k
+-- GainsRound m e old new: it has its former entries, and the four edges around the two faces at e
+-- IsPartlyLegal: each edge passes but constraints and those left to test, after so many flips
+-- steps_left points m left: a number that falls with each step
 use Rattle.std.specs.Prelude.{◌≡◌, ◌≢◌, ◌⊎◌, ◌+◌, ◌*◌, ◌/◌, ◌<◌}
 use Rattle.std.specs.Prelude.{ℕ, List, length, map, Contains, AllPairs}
-use Rattle.half_edge_dcel.specs.half_edge_links.Mesh.{Mesh, origin, next, prev, face, rev}
-use Rattle.plane.specs.Fraction.{Point}
-use Rattle.plane.specs.Circle.{InsideCircle}
-use Rattle.plane.specs.Pairs.{place}
-use Rattle.plane_theorems.specs.Tiling.Local.{IsMesh}
-use Rattle.plane_theorems.specs.Edits.Legal.{AllPassBut, lifted_volume}
-use Rattle.plane_theorems.specs.Edits.Away.{AreAway}
-use Rattle.delaunay_legalization.specs.Drawn.{faces_of, outer_of}
-use Rattle.delaunay_legalization.specs.Stays.{StaysBut}
+use Rattle.plane.specs.{InsideCircle, place, Point}
+use Rattle.half_edge_links.specs.{face, Mesh, next, origin, prev, rev}
+use Rattle.plane_theorems.specs.{AllPassBut, AreAway, IsMesh, lifted_volume}
+use Rattle.delaunay_legalization.specs.{Drawn.faces_of, Drawn.outer_of, Stays.StaysBut}
 
 -- the vertices that undirected edge k joins
 abbrev pub pair_at : Mesh → ℕ → ℕ × ℕ

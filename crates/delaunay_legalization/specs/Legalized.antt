@@ -1,12 +1,8 @@
 -- What a legalization makes of a triangulation.
 use Rattle.std.specs.Prelude.{◌≡◌, ℕ, List, length}
-use Rattle.delaunay_legalization.specs.half_edge_dcel.Contents.{Contents}
-use Rattle.delaunay_legalization.specs.plane.Fraction.{Point}
-use Rattle.delaunay_legalization.specs.Stays.{KeepsIndexes}
-use Rattle.delaunay_legalization.specs.Constraints.{constraints_by}
-use Rattle.delaunay_legalization.specs.Flips.{CountsFlips}
-use Rattle.delaunay_legalization.specs.Shape.{IsDelaunayTriangulation}
-use Rattle.delaunay_legalization.specs.State.{state_of}
+use Rattle.{half_edge_dcel.specs.Contents, plane.specs.Point}
+use Rattle.delaunay_legalization.specs.{Constraints.constraints_by, Shape.IsDelaunayTriangulation}
+use Rattle.delaunay_legalization.specs.{Flips.CountsFlips, State.state_of, Stays.KeepsIndexes}
 
 -- by flips alone, which were counted, a Delaunay triangulation with the same constraints
 pub record Legalizes {V D U F : Type 0} (place : V → Point) (constraints_of : List U → List ℕ)

@@ -1,6 +1,6 @@
 -- What becomes of a mesh where the data of one edge change.
 use Rattle.std.specs.Prelude.{◌≡◌, ℕ, Some, slice_get, slice_set}
-use Rattle.delaunay_legalization.specs.half_edge_dcel.Contents.{Contents}
+use Rattle.half_edge_dcel.specs.{Contents}
 
 -- undirected edge k has the data that change makes of the old ones, and all else is as it was
 pub record HasEdgeData {V D U F : Type 0} (change : U → U) (old new : Contents V D U F)

@@ -1,15 +1,9 @@
 -- Edges and faces of a mesh by the points of its vertices, and where a further point is.
 use Rattle.std.specs.Prelude.{◌≡◌, ◌≢◌, ℕ, ◌<◌, List, length}
-use Rattle.delaunay_legalization.specs.half_edge_links.Mesh.{Mesh, origin, next, prev, face}
-use Rattle.delaunay_legalization.specs.half_edge_links.Mesh.{face_edge, rev}
-use Rattle.delaunay_legalization.specs.half_edge_links.Triangles.{triangle_at}
-use Rattle.delaunay_legalization.specs.plane.Fraction.{Point, whole, WithinSegment, InsideTriangle}
-use Rattle.delaunay_legalization.specs.plane.Side.{TurnsLeft}
-use Rattle.delaunay_legalization.specs.plane.Tests.{InRange}
-use Rattle.delaunay_legalization.specs.plane.Pairs.{place}
-use Rattle.delaunay_legalization.specs.plane.Tiling.{IsEdge, IsFace, HasFace}
+use Rattle.plane.specs.{HasFace, InRange, InsideTriangle, IsEdge, IsFace, place, Point, TurnsLeft}
+use Rattle.half_edge_links.specs.{face, face_edge, Mesh, next, origin, prev, rev, triangle_at}
+use Rattle.{delaunay_legalization.specs.Drawn.drawn, plane.specs.whole, plane.specs.WithinSegment}
 use Rattle.delaunay_legalization.specs.Known.{point_at}
-use Rattle.delaunay_legalization.specs.Drawn.{drawn}
 
 -- p is at none of the points
 pub record IsApart (points : List Point) (p : Point) : Type 0 where

@@ -1,6 +1,6 @@
 -- What is put into work lists of undirected edges.
 use Rattle.std.specs.Prelude.{ℕ, ◌/◌, List, Contains}
-use Rattle.delaunay_legalization.specs.half_edge_links.Mesh.{Mesh, next, prev, rev}
+use Rattle.half_edge_links.specs.{Mesh, next, prev, rev}
 
 -- the entries of old are there
 abbrev pub KeepsEntries : List ℕ → List ℕ → Type 0

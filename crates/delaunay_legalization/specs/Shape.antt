@@ -1,14 +1,14 @@
 -- What always holds of the positions of the vertices and of the mesh of their indexes.
+-- IsTriangulated place s: what holds of a triangulation through each change: positions in range,
+--   few enough edges and faces, a valid mesh with its data, and `IsMesh`
+-- IsDelaunayTriangulation place cs s: what also holds between edits: each edge passes the circle
+--   test, but perhaps constraints
 use Rattle.std.specs.Prelude.{◌*◌, ◌≤◌, ℕ, List, length, map, All}
-use Rattle.delaunay_legalization.specs.half_edge_links.Mesh.{IsValidMesh}
-use Rattle.delaunay_legalization.specs.half_edge_dcel.Contents.{FitsMesh}
-use Rattle.delaunay_legalization.specs.plane.Fraction.{Point}
-use Rattle.delaunay_legalization.specs.plane.Tests.{InRange}
-use Rattle.delaunay_legalization.specs.plane.Delaunay.{IsLocallyDelaunay}
-use Rattle.delaunay_legalization.specs.plane_theorems.Tiling.Local.{IsMesh}
-use Rattle.delaunay_legalization.specs.Constraints.{constraints_by}
+use Rattle.plane.specs.{InRange, IsLocallyDelaunay, Point}
+use Rattle.plane_theorems.specs.{IsMesh}
+use Rattle.{half_edge_dcel.specs.FitsMesh, half_edge_links.specs.IsValidMesh}
+use Rattle.delaunay_legalization.specs.{Constraints.constraints_by, Drawn.faces_of, Drawn.outer_of}
 use Rattle.delaunay_legalization.specs.State.{State, triangulation_of}
-use Rattle.delaunay_legalization.specs.Drawn.{faces_of, outer_of}
 
 -- what a triangulation keeps through each change
 pub record IsTriangulated {V D U F : Type 0} (place : V → Point) (s : State V D U F) : Type 0 where

@@ -1,16 +1,11 @@
 -- The flips of a legalization, by the sides of a turned edge that it leaves to test.
 use Rattle.std.specs.Prelude.{ℕ, List, map, ⊤}
-use Rattle.delaunay_legalization.specs.half_edge_dcel.Contents.{Contents}
-use Rattle.delaunay_legalization.specs.half_edge_links.Mesh.{Mesh}
-use Rattle.delaunay_legalization.specs.plane.Fraction.{Point}
-use Rattle.delaunay_legalization.specs.plane_theorems.Edits.Legal.{AllPassBut}
-use Rattle.delaunay_legalization.specs.Drawn.{faces_of}
+use Rattle.half_edge_links.specs.{Mesh}
+use Rattle.{half_edge_dcel.specs.Contents, plane.specs.Point, plane_theorems.specs.AllPassBut}
+use Rattle.delaunay_legalization.specs.{Among.FailOnlyOf, Drawn.faces_of, Pushing.GainsRoundAmong}
+use Rattle.delaunay_legalization.specs.{Constraints.constraint_pairs, declared.sides.Sides.Sides}
 use Rattle.delaunay_legalization.specs.Legal.{AreEdges, GainsRound, pairs_at}
-use Rattle.delaunay_legalization.specs.declared.sides.Sides.{Sides}
-use Rattle.delaunay_legalization.specs.declared.sides.Sides.TheVariants.{Round, Among}
-use Rattle.delaunay_legalization.specs.Among.{FailOnlyOf}
-use Rattle.delaunay_legalization.specs.Constraints.{constraint_pairs}
-use Rattle.delaunay_legalization.specs.Pushing.{GainsRoundAmong}
+use Rattle.delaunay_legalization.specs.declared.sides.Sides.TheVariants.{Among, Round}
 
 -- what of a mesh makes it enough to test these sides of a turned edge
 abbrev pub Suffice : Sides → List Point → Mesh → Type 0

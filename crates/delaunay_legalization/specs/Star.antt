@@ -1,11 +1,8 @@
 -- The faces at one vertex, and the edges round them, where only these may fail the circle test.
 use Rattle.std.specs.Prelude.{◌≡◌, ◌⊎◌, ℕ, ◌/◌, ◌<◌, List, length, Contains}
-use Rattle.delaunay_legalization.specs.half_edge_links.Mesh.{Mesh, origin, next}
-use Rattle.delaunay_legalization.specs.plane.Fraction.{Point}
-use Rattle.delaunay_legalization.specs.plane.Pairs.{Joins}
-use Rattle.delaunay_legalization.specs.plane.Tiling.{Face}
-use Rattle.delaunay_legalization.specs.plane_theorems.Edits.Change.{IsFaceOf}
-use Rattle.delaunay_legalization.specs.plane_theorems.Edits.Legal.{Pass}
+use Rattle.plane.specs.{Face, Joins, Point}
+use Rattle.half_edge_links.specs.{Mesh, next, origin}
+use Rattle.plane_theorems.specs.{IsFaceOf, Pass}
 
 -- v is one of the corners i j k
 abbrev pub IsOneOf : ℕ → ℕ → ℕ → ℕ → Type 0

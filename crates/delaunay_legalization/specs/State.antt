@@ -1,11 +1,12 @@
--- What a contract sees of a triangulation.
+-- A triangulation, as a contract sees it.
+-- State: the vertices, the mesh of their indexes, and the data of edges and faces
+-- state_of c: what a mesh with data holds, without its room
+-- triangulation_of place s: the positions of the vertices, with the faces and the edges
+-- points_and_constraints s: the plain state of a triangulation that has no constraints
 use Rattle.std.specs.Prelude.{List, [], map}
-use Rattle.delaunay_legalization.specs.half_edge_links.Mesh.{Mesh}
-use Rattle.delaunay_legalization.specs.Drawn.{drawn}
-use Rattle.delaunay_legalization.specs.half_edge_dcel.Contents.{Contents}
-use Rattle.delaunay_legalization.specs.plane.Fraction.{Point}
-use Rattle.delaunay_legalization.specs.plane.Plain.{Plain}
-use Rattle.delaunay_legalization.specs.plane.Tiling.{Triangulation}
+use Rattle.plane.specs.{Plain, Point, Triangulation}
+use Rattle.half_edge_links.specs.{Mesh}
+use Rattle.{delaunay_legalization.specs.Drawn.drawn, half_edge_dcel.specs.Contents}
 
 -- the vertices, the mesh of their indexes, and the data of its directed and undirected edges, of
 -- the outer face and of the faces from face 1 on

@@ -1,13 +1,11 @@
 -- Which edges and faces of a mesh keep their indexes while it changes.
 use Rattle.std.specs.Prelude.{◌≡◌, ◌⊎◌, ℕ, ◌<◌, List, length, Some, slice_get}
-use Rattle.half_edge_dcel.specs.half_edge_links.Mesh.{Mesh, origin, rev}
-use Rattle.half_edge_dcel.specs.half_edge_links.Triangles.{Triangle, triangles}
-use Rattle.plane.specs.Pairs.{Joins}
-use Rattle.plane_theorems.specs.Tiling.Laws.{IsTurned}
+use Rattle.{plane.specs.Joins, plane_theorems.specs.IsTurned}
+use Rattle.half_edge_links.specs.{Mesh, origin, rev, Triangle, triangles}
 
 -- directed edge g of one mesh and h of another have the same start and the same end
-abbrev pub GoSameWay : Mesh → ℕ → Mesh → ℕ → Type 0
-GoSameWay m g n h = (origin n h ≡ origin m g) × (origin n (rev h) ≡ origin m (rev g))
+abbrev pub GoSameDirection : Mesh → ℕ → Mesh → ℕ → Type 0
+GoSameDirection m g n h = (origin n h ≡ origin m g) × (origin n (rev h) ≡ origin m (rev g))
 
 -- two triangles have the same corners, in one order round them
 abbrev pub HaveSameCorners : Triangle → Triangle → Type 0
@@ -16,7 +14,7 @@ HaveSameCorners t u = IsTurned t.first t.second t.third u.first u.second u.third
 -- each edge and each inner face that stands in both meshes has one index in both
 pub record KeepsIndexes (old new : Mesh) : Type 0 where
   pub edges : (g h : ℕ) → g < length old.half_edges → h < length new.half_edges
-      → GoSameWay old g new h → h ≡ g
+      → GoSameDirection old g new h → h ≡ g
   pub faces : (f g : ℕ) (t u : Triangle) → slice_get (triangles old) f ≡ Some t
       → slice_get (triangles new) g ≡ Some u → HaveSameCorners t u → g ≡ f
 
@@ -30,6 +28,6 @@ HasSideIn pairs t = Joins pairs t.first t.second
 pub record StaysBut (pairs : List (ℕ × ℕ)) (old new : Mesh) : Type 0 where
   pub edge_count : length new.half_edges ≡ length old.half_edges
   pub edges : (h : ℕ) → h < length old.half_edges
-      → GoSameWay old h new h ⊎ Joins pairs (origin old h) (origin old (rev h))
+      → GoSameDirection old h new h ⊎ Joins pairs (origin old h) (origin old (rev h))
   pub faces : (f : ℕ) (t : Triangle) → slice_get (triangles old) f ≡ Some t
       → (slice_get (triangles new) f ≡ Some t) ⊎ HasSideIn pairs t

@@ -1,17 +1,12 @@
 //! A legalization where at most some edges fail: each other one has an empty circle on one of its
 //! sides.
 ghost use Rattle.std.specs.Prelude.{◌*◌, ◌≤◌, length, map, All, IsTrue};
-ghost use Rattle.delaunay_legalization.specs.Among.{FailOnlyOf};
+ghost use Rattle.delaunay_legalization.specs.{Among.FailOnlyOf, Sides.AreLeftToTest};
 ghost use Rattle.delaunay_legalization.specs.Flips.{FlipsFit};
-ghost use Rattle.delaunay_legalization.specs.Legalized.{Legalizes};
-ghost use Rattle.delaunay_legalization.specs.Shape.{IsTriangulated};
-ghost use Rattle.delaunay_legalization.specs.Sides.{AreLeftToTest};
+ghost use Rattle.delaunay_legalization.specs.{Legalized.Legalizes, Shape.IsTriangulated};
 ghost use Rattle.delaunay_legalization.specs.State.{state_of};
 
-use crate::constraint_marker::ConstraintMarker;
-use crate::edge_set::EdgeSet;
-use crate::legalization::legalize;
-use crate::sides::Sides;
+use crate::{ConstraintMarker, EdgeSet, Sides, legalize};
 use delaunay_core::math::PlaneTests;
 use delaunay_core::point::HasPosition;
 use half_edge_dcel::Dcel;

@@ -1,20 +1,17 @@
 //! A legalization round a vertex, where only edges opposite it may fail.
 ghost use Rattle.std.specs.Prelude.{◌≡◌, ◌<◌, length, map, IsTrue, IsFalse};
-ghost use Rattle.delaunay_legalization.specs.half_edge_links.Mesh.{origin};
-ghost use Rattle.delaunay_core.specs.Place.{place_of};
-ghost use Rattle.delaunay_legalization.specs.Around.{CanGoRound, CanTurn, IsOpposite, Stays};
-ghost use Rattle.delaunay_legalization.specs.Around.{Turns};
+ghost use Rattle.half_edge_links.specs.{origin};
+ghost use Rattle.{delaunay_core.specs.place_of, delaunay_legalization.specs.Known.IsVertexSite};
+ghost use Rattle.delaunay_legalization.specs.Around.{CanGoRound, CanTurn, IsOpposite, Stays, Turns};
 ghost use Rattle.delaunay_legalization.specs.Constraints.{constraint_pairs, KeepsConstraints};
-ghost use Rattle.delaunay_legalization.specs.Known.{IsVertexSite};
-ghost use Rattle.delaunay_legalization.specs.Legalized.{Legalizes};
-ghost use Rattle.delaunay_legalization.specs.Placed.{IsPlaced};
+ghost use Rattle.delaunay_legalization.specs.{Embedding.IsEmbedding, Legalized.Legalizes};
 
-use crate::constraint_marker::ConstraintMarker;
-use crate::legalization::{flip, is_constraint_edge, position_of};
-use crate::placed::Placed;
+use crate::legalization::flip;
+use crate::{ConstraintMarker, Embedding, is_constraint_edge, position_of};
 use delaunay_core::math::PlaneTests;
 use delaunay_core::point::{HasPosition, Point2};
-use half_edge_dcel::{Dcel, FixedDirectedEdgeHandle, MeshViews};
+use half_edge_dcel::{Dcel, MeshViews};
+use half_edge_links::FixedDirectedEdgeHandle;
 
 // What a test of the edge opposite a vertex reads, in the face on the left of one of the vertex's
 // edges: whether a face beside the edge is the outer one, the positions of the edge's ends, and
@@ -27,7 +24,7 @@ pub(crate) struct Opposite<S> {
     beyond: Point2<S>,
 }
 
-impl<'a, V: HasPosition, DE, UE, F, P: PlaneTests<V::Scalar>> Placed<'a, V, DE, UE, F, P> {
+impl<'a, V: HasPosition, DE, UE, F, P: PlaneTests<V::Scalar>> Embedding<'a, V, DE, UE, F, P> {
     // What the test of the edge opposite the start of `spoke` reads, in the face on its left.
     #[inline(always)]
     pub(crate) fn opposite_of(&self, spoke: FixedDirectedEdgeHandle) -> Opposite<V::Scalar>
@@ -63,7 +60,7 @@ fn turn_opposite<M: ConstraintMarker<UE>, V: HasPosition, DE, UE, F, P: PlaneTes
         (map V.place dcel.old.vertices) dcel.old.mesh spoke opposite }
     requires centre { IsVertexSite (P.sites tests.now) (map V.place dcel.old.vertices)
         (origin dcel.old.mesh spoke) (place_of V.Scalar.whole centre) }
-    ensures placed { IsPlaced V.place P.sites dcel.new tests.now }
+    ensures embedding { IsEmbedding V.place P.sites dcel.new tests.now }
     ensures contents { dcel.new ≡ record dcel.old { mesh = dcel.new.mesh } }
     ensures constraints { KeepsConstraints M.constraints dcel.old dcel.new }
     ensures turned { IsTrue result → Turns (map V.place dcel.old.vertices) dcel.old.mesh
@@ -98,22 +95,22 @@ pub(crate) fn legalize_round<
     F,
     P: PlaneTests<V::Scalar>,
 >(dcel: &mut Dcel<V, DE, UE, F>, first: FixedDirectedEdgeHandle, tests: &P, flips: &mut u64)
-    requires placed { IsPlaced V.place P.sites dcel.old tests.now }
+    requires embedding { IsEmbedding V.place P.sites dcel.old tests.now }
     requires within { first < length dcel.old.directed }
     requires can { CanGoRound V.place dcel.old (origin dcel.old.mesh first) first flips.old }
     ensures legalizes { Legalizes V.place M.constraints dcel.old dcel.new flips.old flips.new }
 {
-    let placed = Placed { dcel, tests };
-    let centre = placed.start_of(first);
+    let embedding = Embedding { dcel, tests };
+    let centre = embedding.start_of(first);
     let mut spoke = first;
-    let mut opposite = placed.opposite_of(spoke);
+    let mut opposite = embedding.opposite_of(spoke);
     loop {
         let next = dcel.directed_edge(spoke).ccw().fix();
-        let placed = Placed { dcel, tests };
-        let ahead = placed.opposite_of(next);
+        let embedding = Embedding { dcel, tests };
+        let ahead = embedding.opposite_of(next);
         if turn_opposite::<M, _, _, _, _, _>(dcel, spoke, opposite, centre, tests, flips) {
-            let placed = Placed { dcel, tests };
-            opposite = placed.opposite_of(spoke);
+            let embedding = Embedding { dcel, tests };
+            opposite = embedding.opposite_of(spoke);
             continue;
         }
         spoke = next;

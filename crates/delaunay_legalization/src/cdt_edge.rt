@@ -3,7 +3,7 @@ ghost use Rattle.std.specs.Prelude.{◌≡◌, true, false, refl};
 ghost use Rattle.delaunay_legalization.specs.CdtEdge.{is_constraint, with_mark};
 ghost use Rattle.delaunay_legalization.specs.Constraints.{marked_edges};
 
-use crate::constraint_marker::ConstraintMarker;
+use crate::ConstraintMarker;
 
 /// The data of an undirected edge of a constrained triangulation: whether the edge is a constraint,
 /// and the user's data.
@@ -11,7 +11,7 @@ use crate::constraint_marker::ConstraintMarker;
 /// ```
 /// let data = site.undirected_edge(edge).data();
 /// if data.is_constraint_edge() {
-///     println!(rt; "a wall of height {}", *data.data())?;
+///     println!(rt; "a constraint of height {}", *data.data())?;
 /// }
 /// ```
 #[derive(Clone, Copy, Debug, PartialEq, Eq, PartialOrd, Ord, Hash, Drop)]

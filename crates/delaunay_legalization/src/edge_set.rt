@@ -3,7 +3,7 @@ ghost use Rattle.std.specs.Prelude.{◌≡◌, ℕ, ◌<◌, ◌≤◌, ◌++◌
 ghost use Rattle.std.specs.Prelude.{◌↔◌, Contains, IfNone, IfSome, IsTrue, OnOk};
 ghost use Rattle.delaunay_legalization.specs.Legal.{Gains};
 
-use half_edge_dcel::FixedUndirectedEdgeHandle;
+use half_edge_links::FixedUndirectedEdgeHandle;
 use std::alloc::{AllocError, Global};
 use std::marker::Model;
 
@@ -21,7 +21,7 @@ pub struct EdgeSet {
 
 impl Model for EdgeSet {
     ghost use Rattle.std.specs.Prelude.{◌*◌, length, vec_capacity};
-    ghost use Rattle.delaunay_legalization.specs.EdgeSet.{EdgesInSet, AreFlagged};
+    ghost use Rattle.delaunay_legalization.specs.EdgeSet.{AreFlagged, EdgesInSet};
 
     ghost Value = { EdgesInSet };
 

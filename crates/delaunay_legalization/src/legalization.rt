@@ -1,27 +1,18 @@
 //! Flips of edges that fail the circle test, until each edge passes but the constraints.
 ghost use Rattle.std.specs.Prelude.{◌≡◌, ◌↔◌, ◌+◌, ◌*◌, ◌/◌, ◌<◌, ◌≤◌, ◌^◌, []};
 ghost use Rattle.std.specs.Prelude.{length, map, All, Contains, IsTrue};
-ghost use Rattle.delaunay_legalization.specs.half_edge_links.Mesh.{face};
-ghost use Rattle.delaunay_legalization.specs.half_edge_links.Flip.{flipped};
-ghost use Rattle.delaunay_legalization.specs.half_edge_links.Peel.{turn};
+ghost use Rattle.half_edge_links.specs.{face, flipped, turn};
+ghost use Rattle.{delaunay_core.specs.place_of, delaunay_legalization.specs.Known.point_at};
+ghost use Rattle.delaunay_legalization.specs.{Flips.FlipsFit, Sides.AreLeftToTest, Sides.Suffice};
 ghost use Rattle.delaunay_legalization.specs.Legal.{AreEdges, Gains, IsFailing};
-ghost use Rattle.delaunay_core.specs.Place.{place_of};
-ghost use Rattle.delaunay_legalization.specs.Flips.{FlipsFit};
-ghost use Rattle.delaunay_legalization.specs.Known.{point_at};
-ghost use Rattle.delaunay_legalization.specs.Legalized.{Legalizes};
-ghost use Rattle.delaunay_legalization.specs.Shape.{IsTriangulated};
-ghost use Rattle.delaunay_legalization.specs.Sides.{AreLeftToTest, Suffice};
+ghost use Rattle.delaunay_legalization.specs.{Legalized.Legalizes, Shape.IsTriangulated};
 ghost use Rattle.delaunay_legalization.specs.State.{state_of};
 
-use crate::constraint_marker::ConstraintMarker;
-use crate::edge_set::EdgeSet;
-use crate::placed::Placed;
-use crate::sides::{Sides, push_sides};
+use crate::{ConstraintMarker, EdgeSet, Embedding, Sides, push_sides};
 use delaunay_core::math::PlaneTests;
 use delaunay_core::point::{HasPosition, Point2};
-use half_edge_dcel::{
-    Dcel, FixedDirectedEdgeHandle, FixedUndirectedEdgeHandle, FixedVertexHandle, MeshViews,
-};
+use half_edge_dcel::{Dcel, MeshViews};
+use half_edge_links::{FixedDirectedEdgeHandle, FixedUndirectedEdgeHandle, FixedVertexHandle};
 
 /// The position of a vertex.
 pub fn position_of<V: HasPosition, DE, UE, F>(
@@ -128,9 +119,9 @@ pub fn legalize<M: ConstraintMarker<UE>, V: HasPosition, DE, UE, F, P: PlaneTest
         if is_constraint_edge::<M, _, _, _, _>(dcel, edge) {
             continue;
         }
-        let placed = Placed { dcel, tests };
+        let embedding = Embedding { dcel, tests };
         let directed = edge.as_directed();
-        if placed.is_failing(directed) {
+        if embedding.is_failing(directed) {
             push_sides(dcel, directed, sides, work);
             flip(dcel, edge, flips);
         }

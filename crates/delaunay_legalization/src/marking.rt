@@ -2,8 +2,9 @@
 ghost use Rattle.std.specs.Prelude.{◌<◌, length};
 ghost use Rattle.delaunay_legalization.specs.Marking.{HasEdgeData};
 
-use crate::constraint_marker::ConstraintMarker;
-use half_edge_dcel::{Dcel, FixedUndirectedEdgeHandle};
+use crate::ConstraintMarker;
+use half_edge_dcel::Dcel;
+use half_edge_links::FixedUndirectedEdgeHandle;
 
 /// Makes an edge a constraint, where data can have the mark.
 pub fn make_constraint<M: ConstraintMarker<UE>, V, DE, UE, F>(

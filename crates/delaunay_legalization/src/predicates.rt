@@ -1,10 +1,7 @@
 //! Questions about a few points.
 ghost use Rattle.std.specs.Prelude.{◌≡◌, ◌≢◌, ◌↔◌, IsTrue};
-ghost use Rattle.delaunay_legalization.specs.plane.Fraction.{whole as fraction, WithinSegment};
-ghost use Rattle.delaunay_legalization.specs.plane.Fraction.{InsideTriangle};
-ghost use Rattle.delaunay_legalization.specs.plane.Side.{TurnsLeft};
-ghost use Rattle.delaunay_core.specs.Place.{place_of};
-ghost use Rattle.delaunay_legalization.specs.Between.{IsFrom};
+ghost use Rattle.plane.specs.{InsideTriangle, TurnsLeft, whole as fraction, WithinSegment};
+ghost use Rattle.{delaunay_core.specs.place_of, delaunay_legalization.specs.Between.IsFrom};
 
 use delaunay_core::math::PlaneTests;
 use delaunay_core::point::{Point2, SpadeNum};

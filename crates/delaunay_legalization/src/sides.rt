@@ -1,12 +1,10 @@
 //! Which of the four edges round a turned edge are left to test.
 ghost use Rattle.std.specs.Prelude.{◌≡◌, ◌<◌, ◌≤◌, length};
-ghost use Rattle.delaunay_legalization.specs.Legal.{AreEdges};
-ghost use Rattle.delaunay_legalization.specs.Pushing.{GainsAmong};
-ghost use Rattle.delaunay_legalization.specs.Sides.{GainsSides};
+ghost use Rattle.delaunay_legalization.specs.{Legal.AreEdges, Pushing.GainsAmong, Sides.GainsSides};
 
-use crate::edge_set::EdgeSet;
-use crate::legalization::push_side;
-use half_edge_dcel::{Dcel, FixedDirectedEdgeHandle, MeshViews};
+use crate::{EdgeSet, push_side};
+use half_edge_dcel::{Dcel, MeshViews};
+use half_edge_links::FixedDirectedEdgeHandle;
 
 /// Which of them may fail then.
 #[derive(Clone, Copy)]

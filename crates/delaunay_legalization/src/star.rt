@@ -1,24 +1,17 @@
 //! A legalization that begins at one vertex, where only edges of the faces there may fail.
 ghost use Rattle.std.specs.Prelude.{◌≡◌, ◌*◌, ◌<◌, ◌≤◌};
 ghost use Rattle.std.specs.Prelude.{length, map, All, IsFalse, IsTrue};
-ghost use Rattle.delaunay_legalization.specs.Drawn.{faces_of};
-ghost use Rattle.delaunay_legalization.specs.Legal.{AreEdges};
-ghost use Rattle.delaunay_legalization.specs.Constraints.{constraints_by};
-ghost use Rattle.delaunay_legalization.specs.plane_theorems.Edits.EmptyRound.{IsEmptyRound};
-ghost use Rattle.delaunay_legalization.specs.Flips.{FlipsFit};
-ghost use Rattle.delaunay_legalization.specs.Legalized.{Legalizes};
-ghost use Rattle.delaunay_legalization.specs.Shape.{IsTriangulated};
-ghost use Rattle.delaunay_legalization.specs.Star.{AllPassBeside, HasStar};
-ghost use Rattle.delaunay_legalization.specs.State.{state_of};
+ghost use Rattle.delaunay_legalization.specs.{Constraints.constraints_by, Shape.IsTriangulated};
+ghost use Rattle.delaunay_legalization.specs.{Drawn.faces_of, Star.AllPassBeside, Star.HasStar};
+ghost use Rattle.delaunay_legalization.specs.{Flips.FlipsFit, Legal.AreEdges, Legalized.Legalizes};
+ghost use Rattle.{delaunay_legalization.specs.State.state_of, plane_theorems.specs.IsEmptyRound};
 
 use crate::around::legalize_round;
-use crate::constraint_marker::ConstraintMarker;
-use crate::edge_set::EdgeSet;
-use crate::legalization::{legalize, push_side};
-use crate::sides::Sides;
+use crate::{ConstraintMarker, EdgeSet, Sides, legalize, push_side};
 use delaunay_core::math::PlaneTests;
 use delaunay_core::point::HasPosition;
-use half_edge_dcel::{Dcel, FixedVertexHandle, MeshViews};
+use half_edge_dcel::{Dcel, MeshViews};
+use half_edge_links::FixedVertexHandle;
 
 // Puts the edges of a vertex into a work list, and those of the faces there that lie opposite it,
 // in place of what was in the list.

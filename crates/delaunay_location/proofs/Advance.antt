@@ -6,36 +6,22 @@ use Rattle.std.proofs.Common.{ℕ, List, length, map, Option, Some, None}
 use Rattle.std.proofs.Common.{refl, sym, ap, subst, inl, inr, arith}
 use Rattle.std.specs.Prelude.{ℤ}
 use Rattle.std.proofs.lemmas.List.{length-map}
-use Rattle.delaunay_location.specs.half_edge_dcel.Contents.{Contents}
-use Rattle.delaunay_location.specs.plane.Fraction.{Point, whole, IsSame}
-use Rattle.delaunay_location.specs.plane.Line.{Item, IsLineList, at_vertex}
-use Rattle.plane_theorems.specs.Segments.Steps.{IsWalk, IsFirst}
-use Rattle.plane_theorems.proofs.Segments.Walking.Steps.{first_item}
-use Rattle.plane_theorems.proofs.Segments.First.LineStarts.{first_on_line, equal_ends}
-use Rattle.plane_theorems.proofs.Segments.Walking.WalkSteps.{each_segment_has_walk, rest_falls}
-use Rattle.plane_theorems.proofs.Segments.Walking.WalkSteps.{line_list_is_the_walk}
-use Rattle.plane_theorems.specs.Segments.WalkLaws.{IsLaid}
-use Rattle.delaunay_location.specs.plane.Tiling.{Triangulation, IsVertex, vertex}
-use Rattle.delaunay_location.proofs.plane.Decisions.{decide_point}
-use Rattle.delaunay_location.proofs.plane.Segments.{same-refl}
-use Rattle.plane_theorems.proofs.Segments.Crossing.EitherWay.{one_point}
-use Rattle.delaunay_location.specs.delaunay_legalization.Drawn.{drawn, edges_of}
-use Rattle.delaunay_location.proofs.delaunay_legalization_lemmas.ElementCounts.{edges_counted}
-use Rattle.delaunay_location.specs.delaunay_core.Place.{place_of}
-use Rattle.delaunay_location.specs.delaunay_legalization.Known.{point_at}
-use Rattle.delaunay_location.specs.delaunay_legalization.State.{state_of}
-use Rattle.delaunay_location.specs.delaunay_legalization.Placed.{IsPlaced}
-use Rattle.delaunay_location.specs.declared.iterator.LineIntersectionIterator.{LineIntersectionIterator}
-use Rattle.delaunay_location.specs.declared.intersection.FixedIntersection.{FixedIntersection}
-use Rattle.delaunay_location.specs.declared.intersection.FixedIntersection.TheVariants.{Vertex}
-use Rattle.delaunay_location.specs.Items.{item_of, IsHandleOf}
-use Rattle.delaunay_location.specs.Steps.{IsNext}
-use Rattle.delaunay_location.specs.Walk.{ComeAfter, AreFrom, IsOverMesh, IsReady, Starts}
-use Rattle.delaunay_location.specs.Walk.{WalksLine}
-use Rattle.delaunay_location.proofs.MeshSteps.{laid}
+use Rattle.plane.specs.{at_vertex, IsLineList, IsSame, IsVertex, Item, Point, Triangulation, vertex}
+use Rattle.plane.specs.{whole}
+use Rattle.plane_theorems.specs.{IsFirst, IsLaid, IsWalk}
+use Rattle.plane_theorems.proofs.{equal_ends, first_on_line, one_point}
+use Rattle.plane_theorems.proofs.Segments.Walking.WalkSteps.{each_segment_has_walk}
+use Rattle.plane_theorems.proofs.Segments.Walking.WalkSteps.{line_list_is_the_walk, rest_falls}
+use Rattle.{half_edge_dcel.specs.Contents, plane_theorems.proofs.Segments.Walking.Steps.first_item}
+use Rattle.{delaunay_core.specs.place_of, plane.proofs.decide_point, plane.proofs.same-refl}
+use Rattle.delaunay_legalization.specs.{drawn, edges_of, IsEmbedding, point_at, state_of}
+use Rattle.{delaunay_legalization.proofs.edges_counted, delaunay_location.proofs.MeshSteps.laid}
+use Rattle.delaunay_location.specs.{FixedIntersection, IsNext, IsOverMesh, IsReady, item_of}
+use Rattle.delaunay_location.specs.{Items.IsHandleOf, LineIntersectionIterator, Vertex, WalksLine}
+use Rattle.delaunay_location.specs.Walk.{AreFrom, ComeAfter, Starts}
 
 module _ {V D U F P : Type 0} {at : V → Point} {IsSite : P → Point → Type 0}
-    {c : Contents V D U F} {tests : P} (placed : IsPlaced at IsSite c tests) (p q : Point)
+    {c : Contents V D U F} {tests : P} (embedding : IsEmbedding at IsSite c tests) (p q : Point)
     (i : FixedIntersection) (items : List Item) (left : AreFrom at c p q (Some i) items) where
   -- the others are left after the current one
   abbrev pub Others : Option FixedIntersection → Type 0
@@ -51,13 +37,13 @@ module _ {V D U F P : Type 0} {at : V → Point} {IsSite : P → Point → Type 
   one_further apart None last = (
     left.1.0,
     left.1.1,
-    (rest_falls (drawn (map at c.vertices) c.mesh) (laid placed)
+    (rest_falls (drawn (map at c.vertices) c.mesh) (laid embedding)
         (whole p) (whole q) (λ e. apart (one_point p q e))).2 (item_of c.mesh i) left.1.0
         (left.1.2.goes_on apart)
         last,
   )
   one_further apart (Some n) next =
-      let f = (rest_falls (drawn (map at c.vertices) c.mesh) (laid placed)
+      let f = (rest_falls (drawn (map at c.vertices) c.mesh) (laid embedding)
       (whole p) (whole q)
       (λ e. apart (one_point p q e))).1 (item_of c.mesh i) (item_of c.mesh n) left.1.0
       (left.1.2.goes_on apart)
@@ -158,12 +144,13 @@ begins_at_vertex t p q laid (inl same) v is at = record {
 
 -- ---- the same of a mesh
 module _ {V D U F P : Type 0} {at : V → Point} {IsSite : P → Point → Type 0}
-    {c : Contents V D U F} {tests : P} (placed : IsPlaced at IsSite c tests) where
+    {c : Contents V D U F} {tests : P} (embedding : IsEmbedding at IsSite c tests) where
   few_in : (n : ℕ) → n ≤ length (map at c.vertices) + length (edges_of c.mesh) →
       n ≤ length c.vertices + length c.undirected
   few_in n h =
       let e = length-map c.vertices at in
-      let f = edges_counted c (record { valid = placed.kept.valid; fits = placed.kept.fits }) in
+      let f = edges_counted c (record { valid = embedding.kept.valid; fits = embedding.kept.fits })
+      in
       omega (arith, h, e, f)
 
   -- an item that begins the line list, by a handle of the mesh, is where the walk starts
@@ -181,7 +168,7 @@ module _ {V D U F P : Type 0} {at : V → Point} {IsSite : P → Point → Type 
       → p ≡ point_at (map at c.vertices) v →
       Starts at c p q (Some (Vertex v))
   starts_at_vertex {p = p} {q = q} v here is = starts_with (Vertex v) here
-      (begins_at_vertex (drawn (map at c.vertices) c.mesh) p q (laid placed)
+      (begins_at_vertex (drawn (map at c.vertices) c.mesh) p q (laid embedding)
       (decide_point p q)
       v
       (subst (λ (n : ℕ). v < n) (sym (length-map c.vertices at)) here)

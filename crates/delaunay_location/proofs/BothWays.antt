@@ -13,15 +13,11 @@ use Rattle.std.proofs.lemmas.Bool.{cases_lt}
 use Rattle.std.proofs.lemmas.Bool.{eq-eqb}
 use Rattle.std.proofs.lemmas.Bool.Decides.{eqb_tells}
 use Rattle.std.proofs.lemmas.List.FromFn.{length-map-range_with_len}
-use Rattle.delaunay_legalization.specs.half_edge_links.Mesh.{Mesh, IsValidMesh, AreSoundLinks}
-use Rattle.delaunay_legalization.specs.half_edge_links.Mesh.{origin, next, prev, rev, out_edge}
-use Rattle.delaunay_legalization.specs.half_edge_links.Peel.{turn, spoke}
-use Rattle.delaunay_legalization.specs.half_edge_links.Round.{IsRound}
-use Rattle.delaunay_legalization.specs.half_edge_dcel.Walks.{walk}
-use Rattle.delaunay_legalization.proofs.half_edge_links_lemmas.Lists.Rev.{rev-rev}
-use Rattle.delaunay_legalization.proofs.WorkLists.{contains_map_from}
-use Rattle.delaunay_legalization.proofs.WorkLists.{at_most_so_many}
-use Rattle.delaunay_legalization.proofs.Rounds.{round_at, spokes_once}
+use Rattle.half_edge_links.specs.{AreSoundLinks, IsRound, IsValidMesh, Mesh, next, origin, out_edge}
+use Rattle.half_edge_links.specs.{prev, rev, spoke, turn}
+use Rattle.half_edge_dcel.specs.{walk}
+use Rattle.delaunay_legalization.proofs.{at_most_so_many, contains_map_from, round_at}
+use Rattle.{delaunay_legalization.proofs.Rounds.spokes_once, half_edge_links.proofs.rev-rev}
 
 -- edges left and right of vertex v lie at two places of the round against the clock that begins
 -- with the first edge and comes to it again, and P holds of all from the first to the one on the

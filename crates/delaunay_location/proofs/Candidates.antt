@@ -7,23 +7,15 @@ use Rattle.std.proofs.Common.{arith}
 use Rattle.std.proofs.lemmas.List.{length-map}
 use Rattle.std.proofs.lemmas.List.Elements.{All-get_or, All-map}
 use Rattle.std.specs.Prelude.{pos, ◌<ℤ◌}
-use Rattle.delaunay_legalization.specs.half_edge_links.Mesh.{Mesh, origin, rev}
-use Rattle.delaunay_legalization.proofs.half_edge_links_lemmas.Lists.Rev.{rev-rev}
-use Rattle.delaunay_legalization.specs.plane.Fraction.{Point, whole}
-use Rattle.delaunay_legalization.specs.plane.Circle.{gap, IsNearer}
-use Rattle.delaunay_legalization.specs.plane.Pairs.{place}
-use Rattle.delaunay_legalization.specs.plane.Tests.{InRange}
-use Rattle.plane_theorems.specs.Delaunay.Nearer.{nearer_count}
-use Rattle.delaunay_legalization.proofs.plane.Signs.{at_most_and_more, less_is_at_most}
-use Rattle.delaunay_legalization.proofs.plane.Signs.{less_with_ones}
-use Rattle.delaunay_legalization.proofs.delaunay_core_lemmas.Projections.{gap_passes}
-use Rattle.delaunay_legalization.specs.Known.{point_at}
-use Rattle.delaunay_legalization.specs.Shape.{IsTriangulated}
-use Rattle.delaunay_legalization.specs.State.{State, triangulation_of}
-use Rattle.delaunay_location.specs.Candidate.{EndsNoNearer, IsCandidate, IsNearerCandidate}
-use Rattle.delaunay_location.specs.Candidate.{IsReached}
-use Rattle.delaunay_location.specs.declared.nearest_walk.Candidate.{Candidate}
-use Rattle.delaunay_location.proofs.Neighbours.{IsMove, counted_before, nearer_falls}
+use Rattle.plane.specs.{gap, InRange, IsNearer, place, Point, whole}
+use Rattle.plane.proofs.{at_most_and_more, less_is_at_most, less_with_ones}
+use Rattle.half_edge_links.specs.{Mesh, origin, rev}
+use Rattle.half_edge_links.proofs.{rev-rev}
+use Rattle.{delaunay_core.proofs.Projections.gap_passes, plane_theorems.specs.nearer_count}
+use Rattle.delaunay_legalization.specs.{IsTriangulated, point_at, State.State, triangulation_of}
+use Rattle.delaunay_location.specs.{declared.nearest_walk.Candidate.Candidate, EndsNoNearer}
+use Rattle.delaunay_location.specs.Candidate.{IsCandidate, IsNearerCandidate, IsReached}
+use Rattle.delaunay_location.proofs.Neighbours.{counted_before, IsMove, nearer_falls}
 use Rattle.delaunay_location.proofs.Neighbours.{nearer_if_other, one_counted}
 
 module _ (points : List Point) (m : Mesh) (p : Point) where

@@ -6,27 +6,17 @@ use Rattle.std.proofs.Common.{◌∙◌, subst, append_assoc, inl, inr, arith}
 use Rattle.std.specs.Prelude.{ℤ, Contains}
 use Rattle.std.specs.Borrow.{Bor}
 use Rattle.std.proofs.lemmas.List.Elements.{Contains-push_cases}
-use Rattle.delaunay_location.specs.half_edge_links.Mesh.{origin, rev}
-use Rattle.delaunay_location.specs.half_edge_dcel.Contents.{Contents}
-use Rattle.delaunay_location.specs.half_edge_dcel.declared.edge.DirectedEdgeHandle.{DirectedEdgeHandle}
-use Rattle.delaunay_location.specs.plane.Fraction.{Point}
-use Rattle.delaunay_location.specs.plane.Pairs.{EachPairOnce}
-use Rattle.delaunay_location.specs.plane.Line.{Item, at_vertex, across, along}
-use Rattle.delaunay_location.proofs.plane_theorems.Tiling.Totals.{Contains-none}
-use Rattle.delaunay_location.specs.delaunay_legalization.Drawn.{edges_of}
-use Rattle.delaunay_location.specs.delaunay_legalization.Placed.{IsPlaced}
-use Rattle.delaunay_location.proofs.delaunay_legalization_lemmas.Entries.{one_value}
-use Rattle.delaunay_location.proofs.delaunay_legalization_lemmas.MeshStays.{one_way}
-use Rattle.delaunay_location.specs.declared.intersection.Intersection.{Intersection}
-use Rattle.delaunay_location.specs.declared.intersection.Intersection.TheVariants.{EdgeIntersection}
-use Rattle.delaunay_location.specs.declared.intersection.Intersection.TheVariants.{VertexIntersection}
-use Rattle.delaunay_location.specs.declared.intersection.Intersection.TheVariants.{EdgeOverlap}
-use Rattle.delaunay_location.specs.declared.iterator.LineIntersectionIterator.{LineIntersectionIterator}
-use Rattle.delaunay_location.specs.Conflicts.{IsConflict, IsConflictOf, HasNoConflict}
-use Rattle.delaunay_location.specs.Conflicts.{GivesConflict}
-use Rattle.delaunay_location.specs.Items.{crossed_edge, item_in, mesh_of}
-use Rattle.delaunay_location.specs.Walk.{AreLeft, GivesNext, IsReady}
-use Rattle.delaunay_location.proofs.MeshSteps.{laid, in_mesh}
+use Rattle.plane.specs.{across, along, at_vertex, EachPairOnce, Item, Point}
+use Rattle.half_edge_links.specs.{origin, rev}
+use Rattle.plane_theorems.proofs.{Contains-none}
+use Rattle.half_edge_dcel.specs.{Contents, DirectedEdgeHandle}
+use Rattle.delaunay_legalization.specs.{edges_of, IsEmbedding}
+use Rattle.delaunay_legalization.proofs.{one_value, one_way}
+use Rattle.delaunay_location.specs.{AreLeft, EdgeIntersection, EdgeOverlap, GivesConflict}
+use Rattle.delaunay_location.specs.{GivesNext, HasNoConflict, Intersection, IsConflict, IsReady}
+use Rattle.delaunay_location.specs.{item_in, LineIntersectionIterator, mesh_of, VertexIntersection}
+use Rattle.delaunay_location.specs.{Conflicts.IsConflictOf, Items.crossed_edge}
+use Rattle.delaunay_location.proofs.MeshSteps.{in_mesh, laid}
 
 -- the ends of an item
 abbrev first_end : Item → ℕ
@@ -51,11 +41,11 @@ none_some : {X : Type 0} (x : X) → ¬ (None ≡ Some x)
 none_some x e = cc
 
 module _ {V D U F P : Type 0} {at : V → Point} {IsSite : P → Point → Type 0}
-    {c : Contents V D U F} {tests : P} (placed : IsPlaced at IsSite c tests)
+    {c : Contents V D U F} {tests : P} (embedding : IsEmbedding at IsSite c tests)
     (constraints : List U → List ℕ) where
   -- no two edges of the mesh have the same ends
   once : EachPairOnce (edges_of c.mesh)
-  once = elim (laid placed) [
+  once = elim (laid embedding) [
     | inl tiles ↦ tiles.once
     | inr l ↦ l.0.once
   ]
@@ -67,8 +57,8 @@ module _ {V D U F P : Type 0} {at : V → Point} {IsSite : P → Point → Type 
       off (subst (λ (x : ℕ). Contains (constraints c.undirected) (x / 2)) same k.3)
     where
       same : k.0 ≡ e
-      same = one_way c.mesh placed.kept.valid once e k.0
-          (in_mesh placed e within) (in_mesh placed k.0 k.1)
+      same = one_way c.mesh embedding.kept.valid once e k.0
+          (in_mesh embedding e within) (in_mesh embedding k.0 k.1)
           (sym (ap first_end k.2), sym (ap second_end k.2))
 
 -- one more item, which is no conflict
@@ -120,7 +110,7 @@ module _ {V D U F P S : Type 0} {at : V → Point} {number : S → ℤ}
         → ¬ Contains (constraints e.dcel.now.undirected) (e.index / 2)
         → ¬ IsConflict constraints start.dcel.now (item_in x)
     unmarked_item (EdgeIntersection y) e is mesh off k =
-        unmarked searching.ready.over.placed constraints y.index
+        unmarked searching.ready.over.embedding constraints y.index
         (subst (λ (d : Bor (Contents V D U F)). y.index < length d.now.directed) mesh y.in_range)
         (λ z. off
         (subst (λ (h : DirectedEdgeHandle V D U F). Contains (constraints h.dcel.now.undirected)

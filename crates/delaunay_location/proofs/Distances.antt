@@ -4,19 +4,13 @@ use Rattle.std.proofs.Common.{◌≡◌, ◌⊎◌, [], ◌∷◌, arith}
 use mathlib.Core.Logic.{inl, inr}
 use Rattle.std.specs.Prelude.{ℤ, pos, ◌+ℤ◌, ◌-ℤ◌, ◌*ℤ◌, ◌<ℤ◌, ◌≤ℤ◌}
 use Rattle.std.proofs.lemmas.Int.{ints}
-use Rattle.delaunay_legalization.specs.plane.Fraction.{Point, whole, WithinSegment}
-use Rattle.delaunay_legalization.specs.plane.Circle.{gap}
-use Rattle.delaunay_legalization.proofs.plane.IntegerOrder.{mul-nonneg_ℤ, mul-nonneg_of_nonpos_ℤ}
-use Rattle.delaunay_legalization.proofs.plane.IntegerOrder.{square-nonneg_ℤ, square-pos_ℤ}
-use Rattle.delaunay_legalization.proofs.plane.IntegerOrder.{trichotomy_ℤ}
-use Rattle.delaunay_legalization.proofs.plane.Solver.{num, ◌⊕◌, ◌⊖◌, ◌⊗◌, ring_in}
+use Rattle.plane.specs.{gap, Point, whole, WithinSegment}
+use Rattle.plane.proofs.{◌⊕◌, ◌⊖◌, ◌⊗◌, mul-nonneg_of_nonpos_ℤ, mul-nonneg_ℤ, no_difference, num}
+use Rattle.plane.proofs.{positive_plus_not_negative, ring_in, square-nonneg_ℤ, square-pos_ℤ}
+use Rattle.plane.proofs.{Signs.positive_is_not_zero, trichotomy_ℤ}
+use Rattle.plane.proofs.Signs.{negative_is_not_zero, not_negative_plus_positive}
 use Rattle.delaunay_legalization.specs.Between.{IsFrom}
 use Rattle.delaunay_legalization.proofs.Between.{box_of_within}
-use Rattle.delaunay_legalization.proofs.plane.Signs.{negative_is_not_zero}
-use Rattle.delaunay_legalization.proofs.plane.Signs.{not_negative_plus_positive}
-use Rattle.delaunay_legalization.proofs.plane.Signs.{positive_is_not_zero}
-use Rattle.delaunay_legalization.proofs.plane.Signs.{positive_plus_not_negative}
-use Rattle.delaunay_legalization.proofs.plane.Steps.{no_difference}
 
 -- what is left of the way
 rest : (a b c : ℤ) → IsFrom a b c → pos 0 ≤ℤ ((b -ℤ c) *ℤ (c -ℤ a))

@@ -4,16 +4,11 @@ use Rattle.std.proofs.Common.{◌≡◌, ◌⊎◌, ℕ, inl, inr, arith}
 use lib.IntN.{neg_ℤ}
 use Rattle.std.specs.Prelude.{ℤ, pos, ◌<ℤ◌, ◌≤ℤ◌, ◌-ℤ◌, ◌*ℤ◌}
 use Rattle.std.proofs.lemmas.Int.{ints}
-use Rattle.delaunay_location.specs.plane.Crossing.{MeetsWithin}
-use Rattle.delaunay_location.specs.plane.Fraction.{Fraction, IsSame}
-use Rattle.delaunay_location.specs.plane.Tiling.{Triangulation, IsEdge, vertex}
-use Rattle.delaunay_location.specs.plane.Line.{Meets, across}
-use Rattle.delaunay_location.proofs.plane.IntegerOrder.{mul-nonneg_ℤ, mul-nonpos_of_nonneg_nonpos_ℤ}
-use Rattle.delaunay_location.proofs.plane.Meetings.{AreOpposite, AreParted, meets_within_is}
-use Rattle.delaunay_location.proofs.plane.Steps.{weak}
-use Rattle.delaunay_location.proofs.plane_theorems.Delaunay.Points.Bracket.{bracket}
-use Rattle.delaunay_location.proofs.plane_theorems.Delaunay.Points.Bracket.{bracket-swapped}
-use Rattle.plane_theorems.proofs.Segments.Items.Begins.{Signs, edge_flipped, met_if, rising}
+use Rattle.plane.specs.{across, Fraction, IsEdge, IsSame, Meets, MeetsWithin, Triangulation, vertex}
+use Rattle.plane.proofs.{AreOpposite, mul-nonneg_ℤ, mul-nonpos_of_nonneg_nonpos_ℤ, weak}
+use Rattle.plane.proofs.Meetings.{AreParted, meets_within_is}
+use Rattle.plane_theorems.proofs.{bracket, bracket-swapped, edge_flipped}
+use Rattle.plane_theorems.proofs.Segments.Items.Begins.{met_if, rising, Signs}
 use Rattle.plane_theorems.proofs.Segments.Items.Slopes.{slope}
 
 not_rising : (f g pw qw : ℤ) → f ≤ℤ pos 0 → pos 0 ≤ℤ g → pos 0 <ℤ pw → pos 0 <ℤ qw

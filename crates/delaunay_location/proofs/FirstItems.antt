@@ -6,45 +6,29 @@ use Rattle.std.proofs.Common.{◌≡◌, ◌≢◌, ◌⊎◌, ◌<◌, [], ◌�
 use Rattle.std.proofs.Common.{ℕ, List, length, map, Some, None, refl, sym, ap, subst}
 use Rattle.std.proofs.Common.{inl, inr, arith}
 use Rattle.std.proofs.lemmas.List.{length-map}
-use Rattle.delaunay_location.specs.half_edge_links.Mesh.{Mesh, origin, next, prev, rev}
-use Rattle.delaunay_location.proofs.half_edge_links_lemmas.Lists.Rev.{rev-rev}
-use Rattle.delaunay_location.proofs.half_edge_links_lemmas.Sound.Triangles as T
-use Rattle.delaunay_location.specs.half_edge_dcel.Contents.{Contents}
-use Rattle.delaunay_location.specs.plane.Fraction.{Point, Fraction, whole, IsSame, InsideTriangle}
-use Rattle.delaunay_location.specs.plane.Side.{Side, side, left, right, on, opposite}
-use Rattle.delaunay_location.specs.plane.Pairs.{place}
-use Rattle.delaunay_location.specs.plane.Tiling.{Triangulation, IsFace, TilesHull}
-use Rattle.delaunay_location.specs.plane.Line.{IsLineList, at_vertex, across, along}
-use Rattle.delaunay_location.proofs.plane.Segments.{same-refl}
-use Rattle.delaunay_location.proofs.plane.Sides.{side_swapped}
-use Rattle.delaunay_location.proofs.plane.Triangles.{turned_inside}
-use Rattle.delaunay_location.proofs.plane_theorems.Tiling.Edges.{turned_within}
-use Rattle.plane_theorems.specs.Segments.Steps.{IsFirst, IsWalk, IsAhead}
-use Rattle.plane_theorems.proofs.Segments.Items.Begins.{edge_flipped}
+use Rattle.plane.specs.{across, along, at_vertex, Fraction, InsideTriangle, IsFace, IsLineList}
+use Rattle.plane.specs.{IsSame, left, on, opposite, place, Point, right, Side, side, TilesHull}
+use Rattle.plane.proofs.{same-refl, side_swapped, turned_inside}
+use Rattle.half_edge_links.specs.{Mesh, next, origin, prev, rev}
+use Rattle.plane_theorems.specs.{IsAhead, IsFirst, IsWalk}
+use Rattle.plane_theorems.proofs.{edge_flipped, equal_ends, turned_within}
 use Rattle.plane_theorems.proofs.Segments.First.EdgeStarts.{first_from_an_edge}
 use Rattle.plane_theorems.proofs.Segments.First.FaceStarts.{first_from_a_face}
-use Rattle.plane_theorems.proofs.Segments.First.LineStarts.{equal_ends}
 use Rattle.plane_theorems.proofs.Segments.Walking.WalkSteps.{line_list_is_the_walk}
-use Rattle.delaunay_location.specs.delaunay_legalization.Drawn.{drawn}
-use Rattle.delaunay_location.specs.delaunay_legalization.Known.{point_at}
-use Rattle.delaunay_location.specs.delaunay_legalization.Placed.{IsPlaced}
-use Rattle.delaunay_location.specs.declared.intersection.FixedIntersection.{FixedIntersection}
-use Rattle.delaunay_location.specs.declared.intersection.FixedIntersection.TheVariants.{
-  Edge,
-  Vertex,
-  Overlap,
-}
-use Rattle.delaunay_location.specs.Items.{item_of, IsHandleOf}
-use Rattle.delaunay_location.specs.Steps.{IsLeftOf}
-use Rattle.delaunay_location.specs.Starts.{StartsWithin, StartsInside, GoesOver}
-use Rattle.delaunay_location.specs.Walk.{Starts}
+use Rattle.half_edge_dcel.specs.{Contents}
+use Rattle.delaunay_legalization.specs.{drawn, IsEmbedding, point_at}
+use Rattle.delaunay_location.specs.{Edge, FixedIntersection, IsLeftOf, item_of, Overlap, Vertex}
+use Rattle.{delaunay_location.specs.Items.IsHandleOf, plane.specs.Triangulation, plane.specs.whole}
+use Rattle.delaunay_location.specs.Starts.{GoesOver, StartsInside, StartsWithin}
+use Rattle.{delaunay_location.specs.Walk.Starts, half_edge_links.proofs.rev-rev}
 use Rattle.delaunay_location.proofs.Advance.{first_of, starts_with}
-use Rattle.delaunay_location.proofs.MeshSteps.{laid, in_mesh, of_mesh, joined, tiles_with, face_at}
-use Rattle.delaunay_location.proofs.MeshSteps.{twin_of_prev, twin_of_next, start_in, not_same}
-use Rattle.delaunay_location.proofs.MeshSteps.{start_known, twin_within}
+use Rattle.delaunay_location.proofs.MeshSteps.{face_at, in_mesh, joined, laid, not_same, of_mesh}
+use Rattle.delaunay_location.proofs.MeshSteps.{start_in, start_known, tiles_with, twin_of_next}
+use Rattle.delaunay_location.proofs.MeshSteps.{twin_of_prev, twin_within}
+use Rattle.half_edge_links.proofs.Sound.Triangles as T
 
 module _ {V D U F P : Type 0} {at : V → Point} {IsSite : P → Point → Type 0}
-    {c : Contents V D U F} {tests : P} (placed : IsPlaced at IsSite c tests) where
+    {c : Contents V D U F} {tests : P} (embedding : IsEmbedding at IsSite c tests) where
   abbrev m : Mesh
   m = c.mesh
 
@@ -60,8 +44,8 @@ module _ {V D U F P : Type 0} {at : V → Point} {IsSite : P → Point → Type 
   -- from p to another point q the walk starts at the item that the segment meets first
   pub starts_first : {p q : Point} → p ≢ q → (i : FixedIntersection) → IsHandleOf c i
       → IsFirst t (whole p) (whole q) (item_of m i) → Starts at c p q (Some i)
-  starts_first {p = p} {q = q} apart i here first = starts_with placed i here
-      (first_of t p q (laid placed) apart (item_of m i) first)
+  starts_first {p = p} {q = q} apart i here first = starts_with embedding i here
+      (first_of t p q (laid embedding) apart (item_of m i) first)
 
   -- without items on the line list it starts nowhere
   pub nothing : {p q : Point} → IsLineList t (whole p) (whole q) [] → Starts at c p q None
@@ -70,7 +54,7 @@ module _ {V D U F P : Type 0} {at : V → Point} {IsSite : P → Point → Type 
   -- without items that the segment from p to another point meets it starts nowhere
   pub nothing_met : {p q : Point} → p ≢ q → IsWalk t (whole p) (whole q) [] → Starts at c p q None
   nothing_met {p = p} {q = q} apart w =
-      nothing ((line_list_is_the_walk t (laid placed) (whole p) (whole q)
+      nothing ((line_list_is_the_walk t (laid embedding) (whole p) (whole q)
       (not_same p q apart) []).1 w)
 
   -- equal ends are at the same place
@@ -86,8 +70,8 @@ module _ {V D U F P : Type 0} {at : V → Point} {IsSite : P → Point → Type 
     alone_on_edge e = record {
       items = along (origin m h) (origin m (rev h)) ∷ [];
       line_list = (equal_ends t (whole p) (whole q) (same_ends e)).1 (origin m h) (origin m (rev h))
-          (joined placed h
-          (in_mesh placed h within)) here;
+          (joined embedding h
+          (in_mesh embedding h within)) here;
       are_from = (
         within,
         (
@@ -96,8 +80,8 @@ module _ {V D U F P : Type 0} {at : V → Point} {IsSite : P → Point → Type 
           record { met = λ n. absurd (n e); goes_on = λ n. absurd (n e); alone = λ _. refl },
         ),
       );
-      few = let some = start_in placed h
-          (in_mesh placed h within) in
+      few = let some = start_in embedding h
+          (in_mesh embedding h within) in
           let count = length-map c.vertices at in omega (arith, some, count);
     }
 
@@ -111,19 +95,19 @@ module _ {V D U F P : Type 0} {at : V → Point} {IsSite : P → Point → Type 
           (whole q) → IsFirst t (whole p) (whole q) (along (origin m h) (origin m (rev h))))
           × (side (start h) (start (rev h)) (whole q) ≡ on
           → IsAhead (whole p) (start (rev h)) (whole q) ⊎ IsAhead (whole p) (start h) (whole q))
-      law = first_from_an_edge t (laid placed) (whole p) (whole q)
+      law = first_from_an_edge t (laid embedding) (whole p) (whole q)
           (not_same p q apart)
-          (origin m h) (origin m (rev h)) (joined placed h
-          (in_mesh placed h within)) here
+          (origin m h) (origin m (rev h)) (joined embedding h
+          (in_mesh embedding h within)) here
 
       -- where q is ahead the other way along the edge, the overlap in that direction comes first
       back : side (start (rev h)) (start h) (whole q) ≡ on → IsAhead (whole p) (start h) (whole q) →
           IsFirst t (whole p) (whole q) (along (origin m (rev h)) (origin m h))
-      back = (first_from_an_edge t (laid placed) (whole p) (whole q)
+      back = (first_from_an_edge t (laid embedding) (whole p) (whole q)
           (not_same p q apart)
           (origin m (rev h)) (origin m h) (edge_flipped t (origin m h) (origin m (rev h))
-          (joined placed h
-          (in_mesh placed h within)))
+          (joined embedding h
+          (in_mesh embedding h within)))
           (turned_within (start h) (start (rev h)) (whole p) here)).2
 
       twice : origin m h ≡ origin m (rev (rev h))
@@ -137,7 +121,7 @@ module _ {V D U F P : Type 0} {at : V → Point} {IsSite : P → Point → Type 
       -- with q on its right it starts by crossing its twin
       pub over_twin : side (start h) (start (rev h)) (whole q) ≡ right
           → Starts at c p q (Some (Edge (rev h)))
-      over_twin s = starts_first apart (Edge (rev h)) (twin_within placed h within)
+      over_twin s = starts_first apart (Edge (rev h)) (twin_within embedding h within)
           (subst (λ (x : ℕ). IsFirst t (whole p) (whole q) (across (origin m (rev h)) x))
           twice (law.1 s))
 
@@ -152,7 +136,7 @@ module _ {V D U F P : Type 0} {at : V → Point} {IsSite : P → Point → Type 
       pub along_twin : {end : Point} → end ≡ point_at points (origin m (rev h))
           → side (start h) (start (rev h)) (whole q) ≡ on →
           ¬ IsAhead (whole p) (whole end) (whole q) → Starts at c p q (Some (Overlap (rev h)))
-      along_twin is s n = starts_first apart (Overlap (rev h)) (twin_within placed h within)
+      along_twin is s n = starts_first apart (Overlap (rev h)) (twin_within embedding h within)
           (subst (λ (x : ℕ). IsFirst t (whole p) (whole q) (along (origin m (rev h)) x)) twice
           (back (side_swapped (start h) (start (rev h)) (whole q) ∙ ap opposite s) (go (law.3 s))))
         where
@@ -167,15 +151,15 @@ module _ {V D U F P : Type 0} {at : V → Point} {IsSite : P → Point → Type 
   pub inside_after : {p : Point} (h : ℕ) → h < length c.directed → StartsInside points m p h
       → StartsInside points m p (next m h)
   inside_after {p = p} h within i =
-      let w = in_mesh placed h within in
-      let r = T.triangle_at m h placed.kept.valid.sound w i.inner in record {
+      let w = in_mesh embedding h within in
+      let r = T.triangle_at m h embedding.kept.valid.sound w i.inner in record {
         inner = subst (λ (x : ℕ). 0 < x) (sym r.face_next) i.inner;
         inside =
             subst (λ (x : ℕ × ℕ × ℕ). InsideTriangle (place points x.0) (place points x.1)
             (place points x.2) (whole p))
             (λ k. (
-              sym (placed.kept.valid.sound.edges h w).starts k,
-              sym (twin_of_next placed h w i.inner) k,
+              sym (embedding.kept.valid.sound.edges h w).starts k,
+              sym (twin_of_next embedding h w i.inner) k,
               ap (origin m) (sym r.prev_next) k,
             ))
             (turned_inside (start h) (start (rev h)) (start (prev m h)) (whole p) i.inside);
@@ -185,22 +169,22 @@ module _ {V D U F P : Type 0} {at : V → Point} {IsSite : P → Point → Type 
   pub inside_before : {p : Point} (h : ℕ) → h < length c.directed → StartsInside points m p h
       → StartsInside points m p (prev m h)
   inside_before {p = p} h within i =
-      let r = T.triangle_at m h placed.kept.valid.sound
-      (in_mesh placed h within) i.inner in
+      let r = T.triangle_at m h embedding.kept.valid.sound
+      (in_mesh embedding h within) i.inner in
       subst (StartsInside points m p) r.next_next (inside_after (next m h)
-      (of_mesh placed (next m h) r.next_in) (inside_after h within i))
+      (of_mesh embedding (next m h) r.next_in) (inside_after h within i))
 
   module _ {p : Point} (h : ℕ) (within : h < length c.directed)
       (i : StartsInside points m p h) where
     -- edge h is one of the mesh
     w : h < length m.half_edges
-    w = in_mesh placed h within
+    w = in_mesh embedding h within
 
     is_face : IsFace t (origin m h) (origin m (rev h)) (origin m (prev m h))
-    is_face = face_at placed h w i.inner
+    is_face = face_at embedding h w i.inner
 
     tiles : TilesHull t
-    tiles = tiles_with placed (origin m h) (origin m (rev h))
+    tiles = tiles_with embedding (origin m h) (origin m (rev h))
         (origin m (prev m h)) is_face
 
     -- from p to itself the walk meets nothing
@@ -243,14 +227,14 @@ module _ {V D U F P : Type 0} {at : V → Point} {IsSite : P → Point → Type 
           go (inl x) = absurd (first x)
           go (inr (inl x)) = absurd (second (
             subst (λ (k : ℕ). side (whole p) (whole q) (place points k) ≢ left)
-                (sym (placed.kept.valid.sound.edges h w).starts) x.0,
+                (sym (embedding.kept.valid.sound.edges h w).starts) x.0,
             subst (λ (k : ℕ). side (whole p) (whole q) (place points k) ≡ left)
-                (sym (twin_of_next placed h w i.inner)) x.1,
+                (sym (twin_of_next embedding h w i.inner)) x.1,
           ))
           go (inr (inr x)) = (
             x.0,
             subst (λ (k : ℕ). side (whole p) (whole q) (place points k) ≡ left)
-                (sym (twin_of_prev placed h w i.inner)) x.1,
+                (sym (twin_of_prev embedding h w i.inner)) x.1,
           )
 
       module _ (o : GoesOver points m p q h) where
@@ -261,13 +245,14 @@ module _ {V D U F P : Type 0} {at : V → Point} {IsSite : P → Point → Type 
         -- with q beyond it, and its start on the way, the walk starts at this vertex
         pub through_start : ¬ IsLeftOf points m q h → side (whole p) (whole q) A ≡ on
             → Starts at c p q (Some (Vertex (origin m h)))
-        through_start n s = starts_first apart (Vertex (origin m h)) (start_known placed h within)
+        through_start n s = starts_first apart (Vertex (origin m h))
+            (start_known embedding h within)
             ((face_law.0 o.1).1 s n)
 
         -- with q beyond it, and its start off the way, the walk starts by crossing its twin
         pub through_side : ¬ IsLeftOf points m q h
             → side (whole p) (whole q) A ≢ on → Starts at c p q (Some (Edge (rev h)))
-        through_side n s = starts_first apart (Edge (rev h)) (twin_within placed h within)
+        through_side n s = starts_first apart (Edge (rev h)) (twin_within embedding h within)
             (subst (λ (x : ℕ). IsFirst t (whole p) (whole q) (across (origin m (rev h)) x))
             (ap (origin m) (sym (rev-rev h)))
             ((face_law.0 o.1).2 (below (side (whole p) (whole q) A) o.0 s) n))

@@ -5,32 +5,18 @@ use Rattle.std.proofs.Common.{ℕ, Bool, IsTrue, List, length, map}
 use Rattle.std.proofs.Common.{Option, Some, None, is_some, sym, ap, subst, inl, inr, arith}
 use Rattle.std.specs.Prelude.{ℤ, Contains}
 use Rattle.std.proofs.lemmas.List.Elements.{Contains-append_right}
-use Rattle.delaunay_location.specs.half_edge_links.Mesh.{Mesh, origin, rev}
-use Rattle.delaunay_location.specs.half_edge_dcel.Contents.{Contents}
-use Rattle.delaunay_location.specs.half_edge_dcel.declared.edge.DirectedEdgeHandle.{DirectedEdgeHandle}
-use Rattle.delaunay_location.specs.plane.Fraction.{Point, whole, IsSame}
-use Rattle.delaunay_location.specs.plane.Pairs.{Joins}
-use Rattle.delaunay_location.specs.plane.Tiling.{Triangulation, IsEdge}
-use Rattle.delaunay_location.specs.plane.Line.{Item, IsLineList, IsListAt, Meets, at_vertex, across}
-use Rattle.delaunay_location.specs.plane.Line.{along}
-use Rattle.delaunay_location.proofs.plane.Segments.{same-refl}
-use Rattle.delaunay_location.proofs.plane_theorems.Tiling.Totals.{Contains-head}
-use Rattle.delaunay_location.specs.delaunay_legalization.Drawn.{drawn}
-use Rattle.delaunay_location.specs.delaunay_legalization.Legal.{pairs_at}
-use Rattle.delaunay_location.proofs.delaunay_legalization_lemmas.MeshLegal.{joins_directed}
-use Rattle.delaunay_location.proofs.delaunay_legalization_lemmas.MeshLegal.{IsListedEdge}
-use Rattle.delaunay_location.proofs.delaunay_legalization_lemmas.MeshLegal.{listed_edge}
-use Rattle.delaunay_location.specs.delaunay_legalization.Constraints.{marked_edges, constraints_by}
-use Rattle.delaunay_location.specs.delaunay_legalization.Known.{point_at}
-use Rattle.delaunay_location.specs.delaunay_legalization.State.{State, triangulation_of}
-use Rattle.delaunay_location.proofs.delaunay_legalization_lemmas.Constraints.{fixed_within}
-use Rattle.delaunay_location.proofs.delaunay_legalization_lemmas.Questions.{both_ways}
-use Rattle.delaunay_location.specs.declared.iterator.LineIntersectionIterator.{LineIntersectionIterator}
-use Rattle.delaunay_location.specs.Conflicts.{GivesConflict, HasNoConflict, IntersectsConstraint}
-use Rattle.delaunay_location.specs.Conflicts.{IsConflict}
-use Rattle.delaunay_location.specs.Walk.{IsReady, WalksLine}
-use Rattle.delaunay_location.proofs.EitherWay.{crossed_either_way}
-use Rattle.delaunay_location.proofs.MeshSteps.{in_mesh, joined, ends_apart, not_same}
+use Rattle.plane.specs.{across, along, at_vertex, IsEdge, IsLineList, IsListAt, IsSame, Item, Joins}
+use Rattle.plane.specs.{Meets, Point, Triangulation, whole}
+use Rattle.half_edge_links.specs.{Mesh, origin, rev}
+use Rattle.half_edge_dcel.specs.{Contents, DirectedEdgeHandle}
+use Rattle.delaunay_legalization.specs.{constraints_by, drawn, marked_edges, pairs_at, point_at}
+use Rattle.{delaunay_legalization.specs.State.State, plane_theorems.proofs.Contains-head}
+use Rattle.delaunay_legalization.proofs.{both_ways, fixed_within, IsListedEdge, joins_directed}
+use Rattle.{delaunay_legalization.proofs.listed_edge, delaunay_legalization.specs.triangulation_of}
+use Rattle.delaunay_location.specs.{GivesConflict, HasNoConflict, IntersectsConstraint, IsConflict}
+use Rattle.delaunay_location.specs.{IsReady, LineIntersectionIterator, WalksLine}
+use Rattle.{delaunay_location.proofs.EitherWay.crossed_either_way, plane.proofs.same-refl}
+use Rattle.delaunay_location.proofs.MeshSteps.{ends_apart, in_mesh, joined, not_same}
 
 -- at one point no edge is crossed
 none_across : (t : Triangulation) (p : Point) (passed others : List Item) (a b : ℕ) →
@@ -90,10 +76,10 @@ module _ {V D U F P S : Type 0} (at : V → Point) (number : S → ℤ) (IsSite 
 
     -- an edge of a constraint, in this direction or the other
     edge_in : (h : ℕ) → Contains ks (h / 2) → h < length c.directed
-    edge_in h listed = subst (λ (n : ℕ). h < n) (sym ready.over.placed.kept.fits.directed_fit)
+    edge_in h listed = subst (λ (n : ℕ). h < n) (sym ready.over.embedding.kept.fits.directed_fit)
         (below h (length c.undirected) (length m.half_edges)
         (fixed_within marks constraints marked c.undirected (h / 2) listed)
-        ready.over.placed.kept.fits.undirected_fit)
+        ready.over.embedding.kept.fits.undirected_fit)
 
     is_conflict : (i j h : ℕ) → IsListedEdge m ks i j h → IsConflict constraints c (across i j)
     is_conflict i j h e =
@@ -124,13 +110,13 @@ module _ {V D U F P S : Type 0} (at : V → Point) (number : S → ℤ) (IsSite 
 
         edge : IsEdge t x.from x.to
         edge = subst (λ (y : ℕ × ℕ). IsEdge t y.0 y.1) (λ k. (there.1.start k, there.1.end k))
-            (joined ready.over.placed there.0 (in_mesh ready.over.placed there.0 h_in))
+            (joined ready.over.embedding there.0 (in_mesh ready.over.embedding there.0 h_in))
 
         place_at : ℕ → Point
         place_at k = point_at (map at c.vertices) k
 
         two : place_at x.from ≢ place_at x.to
-        two = ends_apart ready.over.placed there.0 h_in (place_at x.from) (place_at x.to)
+        two = ends_apart ready.over.embedding there.0 h_in (place_at x.from) (place_at x.to)
             (ap place_at (sym there.1.start)) (ap place_at (sym there.1.end))
 
         ways : Meets t (whole p) (whole q) (across x.from x.to)

@@ -1,8 +1,8 @@
-pub use Rattle.delaunay_legalization.proofs.plane as plane
+pub use Rattle.plane.proofs as plane
 pub use Rattle.plane_theorems.proofs as plane_theorems
-pub use Rattle.delaunay_legalization.proofs.half_edge_links_lemmas as half_edge_links_lemmas
-pub use Rattle.delaunay_legalization.proofs.half_edge_dcel_lemmas as half_edge_dcel_lemmas
-pub use Rattle.delaunay_legalization.proofs.delaunay_core_lemmas as delaunay_core_lemmas
+pub use Rattle.half_edge_links.proofs as half_edge_links_lemmas
+pub use Rattle.half_edge_dcel.proofs as half_edge_dcel_lemmas
+pub use Rattle.delaunay_core.proofs as delaunay_core_lemmas
 pub use Rattle.delaunay_legalization.proofs as delaunay_legalization_lemmas
 -- What answers to tests say.
 pub mod Distances

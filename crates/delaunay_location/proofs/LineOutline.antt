@@ -6,26 +6,16 @@ use Rattle.std.proofs.Common.{◌≡◌, ◌≢◌, ◌⊎◌, ◌<◌, ◌∙�
 use lib.IntN.{neg_ℤ}
 use Rattle.std.specs.Prelude.{ℤ, pos, ◌+ℤ◌, ◌-ℤ◌, ◌*ℤ◌, ◌<ℤ◌, ◌≤ℤ◌, Contains}
 use Rattle.std.proofs.lemmas.Int.{ints}
-use Rattle.delaunay_location.specs.plane.Fraction.{Point}
-use Rattle.delaunay_location.proofs.plane.Bracket.{bracket, lift}
-use Rattle.delaunay_location.proofs.plane.BracketIdentities.{bracket-swap, bracket-turn}
-use Rattle.delaunay_location.proofs.plane.Collinear.{place_on, place_of_start, place_of_end}
-use Rattle.delaunay_location.proofs.plane.Collinear.{passing_place, within_by_places}
-use Rattle.delaunay_location.proofs.plane.IntegerOrder.{trichotomy_ℤ, mul-nonneg_ℤ}
-use Rattle.delaunay_location.proofs.plane.IntegerOrder.{mul-pos_of_neg_ℤ}
-use Rattle.delaunay_location.proofs.plane.IntegerOrder.{mul-nonpos_of_nonneg_nonpos_ℤ}
-use Rattle.delaunay_location.proofs.plane.IntegerOrder.{mul-neg_of_pos_neg_ℤ, pos_of_mul-pos_ℤ}
-use Rattle.delaunay_location.proofs.plane.IntegerOrder.{nonneg_of_mul-nonneg_ℤ, neg_of_mul-neg_ℤ}
-use Rattle.delaunay_location.proofs.plane.LineOrder.{IsBetween, place_within}
-use Rattle.delaunay_location.proofs.plane.Signs.{less_both_ways, less_by_negative_difference}
-use Rattle.delaunay_location.proofs.plane.Signs.{more_by_difference}
-use Rattle.delaunay_location.proofs.plane.Steps.{weak, weak_right, product_zero_left}
-use Rattle.delaunay_location.proofs.plane.Steps.{not_left_of_product, no_difference}
-use Rattle.delaunay_location.proofs.plane_theorems.Tiling.Counting.{same_place}
-use Rattle.delaunay_location.proofs.plane_theorems.Tiling.Line.{SignLine, Adjoin}
-use Rattle.delaunay_location.proofs.plane_theorems.Tiling.LinePlaces.{ArePlaces, nearest_below}
-use Rattle.delaunay_location.proofs.plane_theorems.Tiling.LinePlaces.{next_below}
-use Rattle.delaunay_location.proofs.plane_theorems.Tiling.LinePlaces.{none_between_places}
+use Rattle.{plane.specs.Point, plane_theorems.proofs.Tiling.LinePlaces.none_between_places}
+use Rattle.plane.proofs.{bracket, bracket-swap, bracket-turn, IsBetween, less_both_ways}
+use Rattle.plane.proofs.{less_by_negative_difference, lift, more_by_difference}
+use Rattle.plane.proofs.{mul-neg_of_pos_neg_ℤ, mul-nonneg_ℤ, mul-nonpos_of_nonneg_nonpos_ℤ}
+use Rattle.plane.proofs.{mul-pos_of_neg_ℤ, neg_of_mul-neg_ℤ, no_difference, nonneg_of_mul-nonneg_ℤ}
+use Rattle.plane.proofs.{not_left_of_product, place_of_end, place_of_start, place_on, place_within}
+use Rattle.plane.proofs.{pos_of_mul-pos_ℤ, product_zero_left, trichotomy_ℤ, weak, weak_right}
+use Rattle.plane.proofs.{Collinear.passing_place, within_by_places}
+use Rattle.plane_theorems.proofs.{Adjoin, same_place, SignLine}
+use Rattle.plane_theorems.proofs.Tiling.LinePlaces.{ArePlaces, nearest_below, next_below}
 
 -- ---- numbers
 four_to_two : (a b c d f g h i : ℤ) → a *ℤ b -ℤ c *ℤ d +ℤ f *ℤ g -ℤ h *ℤ i ≡ pos 0 → g ≡ pos 0

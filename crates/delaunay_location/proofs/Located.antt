@@ -3,41 +3,21 @@
 -- without_triangulation.
 use Rattle.std.proofs.Common.{◌≡◌, ℕ, ◌<◌, ◌≤◌, List, length, map, Some}
 use Rattle.std.proofs.Common.{sym, subst, inl, inr, arith}
-use Rattle.delaunay_location.specs.half_edge_links.Mesh.{Mesh, origin, prev, face_edge, rev}
-use Rattle.delaunay_location.specs.half_edge_dcel.Contents.{Contents}
-use Rattle.delaunay_location.specs.plane.Fraction.{Point, whole, IsSame, OnSegment, WithinSegment}
-use Rattle.delaunay_location.specs.plane.Fraction.{InsideTriangle}
-use Rattle.delaunay_location.specs.plane.Side.{Side, side, left, on, TurnsLeft}
-use Rattle.delaunay_location.specs.plane.Pairs.{place}
-use Rattle.delaunay_location.specs.plane.Tiling.{Triangulation, IsVertex, IsEdge, vertex, TilesHull}
-use Rattle.delaunay_location.specs.plane.Location.{Location, IsLocation, IsOuter, IsPast, on_vertex}
-use Rattle.delaunay_location.specs.plane.Location.{on_edge, on_face, outside_hull, no_triangulation}
-use Rattle.delaunay_location.proofs.plane.Bracket.{vec}
-use Rattle.delaunay_location.proofs.plane.BracketIdentities.{bracket-same}
-use Rattle.delaunay_location.proofs.plane.Sides.{if_left}
-use Rattle.delaunay_location.proofs.plane.Steps.{left_not_zero}
-use Rattle.delaunay_location.specs.plane_theorems.Tiling.Laws.{IsSameLocation}
-use Rattle.delaunay_location.proofs.plane_theorems.Tiling.Tiles.{by_signs}
-use Rattle.delaunay_location.proofs.plane_theorems.Tiling.Places as Places
-use Rattle.delaunay_location.proofs.plane_theorems.Tiling.Locations.{each_point_has_one_location}
-use Rattle.plane_theorems.proofs.Segments.Items.Begins.{edge_flipped}
-use Rattle.plane_theorems.proofs.Segments.Crossing.EitherWay.{one_point}
-use Rattle.plane_theorems.proofs.Segments.Constraints.Pieces.{on_parts}
-use Rattle.delaunay_location.specs.delaunay_legalization.Drawn.{drawn, faces_of, outer_of, edges_of}
-use Rattle.delaunay_location.proofs.delaunay_legalization_lemmas.EdgePairs.{joins_edge}
-use Rattle.delaunay_location.proofs.delaunay_legalization_lemmas.OwnEdges.{own_edges}
-use Rattle.delaunay_location.specs.delaunay_legalization.Known.{point_at}
-use Rattle.delaunay_location.specs.delaunay_legalization.Placed.{IsPlaced}
-use Rattle.delaunay_location.specs.declared.position_in_triangulation.PositionInTriangulation.TheVariants.{OnVertex}
-use Rattle.delaunay_location.specs.declared.position_in_triangulation.PositionInTriangulation.TheVariants.{OnFace}
-use Rattle.delaunay_location.specs.declared.position_in_triangulation.PositionInTriangulation.TheVariants.{OutsideOfConvexHull}
-use Rattle.delaunay_location.specs.declared.position_in_triangulation.PositionInTriangulation.TheVariants.{NoTriangulation}
-use Rattle.delaunay_location.specs.Location.{Locates}
-use Rattle.delaunay_location.specs.Starts.{StartsInside, StartsOutside}
-use Rattle.delaunay_location.specs.declared.intersection.FixedIntersection.TheVariants.{Vertex}
-use Rattle.delaunay_location.specs.Walk.{Starts}
-use Rattle.delaunay_location.proofs.Advance.{starts_at_vertex}
-use Rattle.delaunay_location.proofs.MeshSteps.{start_in}
+use Rattle.plane.specs.{InsideTriangle, IsEdge, IsLocation, IsOuter, IsPast, IsSame, IsVertex, left}
+use Rattle.plane.specs.{Location, no_triangulation, on, on_edge, on_face, on_vertex, OnSegment}
+use Rattle.plane.specs.{outside_hull, place, Point, Side, side, TilesHull, Triangulation, TurnsLeft}
+use Rattle.plane.specs.{vertex, whole, WithinSegment}
+use Rattle.plane.proofs.{bracket-same, if_left, left_not_zero, vec}
+use Rattle.half_edge_links.specs.{face_edge, Mesh, origin, prev, rev}
+use Rattle.plane_theorems.proofs.{by_signs, each_point_has_one_location, edge_flipped, on_parts}
+use Rattle.{plane_theorems.proofs.one_point, plane_theorems.specs.IsSameLocation}
+use Rattle.half_edge_dcel.specs.{Contents}
+use Rattle.delaunay_legalization.specs.{drawn, edges_of, faces_of, IsEmbedding, outer_of, point_at}
+use Rattle.delaunay_legalization.proofs.{joins_edge, own_edges}
+use Rattle.delaunay_location.specs.{Locates, NoTriangulation, OnFace, OnVertex, OutsideOfConvexHull}
+use Rattle.delaunay_location.specs.{Starts.StartsInside, StartsOutside, Vertex, Walk.Starts}
+use Rattle.delaunay_location.proofs.{Advance.starts_at_vertex, MeshSteps.start_in}
+use Rattle.plane_theorems.proofs.Tiling.Places as Places
 
 -- neither on a vertex, nor on an edge, nor in a face
 abbrev IsBare : Location → Type 0
@@ -63,7 +43,7 @@ not_left : (z : Side) → z ≡ on → z ≡ left → ⊥
 not_left z e f = cc
 
 module _ {V D U F P : Type 0} {at : V → Point} {IsSite : P → Point → Type 0}
-    {c : Contents V D U F} {tests : P} (placed : IsPlaced at IsSite c tests) where
+    {c : Contents V D U F} {tests : P} (embedding : IsEmbedding at IsSite c tests) where
   abbrev m : Mesh
   m = c.mesh
 
@@ -77,13 +57,13 @@ module _ {V D U F P : Type 0} {at : V → Point} {IsSite : P → Point → Type 
   one : (p : Point) (a b : Location) → IsLocation t (whole p) a → IsLocation t (whole p) b
       → IsSameLocation a b
   one p = (each_point_has_one_location points (faces_of m) (outer_of m) (edges_of m)
-      placed.kept.shape (own_edges m placed.kept.valid) (whole p)).1
+      embedding.kept.shape (own_edges m embedding.kept.valid) (whole p)).1
 
   -- located on a vertex, p is where this vertex is
   pub on_that_vertex : {p : Point} (v : ℕ) → Locates points m p (OnVertex v)
       → (v < length c.vertices) × (point_at points v ≡ p)
   on_that_vertex {p = p} v l = (
-    subst (λ (n : ℕ). v < n) (sym placed.kept.fits.vertices_fit) l.handle,
+    subst (λ (n : ℕ). v < n) (sym embedding.kept.fits.vertices_fit) l.handle,
     sym (one_point p (point_at points v) l.location.1),
   )
 
@@ -91,18 +71,18 @@ module _ {V D U F P : Type 0} {at : V → Point} {IsSite : P → Point → Type 
   pub from_that_vertex : {p q : Point} (v : ℕ) → Locates points m p (OnVertex v)
       → Starts at c p q (Some (Vertex v))
   from_that_vertex v l =
-      let here = on_that_vertex v l in starts_at_vertex placed v here.0 (sym here.1)
+      let here = on_that_vertex v l in starts_at_vertex embedding v here.0 (sym here.1)
 
   -- located in a face, p is strictly inside it
   pub inside_that_face : {p : Point} (f : ℕ) → Locates points m p (OnFace f)
       → StartsInside points m p (face_edge m f)
   inside_that_face {p = p} f l =
-      let r = placed.kept.valid.sound.faces f l.handle.0 l.handle.1 in record {
+      let r = embedding.kept.valid.sound.faces f l.handle.0 l.handle.1 in record {
         inner = subst (λ (k : ℕ). 0 < k) (sym r.1) l.handle.0;
         inside = subst
             (λ (k : ℕ). InsideTriangle (place points (origin m (face_edge m f))) (place points k)
             (place points (origin m (prev m (face_edge m f)))) (whole p))
-            (placed.kept.valid.sound.edges (face_edge m f) r.0).starts l.location.1;
+            (embedding.kept.valid.sound.edges (face_edge m f) r.0).starts l.location.1;
       }
 
   no_vertex_there : (p : Point) (l : Location) → IsBare l → IsLocation t (whole p) l → (k : ℕ)
@@ -116,8 +96,8 @@ module _ {V D U F P : Type 0} {at : V → Point} {IsSite : P → Point → Type 
 
   start_of_edge : (i j : ℕ) → IsEdge t i j → IsVertex t i
   start_of_edge i j e =
-      let h = joins_edge m placed.kept.valid.sound i j e in
-      subst (λ (k : ℕ). k < length points) h.2 (start_in placed h.0 h.1)
+      let h = joins_edge m embedding.kept.valid.sound i j e in
+      subst (λ (k : ℕ). k < length points) h.2 (start_in embedding h.0 h.1)
 
   no_edge_there : (p : Point) (l : Location) → IsBare l → IsLocation t (whole p) l → (i j : ℕ)
       → IsEdge t i j → ¬ OnSegment (vertex t i) (vertex t j) (whole p)
@@ -140,7 +120,7 @@ module _ {V D U F P : Type 0} {at : V → Point} {IsSite : P → Point → Type 
 
   -- where faces tile the hull, no position is past the end of a line
   pub none_past : TilesHull t → (p : Point) (i : ℕ) → IsVertex t i → ¬ IsPast t i (whole p)
-  none_past tiles p i v past = elim placed.kept.shape as (λ _. ⊥) [
+  none_past tiles p i v past = elim embedding.kept.shape as (λ _. ⊥) [
     | inl l ↦ Places.none_beyond (length points) (point_at points) (faces_of m) (outer_of m)
         (by_signs points (faces_of m) (outer_of m) l) (whole p) i v past
     | inr l ↦ (let s = tiles.spread in not_left (side (vertex t s.0) (vertex t s.1) (vertex t s.2))

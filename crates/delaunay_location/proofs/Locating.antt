@@ -7,42 +7,23 @@ use Rattle.std.specs.Prelude.{ℤ, pos, ◌*ℤ◌, ◌≤ℤ◌, Contains}
 use Rattle.std.proofs.lemmas.Int.{ints}
 use Rattle.std.proofs.lemmas.Bool.{cases_eq}
 use Rattle.std.proofs.lemmas.List.{length-map, get_or-map}
-use Rattle.delaunay_legalization.specs.half_edge_links.Mesh.{Mesh, origin, face, face_edge, rev}
-use Rattle.delaunay_legalization.specs.half_edge_links.Triangles.{triangle_at, triangles}
-use Rattle.delaunay_legalization.specs.plane.Fraction.{Point, whole, IsSame, WithinSegment}
-use Rattle.delaunay_legalization.specs.plane.Fraction.{InsideTriangle}
-use Rattle.delaunay_legalization.specs.plane.Side.{TurnsLeft}
-use Rattle.delaunay_legalization.specs.plane.Circle.{gap}
-use Rattle.delaunay_legalization.specs.plane.Pairs.{place}
-use Rattle.delaunay_legalization.specs.plane.Tiling.{Face, IsEdge, IsFace, HasFace}
-use Rattle.delaunay_legalization.specs.plane.Tiling as T
-use Rattle.delaunay_legalization.specs.plane.Location.{Location, on_vertex, on_edge, on_face}
-use Rattle.delaunay_legalization.specs.plane.Location.{outside_hull, no_triangulation, IsLocation}
-use Rattle.delaunay_legalization.specs.plane.Location.{IsOuter, IsPast}
-use Rattle.delaunay_legalization.proofs.plane.Triangles.{turned_inside}
-use Rattle.delaunay_legalization.specs.plane_theorems.Tiling.Local.{IsMesh}
-use Rattle.delaunay_legalization.proofs.plane_theorems.Tiling.Tiles.{by_signs, point_at}
-use Rattle.delaunay_legalization.proofs.plane_theorems.Tiling.Loops as L
-use Rattle.delaunay_legalization.proofs.plane_theorems.Tiling.Places as P
-use Rattle.delaunay_legalization.proofs.plane_theorems.Tiling.Locations.{each_point_has_one_location}
-use Rattle.delaunay_location.specs.declared.position_in_triangulation.PositionInTriangulation.TheVariants.{
-  OnVertex,
-  OnFace,
-  OutsideOfConvexHull,
-}
-use Rattle.delaunay_legalization.specs.Drawn.{drawn, faces_of, edges_of, outer_of}
-use Rattle.delaunay_legalization.specs.Drawn.{corners_of}
-use Rattle.delaunay_legalization.proofs.OwnEdges.{own_edges}
-use Rattle.delaunay_legalization.proofs.OuterEdges.{real}
-use Rattle.delaunay_legalization.specs.State.{State}
-use Rattle.delaunay_legalization.specs.Shape.{IsTriangulated}
-use Rattle.delaunay_legalization.specs.Parts.{IsApart, IsInsideFaceOf}
-use Rattle.delaunay_location.specs.Location.{Locates, IsClearOfEdge, StartsNearest}
-use Rattle.delaunay_legalization.proofs.EdgePairs.{joins_edge, Contains-map_from}
-use Rattle.delaunay_legalization.proofs.Shapes.{laid_out_distinct}
-use Rattle.delaunay_legalization.proofs.MeshParts.{mesh_edge, mesh_face, no_side}
-use Rattle.delaunay_location.proofs.Distances.{nearer_of_within}
-use Rattle.delaunay_legalization.proofs.plane.Signs.{below_and_not_below}
+use Rattle.plane.specs.{Face, gap, HasFace, InsideTriangle, IsEdge, IsFace, IsLocation, IsOuter}
+use Rattle.plane.specs.{IsPast, IsSame, Location, no_triangulation, on_edge, on_face, on_vertex}
+use Rattle.plane.specs.{outside_hull, place, Point, TurnsLeft, whole, WithinSegment}
+use Rattle.plane.proofs.{below_and_not_below, turned_inside}
+use Rattle.half_edge_links.specs.{face, face_edge, Mesh, origin, rev, triangle_at, triangles}
+use Rattle.plane_theorems.proofs.{by_signs, each_point_has_one_location, point_at}
+use Rattle.delaunay_legalization.specs.{corners_of, drawn, edges_of, faces_of, IsApart}
+use Rattle.delaunay_legalization.specs.{IsInsideFaceOf, IsTriangulated, outer_of, State.State}
+use Rattle.delaunay_legalization.proofs.{joins_edge, mesh_edge, mesh_face, own_edges, real}
+use Rattle.delaunay_legalization.proofs.{EdgePairs.Contains-map_from, Shapes.laid_out_distinct}
+use Rattle.delaunay_legalization.proofs.MeshParts.{no_side}
+use Rattle.delaunay_location.specs.{Locates, OnFace, OnVertex, OutsideOfConvexHull, StartsNearest}
+use Rattle.delaunay_location.specs.Location.{IsClearOfEdge}
+use Rattle.{delaunay_location.proofs.Distances.nearer_of_within, plane_theorems.specs.IsMesh}
+use Rattle.plane.specs.Tiling as T
+use Rattle.plane_theorems.proofs.Tiling.Loops as L
+use Rattle.plane_theorems.proofs.Tiling.Places as P
 
 same_number : (a b : ℤ) → a *ℤ pos 1 ≡ b *ℤ pos 1 → b ≡ a
 same_number a b e = omega (arith, ints)

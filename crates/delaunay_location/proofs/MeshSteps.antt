@@ -1,5 +1,5 @@
 -- From an item that a segment meets to the next, by the links of a mesh.
--- Notions: IsExit, IsPastFace, AreEndsOf; placed_value, starts_at, not_same, positive, at_ends,
+-- Notions: IsExit, IsPastFace, AreEndsOf; embedding_value, starts_at, not_same, positive, at_ends,
 -- side_at, laid, in_mesh, of_mesh, joined, tiles_with, bare, face_at, start_in, start_known,
 -- twin_within, next_spoke, ends_apart, ends_not_within, twin_of_prev, twin_of_next, last_at_edge,
 -- past_face, last_within_overlap, end_of_overlap, end_at_end, last_at_end, last_if_none_leads,
@@ -9,56 +9,34 @@ use Rattle.std.specs.Borrow.{Bor}
 use Rattle.std.proofs.Common.{ℕ, List, length, map, Some, None, sym, ap, subst}
 use Rattle.std.proofs.Common.{inl, inr, arith}
 use Rattle.std.proofs.lemmas.List.{length-map}
-use Rattle.delaunay_location.specs.half_edge_links.Mesh.{Mesh, IsValidMesh, origin, next, prev}
-use Rattle.delaunay_location.specs.half_edge_links.Mesh.{face}
-use Rattle.delaunay_location.specs.half_edge_links.Mesh.{rev}
-use Rattle.delaunay_location.proofs.half_edge_links_lemmas.Lists.Rev.{rev-rev, rev_within}
-use Rattle.delaunay_location.proofs.half_edge_links_lemmas.Sound.Triangles as T
-use Rattle.delaunay_location.specs.half_edge_dcel.Contents.{Contents}
-use Rattle.delaunay_location.specs.plane.Fraction.{Point, Fraction, whole, IsSame, WithinSegment}
-use Rattle.delaunay_location.specs.plane.Side.{Side, side, left, right, on}
-use Rattle.delaunay_location.proofs.plane.Segments.{same-refl}
-use Rattle.delaunay_location.specs.plane.Pairs.{place}
-use Rattle.delaunay_location.specs.plane.Tiling.{Triangulation, IsEdge, IsFace, HasFace, TilesHull}
-use Rattle.delaunay_location.specs.plane.Line.{Item, Meets, at_vertex, across, along}
-use Rattle.plane_theorems.specs.Segments.Steps.{ComesNext, IsLast, IsAhead}
-use Rattle.plane_theorems.specs.Segments.WalkLaws.{IsLaid}
-use Rattle.plane_theorems.proofs.Segments.Walking.LaidMeshes.{meshes_are_laid}
-use Rattle.plane_theorems.proofs.Segments.Walking.Steps.{next_after_crossing, last_crossing}
-use Rattle.plane_theorems.proofs.Segments.Walking.Steps.{next_after_overlap}
-use Rattle.plane_theorems.proofs.Segments.Walking.Steps.{next_after_vertex, last_vertex}
-use Rattle.plane_theorems.proofs.Segments.Walking.Steps.{overlap_ahead}
+use Rattle.plane.specs.{across, along, at_vertex, Fraction, HasFace, IsEdge, IsFace, IsSame, Item}
+use Rattle.plane.specs.{left, Meets, on, place, Point, right, Side, side, TilesHull, Triangulation}
+use Rattle.{plane.proofs.same-refl, plane_theorems.proofs.Segments.First.LineStarts.next_on_line}
+use Rattle.half_edge_links.specs.{face, IsValidMesh, Mesh, next, origin, prev, rev}
+use Rattle.half_edge_links.proofs.{rev-rev, rev_within}
+use Rattle.plane_theorems.specs.{ComesNext, IsAhead, IsLaid, IsLast}
+use Rattle.plane_theorems.proofs.{one_point, Segments.Walking.LaidMeshes.meshes_are_laid}
 use Rattle.plane_theorems.proofs.Segments.Walking.OneLine.{steps_on_one_line}
-use Rattle.plane_theorems.proofs.Segments.First.LineStarts.{next_on_line}
-use Rattle.plane_theorems.proofs.Segments.Crossing.EitherWay.{one_point}
-use Rattle.delaunay_location.specs.delaunay_legalization.Drawn.{drawn, faces_of, edges_of, outer_of}
-use Rattle.delaunay_location.proofs.delaunay_legalization_lemmas.EdgePairs.{edge_joins, joins_edge}
-use Rattle.delaunay_location.proofs.delaunay_legalization_lemmas.EdgePairs.{starts_within}
-use Rattle.delaunay_location.proofs.delaunay_legalization_lemmas.MeshEdits.{face_before}
-use Rattle.delaunay_location.proofs.delaunay_legalization_lemmas.MeshLegal.{no_outer_face}
-use Rattle.delaunay_location.proofs.delaunay_legalization_lemmas.MeshLegal.{line_has_none}
-use Rattle.delaunay_location.proofs.delaunay_legalization_lemmas.MeshStars.{edge_of_face}
-use Rattle.delaunay_location.proofs.delaunay_legalization_lemmas.OwnEdges.{own_edges}
-use Rattle.delaunay_location.specs.delaunay_legalization.Known.{point_at}
-use Rattle.delaunay_location.specs.delaunay_legalization.Placed.{IsPlaced, Reading}
-use Rattle.delaunay_location.proofs.delaunay_legalization_lemmas.Rounds.{IsGoingRound, next_within}
-use Rattle.delaunay_location.proofs.delaunay_legalization_lemmas.Rounds.{next_starts}
-use Rattle.delaunay_location.specs.declared.intersection.FixedIntersection.TheVariants.{
-  Edge,
-  Vertex,
-  Overlap,
-}
-use Rattle.delaunay_location.specs.Items.{item_of}
-use Rattle.delaunay_location.specs.Steps.{IsNext, IsLeftOf, IsEdgeAhead}
-use Rattle.delaunay_location.specs.Steps.{IsInCone, LeadsOn}
-use Rattle.delaunay_location.proofs.SegmentTests.{differs_if_within}
+use Rattle.plane_theorems.proofs.Segments.Walking.Steps.{last_crossing, last_vertex}
+use Rattle.plane_theorems.proofs.Segments.Walking.Steps.{next_after_crossing, next_after_overlap}
+use Rattle.plane_theorems.proofs.Segments.Walking.Steps.{next_after_vertex, overlap_ahead}
+use Rattle.delaunay_legalization.specs.{drawn, edges_of, faces_of, IsEmbedding, outer_of, point_at}
+use Rattle.{delaunay_legalization.specs.Reading, plane.specs.whole, plane.specs.WithinSegment}
+use Rattle.delaunay_legalization.proofs.{edge_joins, edge_of_face, face_before, IsGoingRound}
+use Rattle.delaunay_legalization.proofs.{joins_edge, line_has_none, own_edges}
+use Rattle.delaunay_legalization.proofs.{EdgePairs.starts_within, MeshLegal.no_outer_face}
+use Rattle.delaunay_legalization.proofs.Rounds.{next_starts, next_within}
+use Rattle.delaunay_location.specs.{Edge, IsLeftOf, IsNext, item_of, Overlap, Vertex}
+use Rattle.delaunay_location.specs.Steps.{IsEdgeAhead, IsInCone, LeadsOn}
+use Rattle.{delaunay_location.proofs.SegmentTests.differs_if_within, half_edge_dcel.specs.Contents}
+use Rattle.half_edge_links.proofs.Sound.Triangles as T
 
 -- what holds of a mesh and tests by their fields holds of their value
-pub placed_value : {V D U F P : Type 0} {at : V → Point} {IsSite : P → Point → Type 0}
+pub embedding_value : {V D U F P : Type 0} {at : V → Point} {IsSite : P → Point → Type 0}
     {fields value : Reading V D U F P} → fields ≡ value
-    → IsPlaced at IsSite fields.dcel fields.tests → IsPlaced at IsSite value.dcel value.tests
-placed_value {V = V} {D = D} {U = U} {F = F} {P = P} {at = at} {IsSite = IsSite} same placed =
-    subst (λ (s : Reading V D U F P). IsPlaced at IsSite s.dcel s.tests) same placed
+    → IsEmbedding at IsSite fields.dcel fields.tests → IsEmbedding at IsSite value.dcel value.tests
+embedding_value {V = V} {D = D} {U = U} {F = F} {P = P} {at = at} {IsSite = IsSite} same embedding =
+    subst (λ (s : Reading V D U F P). IsEmbedding at IsSite s.dcel s.tests) same embedding
 
 -- so does where an edge starts
 pub starts_at : {V D U F P : Type 0} {fields value : Reading V D U F P} {v : ℕ}
@@ -108,7 +86,7 @@ pub record AreEndsOf (points : List Point) (m : Mesh) (h v : ℕ) (u w : Point) 
   pub end : w ≡ point_at points (origin m (rev h))
 
 module _ {V D U F P : Type 0} {at : V → Point} {IsSite : P → Point → Type 0}
-    {c : Contents V D U F} {tests : P} (placed : IsPlaced at IsSite c tests) where
+    {c : Contents V D U F} {tests : P} (embedding : IsEmbedding at IsSite c tests) where
   abbrev m : Mesh
   m = c.mesh
 
@@ -120,7 +98,7 @@ module _ {V D U F P : Type 0} {at : V → Point} {IsSite : P → Point → Type 
 
   -- the mesh is valid
   s : IsValidMesh m
-  s = placed.kept.valid
+  s = embedding.kept.valid
 
   -- where directed edge h starts
   abbrev start : ℕ → Fraction
@@ -128,16 +106,16 @@ module _ {V D U F P : Type 0} {at : V → Point} {IsSite : P → Point → Type 
 
   -- the faces tile the hull, or all vertices are on one line
   pub laid : IsLaid t
-  laid = meshes_are_laid points (faces_of m) (outer_of m) (edges_of m) placed.kept.shape
+  laid = meshes_are_laid points (faces_of m) (outer_of m) (edges_of m) embedding.kept.shape
       (own_edges m s)
 
   -- each directed edge with data is one of the mesh
   pub in_mesh : (h : ℕ) → h < length c.directed → h < length m.half_edges
-  in_mesh h w = subst (λ (n : ℕ). h < n) placed.kept.fits.directed_fit w
+  in_mesh h w = subst (λ (n : ℕ). h < n) embedding.kept.fits.directed_fit w
 
   -- and each one of the mesh has data
   pub of_mesh : (h : ℕ) → h < length m.half_edges → h < length c.directed
-  of_mesh h w = subst (λ (n : ℕ). h < n) (sym placed.kept.fits.directed_fit) w
+  of_mesh h w = subst (λ (n : ℕ). h < n) (sym embedding.kept.fits.directed_fit) w
 
   -- the two ends of a directed edge are joined by an edge
   pub joined : (h : ℕ) → h < length m.half_edges → IsEdge t (origin m h) (origin m (rev h))
@@ -153,7 +131,7 @@ module _ {V D U F P : Type 0} {at : V → Point} {IsSite : P → Point → Type 
   -- no face is where the outer one is
   pub bare : (h : ℕ) → h < length m.half_edges → face m h ≡ 0
       → ¬ HasFace t (origin m h) (origin m (rev h))
-  bare h w o f = elim placed.kept.shape as (λ _. ⊥) [
+  bare h w o f = elim embedding.kept.shape as (λ _. ⊥) [
     | inl l ↦ no_outer_face points m s l h w o f.0 f.1
     | inr l ↦ line_has_none m (origin m h) (origin m (rev h)) f.0 l.0 f.1
   ]
@@ -168,7 +146,7 @@ module _ {V D U F P : Type 0} {at : V → Point} {IsSite : P → Point → Type 
   -- the ends of an edge are at two positions
   pub start_in : (h : ℕ) → h < length m.half_edges → origin m h < length points
   start_in h w = starts_within m s.sound (length points)
-      (length-map c.vertices at ∙ placed.kept.fits.vertices_fit) h w
+      (length-map c.vertices at ∙ embedding.kept.fits.vertices_fit) h w
 
   -- an edge starts at a vertex
   pub start_known : (h : ℕ) → h < length c.directed → origin m h < length c.vertices
@@ -197,7 +175,7 @@ module _ {V D U F P : Type 0} {at : V → Point} {IsSite : P → Point → Type 
 
       distinct : place points (origin m h) ≢ place points (origin m (rev h))
       distinct =
-          elim placed.kept.shape as
+          elim embedding.kept.shape as
           (λ _. place points (origin m h) ≢ place points (origin m (rev h))) [
             | inl l ↦ l.distinct (origin m h) (origin m (rev h)) (start_in h w)
                 (start_in (rev h) (rev_within h (length m.half_edges) s.sound.even w)) (s.apart h w)

@@ -4,12 +4,10 @@ use Rattle.std.proofs.Common.{◌≡◌, ◌⊎◌, ℕ, ◌+◌, ◌<◌, ◌�
 use Rattle.std.proofs.Common.{subst, inl, inr}
 use Rattle.std.specs.Prelude.{ℤ, ◌<ℤ◌, ◌≤ℤ◌}
 use Rattle.std.proofs.lemmas.Int.{ints}
-use Rattle.delaunay_legalization.specs.half_edge_links.Mesh.{Mesh, origin}
-use Rattle.delaunay_legalization.specs.plane.Fraction.{Point, whole}
-use Rattle.delaunay_legalization.specs.plane.Circle.{gap}
-use Rattle.delaunay_legalization.specs.plane.Pairs.{place}
-use Rattle.delaunay_legalization.proofs.plane.Signs.{at_most_if_not_less, less_through}
-use Rattle.delaunay_location.specs.Location.{StartsNearest}
+use Rattle.plane.specs.{gap, place, Point, whole}
+use Rattle.plane.proofs.{at_most_if_not_less, less_through}
+use Rattle.half_edge_links.specs.{Mesh, origin}
+use Rattle.delaunay_location.specs.{StartsNearest}
 
 itself : (a : ℤ) → a ≤ℤ a
 itself a = omega (arith, ints)

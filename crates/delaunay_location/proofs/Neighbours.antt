@@ -9,18 +9,14 @@ use Rattle.std.proofs.Math.Nat.{lt_of_lt_of_le}
 use Rattle.std.proofs.lemmas.Int.{ints}
 use Rattle.std.proofs.lemmas.List.{get_or_default}
 use Rattle.std.proofs.lemmas.List.Sums.{count_by-le-length}
-use Rattle.delaunay_legalization.specs.half_edge_links.Mesh.{Mesh, origin, AreSoundLinks}
-use Rattle.delaunay_legalization.specs.plane.Fraction.{Point, Fraction, whole}
-use Rattle.delaunay_legalization.specs.plane.Circle.{gap, IsNearer}
-use Rattle.delaunay_legalization.specs.plane.Pairs.{place}
-use Rattle.delaunay_legalization.specs.plane.Tiling.{Triangulation, vertex}
-use Rattle.delaunay_legalization.proofs.plane.Sides.{test_false}
-use Rattle.plane_theorems.specs.Delaunay.Nearer.{is_nearer, nearer_count}
+use Rattle.plane.specs.{Fraction, gap, IsNearer, place, Point, Triangulation, vertex, whole}
+use Rattle.plane.proofs.{less_with_ones, less_without_ones, test_false}
+use Rattle.half_edge_links.specs.{AreSoundLinks, Mesh, origin}
+use Rattle.plane_theorems.specs.{Delaunay.Nearer.is_nearer, nearer_count}
 use Rattle.plane_theorems.proofs.Delaunay.Circles.NearerCount.{nearer_count_falls}
 use Rattle.plane_theorems.proofs.Delaunay.Points.Members.{member, sum_by-lt}
-use Rattle.delaunay_location.specs.Candidate.{EndsNoNearer, HasNoNearerNeighbor, IsMoveCount}
-use Rattle.delaunay_legalization.proofs.EdgePairs.{joins_edge}
-use Rattle.delaunay_legalization.proofs.plane.Signs.{less_with_ones, less_without_ones}
+use Rattle.{delaunay_legalization.proofs.joins_edge, delaunay_location.specs.EndsNoNearer}
+use Rattle.delaunay_location.specs.Candidate.{HasNoNearerNeighbor, IsMoveCount}
 
 -- which of two points is nearer, by their squared distances
 pub nearer_by_gaps : (p a b : Point) → gap (whole p) (whole a) <ℤ gap (whole p) (whole b) →

@@ -4,41 +4,20 @@ use Rattle.std.proofs.Common.{◌≡◌, ◌≢◌, ◌⊎◌, ◌<◌, ◌∙�
 use Rattle.std.proofs.Common.{ℕ, List, [], length, map, refl, sym, ap, subst, inl, inr, arith}
 use Rattle.std.specs.Prelude.{ℤ, pos, ◌<ℤ◌, ◌≤ℤ◌, Contains}
 use Rattle.std.proofs.lemmas.List.{length-map, nil_from_length}
-use Rattle.delaunay_legalization.specs.half_edge_links.Mesh.{Mesh, origin, next, face, rev}
-use Rattle.delaunay_legalization.specs.half_edge_links.Triangles.{triangle_at, triangles}
-use Rattle.delaunay_legalization.specs.half_edge_links.Outline.{IsOuterEdge}
-use Rattle.delaunay_legalization.proofs.half_edge_links_lemmas.Removing.Conditions.{alone_at}
-use Rattle.delaunay_legalization.specs.plane.Fraction.{Point, whole, WithinSegment}
-use Rattle.delaunay_legalization.specs.plane.Side.{Side, side, right, opposite}
-use Rattle.delaunay_legalization.specs.plane.Location.{IsPast}
-use Rattle.delaunay_legalization.proofs.plane.Bracket.{bracket, lift}
-use Rattle.delaunay_legalization.proofs.plane.BracketIdentities.{bracket-swap, bracket-turn}
-use Rattle.delaunay_legalization.proofs.plane.Collinear.{place_on, place_of_start, place_of_end}
-use Rattle.delaunay_legalization.proofs.plane.Collinear.{within_by_places}
-use Rattle.delaunay_legalization.proofs.plane.LineOrder.{IsBetween, place_within}
-use Rattle.delaunay_legalization.proofs.plane.Sides.{side_swapped}
-use Rattle.delaunay_legalization.proofs.plane.Signs.{less_both_ways, less_if_not_same}
-use Rattle.delaunay_legalization.proofs.plane.Signs.{less_is_not_same, opposite_of_zero}
-use Rattle.delaunay_legalization.proofs.plane_theorems.Tiling.Counting.{same_place}
-use Rattle.delaunay_legalization.proofs.plane_theorems.Tiling.Edges.{within_on}
-use Rattle.delaunay_legalization.proofs.plane_theorems.Tiling.Line.{Adjoin, SignLine}
-use Rattle.delaunay_legalization.proofs.plane_theorems.Tiling.LineMeshes.{line_by_signs}
-use Rattle.delaunay_legalization.proofs.plane_theorems.Tiling.LinePlaces.{ArePlaces, nearest_below}
-use Rattle.delaunay_legalization.proofs.plane_theorems.Tiling.LinePlaces.{next_below}
-use Rattle.delaunay_legalization.proofs.plane_theorems.Tiling.Tiles.{point_at}
-use Rattle.delaunay_legalization.specs.Drawn.{drawn, faces_of, outer_of, corners_of}
-use Rattle.delaunay_legalization.proofs.OuterEdges.{listed, real}
-use Rattle.delaunay_legalization.specs.delaunay_core.Place.{place_of}
-use Rattle.delaunay_legalization.specs.Parts.{IsMeshEdge}
-use Rattle.delaunay_legalization.specs.Shape.{IsTriangulated}
-use Rattle.delaunay_legalization.specs.State.{State}
-use Rattle.delaunay_legalization.proofs.MeshParts.{mesh_edge}
-use Rattle.delaunay_location.specs.Location.{Locates}
-use Rattle.delaunay_location.specs.Stop.{IsStop}
-use Rattle.delaunay_location.specs.declared.steps.Stop.{Stop}
-use Rattle.delaunay_location.specs.declared.position_in_triangulation.PositionInTriangulation.TheVariants.{OutsideOfConvexHull}
-use Rattle.delaunay_location.proofs.Questions.{located_left}
-use Rattle.delaunay_location.proofs.Sides.{across_edge}
+use Rattle.plane.specs.{IsPast, opposite, Point, right, Side, side, whole, WithinSegment}
+use Rattle.plane.proofs.{bracket, bracket-swap, bracket-turn, IsBetween, less_both_ways}
+use Rattle.plane.proofs.{less_if_not_same, less_is_not_same, lift, opposite_of_zero, place_of_end}
+use Rattle.plane.proofs.{place_of_start, place_on, place_within, side_swapped, within_by_places}
+use Rattle.half_edge_links.specs.{face, IsOuterEdge, Mesh, next, origin, rev, triangle_at}
+use Rattle.plane_theorems.proofs.{Adjoin, line_by_signs, point_at, same_place, SignLine, within_on}
+use Rattle.plane_theorems.proofs.Tiling.LinePlaces.{ArePlaces, nearest_below, next_below}
+use Rattle.{delaunay_core.specs.place_of, half_edge_links.specs.triangles}
+use Rattle.delaunay_legalization.specs.{corners_of, drawn, faces_of, IsMeshEdge, IsTriangulated}
+use Rattle.{delaunay_legalization.specs.outer_of, delaunay_legalization.specs.State.State}
+use Rattle.delaunay_legalization.proofs.{listed, mesh_edge, real}
+use Rattle.delaunay_location.specs.{declared.steps.Stop.Stop, Locates, OutsideOfConvexHull}
+use Rattle.{delaunay_location.specs.Stop.IsStop, half_edge_links.proofs.alone_at}
+use Rattle.delaunay_location.proofs.{Questions.located_left, Sides.across_edge}
 
 -- ---- the end of a line: a vertex with one neighbour
 module _ (n : ℕ) (p : ℕ → Point) (outer : List (ℕ × ℕ)) (m : SignLine n p outer)

@@ -10,84 +10,47 @@ use Rattle.std.specs.Prelude.{IfSome, IfNone}
 use Rattle.std.specs.Prelude.{ℤ, pos, ◌<ℤ◌, ◌≤ℤ◌, ◌+ℤ◌, ◌-ℤ◌, ◌*ℤ◌, Contains}
 use Rattle.std.proofs.lemmas.Bool.{cases_eq}
 use Rattle.std.proofs.lemmas.Int.{ints}
-use Rattle.delaunay_location.specs.half_edge_links.Mesh.{Mesh, origin, next, prev, face, rev}
-use Rattle.delaunay_location.proofs.half_edge_links_lemmas.Lists.Rev.{rev-rev, rev_within}
-use Rattle.delaunay_location.proofs.half_edge_links_lemmas.Removing.Conditions.{alone_at}
-use Rattle.delaunay_location.specs.half_edge_dcel.Contents.{Contents}
-use Rattle.delaunay_location.specs.half_edge_links.Outline.{IsOuterEdge}
-use Rattle.delaunay_location.specs.plane.Fraction.{Point, Fraction, whole, IsSame, OnSegment}
-use Rattle.delaunay_location.specs.plane.Side.{Side, side, left, right, on, opposite, TurnsLeft}
-use Rattle.delaunay_location.specs.plane.Pairs.{place}
-use Rattle.delaunay_location.specs.plane.Circle.{IsNearer}
-use Rattle.delaunay_location.specs.plane.Tiling.{Triangulation, IsVertex, IsEdge, vertex}
-use Rattle.delaunay_location.specs.plane.Location.{IsOuter}
-use Rattle.delaunay_location.specs.plane.Line.{Item, IsPointOf, Meets, IsBefore}
-use Rattle.delaunay_location.specs.plane.Line.{IsVertexThenOverlap}
-use Rattle.delaunay_location.specs.plane.Line as L
-use Rattle.delaunay_location.proofs.plane.IntegerLaws.{neg-mul_ℤ}
-use Rattle.delaunay_location.proofs.plane.IntegerOrder.{lt_or_ge_ℤ, trichotomy_ℤ, mul-pos_ℤ}
-use Rattle.delaunay_location.proofs.plane.IntegerOrder.{mul-nonpos_of_nonneg_nonpos_ℤ}
-use Rattle.delaunay_location.proofs.plane.Nearer.{nothing_nearer}
-use Rattle.delaunay_location.proofs.plane.Segments.{start_on_segment}
-use Rattle.delaunay_location.proofs.plane.Sides.{side_swapped}
-use Rattle.delaunay_location.proofs.plane.Steps.{weak, zero_weak_left, left_not_below}
-use Rattle.delaunay_location.proofs.plane.Steps.{left_not_zero, product_zero_left}
-use Rattle.delaunay_location.proofs.plane.Signs.{negated_negative, opposite_of_negative}
-use Rattle.delaunay_location.proofs.plane.Signs.{opposite_of_positive, opposite_of_zero_of}
-use Rattle.delaunay_location.proofs.plane.Signs.{opposite_of_not_positive}
-use Rattle.delaunay_location.proofs.plane_theorems.Delaunay.Points.AlongSegment.{Placed, sooner}
-use Rattle.delaunay_location.proofs.plane_theorems.Delaunay.Points.AlongSegment.{as_soon}
-use Rattle.delaunay_location.proofs.plane_theorems.Delaunay.Points.AlongSegment.{later, placed}
-use Rattle.delaunay_location.proofs.plane_theorems.Delaunay.Points.Bracket.{bracket}
-use Rattle.delaunay_location.proofs.plane_theorems.Delaunay.Points.Bracket.{bracket-swapped}
-use Rattle.delaunay_location.proofs.plane_theorems.Delaunay.Points.Bracket.{bracket-turned}
-use Rattle.delaunay_location.proofs.plane_theorems.Delaunay.Points.Bracket.{cramer-w}
-use Rattle.delaunay_location.proofs.plane_theorems.Delaunay.Points.Bracket.{bracket-first}
-use Rattle.delaunay_location.proofs.plane_theorems.Delaunay.Points.Bracket.{bracket-second}
-use Rattle.delaunay_location.proofs.plane_theorems.Delaunay.Points.Bracket.{meeting, above_if_left}
-use Rattle.delaunay_location.proofs.plane_theorems.Delaunay.Points.Bracket.{left_if_above}
-use Rattle.delaunay_location.proofs.plane_theorems.Tiling.Counting.{SignMesh}
-use Rattle.delaunay_location.proofs.plane_theorems.Tiling.Tiles.{point_at, by_signs}
-use Rattle.delaunay_location.proofs.plane_theorems.Tiling.Tiles.{bracket_not_left}
-use Rattle.delaunay_location.specs.plane_theorems.Tiling.Local.{LineMesh}
-use Rattle.delaunay_location.proofs.plane_theorems.Tiling.Line.{SignLine, Adjoin, next_turned}
-use Rattle.delaunay_location.proofs.plane_theorems.Tiling.LineMeshes.{line_by_signs}
-use Rattle.delaunay_location.proofs.plane_theorems.Edits.Insertion.Hull.{start_supports}
-use Rattle.delaunay_location.proofs.plane_theorems.Edits.Insertion.Hull.{end_supports}
-use Rattle.delaunay_location.specs.delaunay_legalization.Drawn.{drawn, faces_of, outer_of}
-use Rattle.delaunay_location.specs.delaunay_legalization.Placed.{IsPlaced}
-use Rattle.delaunay_location.proofs.delaunay_legalization_lemmas.MeshLegal.{line_has_none}
-use Rattle.delaunay_location.proofs.delaunay_legalization_lemmas.MeshLegal.{none_or_some}
-use Rattle.delaunay_location.proofs.delaunay_legalization_lemmas.OuterEdges.{listed, real, one_edge}
-use Rattle.delaunay_location.specs.Location.{Locates}
-use Rattle.delaunay_location.specs.declared.position_in_triangulation.PositionInTriangulation.TheVariants.{OutsideOfConvexHull}
-use Rattle.delaunay_location.specs.declared.intersection.FixedIntersection.TheVariants.{Edge}
-use Rattle.delaunay_location.specs.declared.intersection.FixedIntersection.TheVariants.{Vertex}
-use Rattle.delaunay_location.specs.Steps.{IsLeftOf}
-use Rattle.delaunay_location.specs.Starts.{StartsOutside}
-use Rattle.delaunay_location.specs.Outline.{IsIfSeen, IsSeenOuter, IsTurningPoint}
-use Rattle.delaunay_location.specs.Walk.{Starts}
-use Rattle.delaunay_location.proofs.LineOutline.{end_supported, start_supported, seen_after}
-use Rattle.delaunay_location.proofs.LineOutline.{seen_before}
-use Rattle.delaunay_location.proofs.MeshSteps.{laid, in_mesh, of_mesh, joined, bare, face_at}
-use Rattle.delaunay_location.proofs.MeshSteps.{start_in, start_known, not_same}
-use Rattle.delaunay_location.proofs.FirstItems.{starts_first, nothing_met}
-use Rattle.delaunay_location.proofs.OutsideItems.{enters}
-use Rattle.delaunay_location.proofs.SegmentTests.{unless}
-use Rattle.delaunay_location.proofs.plane_theorems.Delaunay.Floods.Flooded.{segment_from}
-use Rattle.delaunay_location.proofs.plane_theorems.Delaunay.Segments.LineItems.{Begins, begins}
-use Rattle.plane_theorems.specs.Segments.Steps.{IsFirst, IsWalk}
-use Rattle.plane_theorems.proofs.Segments.Items.Begins.{above-same}
-use Rattle.plane_theorems.proofs.Segments.Items.Orders.{nearer-same_second}
+use Rattle.plane.specs.{Fraction, IsBefore, IsEdge, IsNearer, IsOuter, IsPointOf, IsSame, IsVertex}
+use Rattle.plane.specs.{IsVertexThenOverlap, Item, left, Meets, on, OnSegment, opposite, place}
+use Rattle.plane.specs.{Point, right, Side, side, Triangulation, TurnsLeft, vertex, whole}
+use Rattle.plane.proofs.{left_not_below, left_not_zero, lt_or_ge_ℤ, mul-nonpos_of_nonneg_nonpos_ℤ}
+use Rattle.plane.proofs.{mul-pos_ℤ, neg-mul_ℤ, negated_negative, nothing_nearer}
+use Rattle.plane.proofs.{opposite_of_negative, opposite_of_not_positive, opposite_of_positive}
+use Rattle.plane.proofs.{opposite_of_zero_of, product_zero_left, side_swapped, start_on_segment}
+use Rattle.plane.proofs.{trichotomy_ℤ, weak, zero_weak_left}
+use Rattle.half_edge_links.specs.{face, IsOuterEdge, Mesh, next, origin, prev, rev}
+use Rattle.half_edge_links.proofs.{alone_at, rev-rev, rev_within}
+use Rattle.plane_theorems.specs.{IsFirst, IsLaid, IsWalk, LineMesh}
+use Rattle.plane_theorems.proofs.{Adjoin, bracket, bracket-second, bracket-swapped, by_signs}
+use Rattle.plane_theorems.proofs.{line_by_signs, nearer-same_second, next_turned, point_at}
+use Rattle.plane_theorems.proofs.{Segments.Next.Ends.item_not_left_of_outer, SignLine, SignMesh}
+use Rattle.plane_theorems.proofs.Delaunay.Floods.Flooded.{segment_from}
+use Rattle.plane_theorems.proofs.Delaunay.Points.AlongSegment.{as_soon, later, order_along}
+use Rattle.plane_theorems.proofs.Delaunay.Points.AlongSegment.{OrderAlong, sooner}
+use Rattle.plane_theorems.proofs.Delaunay.Points.Bracket.{above_if_left, bracket-first}
+use Rattle.plane_theorems.proofs.Delaunay.Points.Bracket.{bracket-turned, cramer-w, left_if_above}
+use Rattle.plane_theorems.proofs.{Delaunay.Points.Bracket.meeting, Segments.Items.Begins.above-same}
+use Rattle.plane_theorems.proofs.Delaunay.Segments.LineItems.{Begins, begins}
+use Rattle.plane_theorems.proofs.Edits.Insertion.Hull.{end_supports, start_supports}
 use Rattle.plane_theorems.proofs.Segments.Items.SideSigns.{below_if_right, none_if_on}
-use Rattle.plane_theorems.proofs.Segments.Items.Slopes.{slope, slope_above, later_is_higher}
-use Rattle.plane_theorems.proofs.Segments.Items.Slopes.{left_along}
-use Rattle.plane_theorems.proofs.Segments.Items.Slopes.{left_before}
-use Rattle.plane_theorems.proofs.Segments.Next.Ends.{item_not_left_of_outer}
-use Rattle.plane_theorems.specs.Segments.WalkLaws.{IsLaid}
+use Rattle.plane_theorems.proofs.Segments.Items.Slopes.{later_is_higher, left_along, left_before}
+use Rattle.plane_theorems.proofs.Segments.Items.Slopes.{slope, slope_above}
 use Rattle.plane_theorems.proofs.Segments.Walking.EachWalk.{ends_differ}
-use Rattle.plane_theorems.proofs.Segments.Walking.OneLine.{line_ends, item_level}
+use Rattle.plane_theorems.proofs.Segments.Walking.OneLine.{item_level, line_ends}
 use Rattle.plane_theorems.proofs.Segments.Walking.WalkSteps.{meeting_of}
+use Rattle.delaunay_legalization.specs.{drawn, faces_of, IsEmbedding, outer_of}
+use Rattle.delaunay_legalization.proofs.{line_has_none, listed, none_or_some, real}
+use Rattle.{delaunay_legalization.proofs.OuterEdges.one_edge, delaunay_location.specs.Walk.Starts}
+use Rattle.delaunay_location.specs.{Edge, IsLeftOf, Locates, OutsideOfConvexHull, StartsOutside}
+use Rattle.{delaunay_location.specs.Vertex, plane_theorems.proofs.Tiling.Tiles.bracket_not_left}
+use Rattle.delaunay_location.specs.Outline.{IsIfSeen, IsSeenOuter, IsTurningPoint}
+use Rattle.delaunay_location.proofs.FirstItems.{nothing_met, starts_first}
+use Rattle.delaunay_location.proofs.LineOutline.{end_supported, seen_after, seen_before}
+use Rattle.delaunay_location.proofs.{LineOutline.start_supported, OutsideItems.enters}
+use Rattle.delaunay_location.proofs.MeshSteps.{bare, face_at, in_mesh, joined, laid, not_same}
+use Rattle.delaunay_location.proofs.MeshSteps.{of_mesh, start_in, start_known}
+use Rattle.{delaunay_location.proofs.SegmentTests.unless, half_edge_dcel.specs.Contents}
+use Rattle.plane.specs.Line as L
 
 -- ---- numbers
 first_part : (f g x y k z l w : ℤ) → f *ℤ x -ℤ g *ℤ y ≡ k *ℤ z -ℤ l *ℤ w → l ≡ pos 0
@@ -169,13 +132,13 @@ module _ (t : Triangulation) (h : IsLaid t) (p q : Fraction) (apart : ¬ IsSame 
 
       -- a segment to its other side meets nothing
       pub nothing_beyond : bracket u v p ≡ pos 0 → pos 0 <ℤ bracket u v q → IsWalk t p q []
-      nothing_beyond level high k met = go (placed p q apart p s.at (start_on_segment p q)
+      nothing_beyond level high k met = go (order_along p q apart p s.at (start_on_segment p q)
           s.begins.shared)
         where
           s : Begins t p q k
           s = begins t p q k met
 
-          go : Placed p p s.at → ⊥
+          go : OrderAlong p p s.at → ⊥
           go (sooner n) = item_below k met s.at s.begins.of_item
               (later_is_higher p q apart u v p s.at (start_on_segment p q) s.begins.shared n
               (rises u v p q level high) (zero_weak_left level))
@@ -285,7 +248,7 @@ swapped_right right n f = cc
 
 -- ---- over a mesh
 module _ {V D U F P : Type 0} {at : V → Point} {IsSite : P → Point → Type 0}
-    {c : Contents V D U F} {tests : P} (placed : IsPlaced at IsSite c tests) where
+    {c : Contents V D U F} {tests : P} (embedding : IsEmbedding at IsSite c tests) where
   abbrev m : Mesh
   m = c.mesh
 
@@ -296,7 +259,7 @@ module _ {V D U F P : Type 0} {at : V → Point} {IsSite : P → Point → Type 
   t = drawn points m
 
   t_laid : IsLaid t
-  t_laid = laid placed
+  t_laid = laid embedding
 
   -- located beyond an outer edge with p on its left, p sees this edge
   pub seen_from : {p : Point} (e : ℕ) → Locates points m p (OutsideOfConvexHull e) → (r : Option ℕ)
@@ -304,7 +267,7 @@ module _ {V D U F P : Type 0} {at : V → Point} {IsSite : P → Point → Type 
       → IfSome r (IsSeenOuter at c p)
   seen_from e l None x = tt
   seen_from {p = p} e l (Some k) x = subst (IsSeenOuter at c p) (sym x.0) (record {
-    within = of_mesh placed e l.handle.0;
+    within = of_mesh embedding e l.handle.0;
     outer = l.handle.1;
     seen = x.1;
   })
@@ -313,26 +276,26 @@ module _ {V D U F P : Type 0} {at : V → Point} {IsSite : P → Point → Type 
   sees_after : {p : Point} (h : ℕ) → h < length c.directed → face m h ≡ 0
       → IsLeftOf points m p (next m h) → IsSeenOuter at c p (next m h)
   sees_after h within o l =
-      let here = placed.kept.valid.sound.edges h (in_mesh placed h within) in
+      let here = embedding.kept.valid.sound.edges h (in_mesh embedding h within) in
       record {
-        within = of_mesh placed (next m h) here.next_in;
+        within = of_mesh embedding (next m h) here.next_in;
         outer = here.same_face ∙ o;
         seen = l;
       }
 
   outer_before : (h : ℕ) → h < length m.half_edges → face m h ≡ 0 → face m (prev m h) ≡ 0
   outer_before h w o =
-      let here = placed.kept.valid.sound.edges h w in
-      sym (placed.kept.valid.sound.edges (prev m h) here.prev_in).same_face
+      let here = embedding.kept.valid.sound.edges h w in
+      sym (embedding.kept.valid.sound.edges (prev m h) here.prev_in).same_face
       ∙ ap (face m) here.next_prev ∙ o
 
   sees_before : {p : Point} (h : ℕ) → h < length c.directed → face m h ≡ 0
       → IsLeftOf points m p (prev m h) → IsSeenOuter at c p (prev m h)
   sees_before h within o l =
-      let w = in_mesh placed h within in
+      let w = in_mesh embedding h within in
       record {
-        within = of_mesh placed (prev m h)
-            (placed.kept.valid.sound.edges h w).prev_in;
+        within = of_mesh embedding (prev m h)
+            (embedding.kept.valid.sound.edges h w).prev_in;
         outer = outer_before h w o;
         seen = l;
       }
@@ -382,15 +345,15 @@ module _ {V D U F P : Type 0} {at : V → Point} {IsSite : P → Point → Type 
     ways_apart = not_same p q apart
 
     w : h < length m.half_edges
-    w = in_mesh placed h s.within
+    w = in_mesh embedding h s.within
 
     r_in : rev h < length m.half_edges
-    r_in = rev_within h (length m.half_edges) placed.kept.valid.sound.even w
+    r_in = rev_within h (length m.half_edges) embedding.kept.valid.sound.even w
 
     outer : IsOuter t (origin m h) (origin m (rev h))
     outer = (
-      joined placed h w,
-      bare placed h w s.outer,
+      joined embedding h w,
+      bare embedding h w s.outer,
     )
 
     seen : pos 0 <ℤ bracket X Y (whole p)
@@ -398,7 +361,7 @@ module _ {V D U F P : Type 0} {at : V → Point} {IsSite : P → Point → Type 
 
     -- to its left it meets nothing
     pub nothing_on_its_left : IsLeftOf points m q h → Starts at c p q None
-    nothing_on_its_left l = nothing_met placed apart
+    nothing_on_its_left l = nothing_met embedding apart
         (nothing_on_left t t_laid (whole p) (whole q) ways_apart (origin m h) (origin m (rev h))
         outer seen (above_if_left _ _ _ l))
 
@@ -417,7 +380,7 @@ module _ {V D U F P : Type 0} {at : V → Point} {IsSite : P → Point → Type 
     own = record { within = w; outer = s.outer; source = refl; target = refl }
 
     after : IsOuterEdge m (next m h) (origin m (rev h)) far
-    after = let here = placed.kept.valid.sound.edges h w in record {
+    after = let here = embedding.kept.valid.sound.edges h w in record {
       within = here.next_in;
       outer = here.same_face ∙ s.outer;
       source = here.starts;
@@ -425,11 +388,11 @@ module _ {V D U F P : Type 0} {at : V → Point} {IsSite : P → Point → Type 
     }
 
     before : IsOuterEdge m (prev m h) early (origin m h)
-    before = let here = placed.kept.valid.sound.edges h w in record {
+    before = let here = embedding.kept.valid.sound.edges h w in record {
       within = here.prev_in;
       outer = outer_before h w s.outer;
       source = refl;
-      target = sym (placed.kept.valid.sound.edges (prev m h) here.prev_in).starts
+      target = sym (embedding.kept.valid.sound.edges (prev m h) here.prev_in).starts
           ∙ ap (origin m) here.next_prev;
     }
 
@@ -480,7 +443,7 @@ module _ {V D U F P : Type 0} {at : V → Point} {IsSite : P → Point → Type 
           | inl o ↦ o
           | inr inner ↦ absurd (line_has_none m (origin m (rev h)) (origin m (rev (rev h)))
               (origin m (prev m (rev h))) flat
-              (face_at placed (rev h) r_in inner))
+              (face_at embedding (rev h) r_in inner))
         ];
         source = refl;
         target = ap (origin m) (rev-rev h);
@@ -490,15 +453,15 @@ module _ {V D U F P : Type 0} {at : V → Point} {IsSite : P → Point → Type 
           → j ≡ origin m h
       only_after back j l =
           let g = real m (origin m (rev h)) j l in
-          sym g.1.target ∙ ap (λ k. origin m (rev k)) (alone_at m (rev h) placed.kept.valid r_in
+          sym g.1.target ∙ ap (λ k. origin m (rev k)) (alone_at m (rev h) embedding.kept.valid r_in
           (ap (next m) (rev-rev h) ∙ back) g.0 g.1.within g.1.source) ∙ ap (origin m) (rev-rev h)
 
       only_before : prev m h ≡ rev h → (j : ℕ) → Contains (outer_of m) (origin m h, j)
           → j ≡ origin m (rev h)
       only_before back j l =
           let g = real m (origin m h) j l in
-          sym g.1.target ∙ ap (λ k. origin m (rev k)) (alone_at m h placed.kept.valid w
-          (ap (next m) (sym back) ∙ (placed.kept.valid.sound.edges h w).next_prev)
+          sym g.1.target ∙ ap (λ k. origin m (rev k)) (alone_at m h embedding.kept.valid w
+          (ap (next m) (sym back) ∙ (embedding.kept.valid.sound.edges h w).next_prev)
           g.0 g.1.within g.1.source)
 
       end_of_line : ¬ IsLeftOf points m p (next m h) → (k : ℕ) → IsVertex t k
@@ -538,14 +501,14 @@ module _ {V D U F P : Type 0} {at : V → Point} {IsSite : P → Point → Type 
 
     end_side : ¬ IsLeftOf points m p (next m h) → (k : ℕ) → IsVertex t k
         → bracket (whole p) Y (vertex t k) ≤ℤ pos 0
-    end_side = elim placed.kept.shape [
+    end_side = elim embedding.kept.shape [
       | inl l ↦ end_of_hull (by_signs points (faces_of m) (outer_of m) l)
       | inr l ↦ end_of_line l.0 l.1
     ]
 
     start_side : ¬ IsLeftOf points m p (prev m h) → (k : ℕ) → IsVertex t k
         → bracket X (whole p) (vertex t k) ≤ℤ pos 0
-    start_side = elim placed.kept.shape [
+    start_side = elim embedding.kept.shape [
       | inl l ↦ start_of_hull (by_signs points (faces_of m) (outer_of m) l)
       | inr l ↦ start_of_line l.0 l.1
     ]
@@ -553,7 +516,7 @@ module _ {V D U F P : Type 0} {at : V → Point} {IsSite : P → Point → Type 
     -- past the last edge that p sees it meets nothing
     pub nothing_past_end : side (whole p) (whole q) Y ≡ right → ¬ IsLeftOf points m p (next m h)
         → Starts at c p q None
-    nothing_past_end e blind = nothing_met placed apart
+    nothing_past_end e blind = nothing_met embedding apart
         (nothing_beyond t t_laid (whole p) (whole q) ways_apart (origin m h) (origin m (rev h))
         outer seen (whole p) Y (end_side blind) (bracket-first (whole p) Y)
         (opposite_of_negative (bracket (whole p) Y (whole q)) (bracket (whole p) (whole q) Y)
@@ -563,7 +526,7 @@ module _ {V D U F P : Type 0} {at : V → Point} {IsSite : P → Point → Type 
     -- nor before the first one
     pub nothing_past_start : side (whole p) (whole q) X ≡ left → ¬ IsLeftOf points m p (prev m h)
         → Starts at c p q None
-    nothing_past_start e blind = nothing_met placed apart
+    nothing_past_start e blind = nothing_met embedding apart
         (nothing_beyond t t_laid (whole p) (whole q) ways_apart (origin m h) (origin m (rev h))
         outer seen X (whole p) (start_side blind) (bracket-second X (whole p))
         (subst (λ z. pos 0 <ℤ z) (bracket-turned X (whole p) (whole q))
@@ -588,28 +551,28 @@ module _ {V D U F P : Type 0} {at : V → Point} {IsSite : P → Point → Type 
       -- the end of the edge
       pub end_met : side (whole p) (whole q) Y ≡ on → ¬ (side (whole p) (whole q) X ≡ left)
           → Starts at c p q (Some (Vertex (origin m (rev h))))
-      end_met e n = starts_first placed apart (Vertex (origin m (rev h)))
-          (start_known placed (rev h) (of_mesh placed (rev h) r_in))
+      end_met e n = starts_first embedding apart (Vertex (origin m (rev h)))
+          (start_known embedding (rev h) (of_mesh embedding (rev h) r_in))
           (end_first t t_laid (whole p) (whole q) ways_apart (origin m h) (origin m (rev h)) outer
-          seen not_above (start_in placed (rev h) r_in)
+          seen not_above (start_in embedding (rev h) r_in)
           (none_if_on (whole p) (whole q) Y e)
           (start_below e n))
 
       -- the start of the edge
       pub start_met : side (whole p) (whole q) X ≡ on → side (whole p) (whole q) Y ≡ left
           → Starts at c p q (Some (Vertex (origin m h)))
-      start_met e l = starts_first placed apart (Vertex (origin m h))
-          (start_known placed h s.within)
+      start_met e l = starts_first embedding apart (Vertex (origin m h))
+          (start_known embedding h s.within)
           (start_first t t_laid (whole p) (whole q) ways_apart (origin m h) (origin m (rev h))
-          outer seen not_above (start_in placed h w)
+          outer seen not_above (start_in embedding h w)
           (none_if_on (whole p) (whole q) X e)
           (above_if_left (whole p) (whole q) Y l))
 
       -- the edge itself
       pub edge_met : StartsOutside t p → side (whole p) (whole q) X ≡ right
           → side (whole p) (whole q) Y ≡ left → Starts at c p q (Some (Edge (rev h)))
-      edge_met outside r l = enters placed outside apart (rev h)
-          (of_mesh placed (rev h) r_in) (
+      edge_met outside r l = enters embedding outside apart (rev h)
+          (of_mesh embedding (rev h) r_in) (
             subst (λ (k : ℕ). face m k ≡ 0) twice s.outer,
             (
               (

@@ -5,50 +5,29 @@ use Rattle.std.proofs.Common.{sym, subst, inl, inr, arith}
 use Rattle.std.specs.Prelude.{ℤ, pos, ◌<ℤ◌, ◌+ℤ◌, ◌*ℤ◌}
 use Rattle.std.proofs.lemmas.Bool.{cases_eq}
 use Rattle.std.proofs.lemmas.Int.{ints}
-use Rattle.delaunay_location.specs.half_edge_dcel.Contents.{Contents}
-use Rattle.delaunay_location.specs.half_edge_links.Mesh.{Mesh, origin}
-use Rattle.delaunay_location.specs.plane.Circle.{IsNearer}
-use Rattle.delaunay_location.specs.plane.Fraction.{Point, Fraction, whole, IsSame, OnSegment}
-use Rattle.delaunay_location.specs.plane.Fraction.{WithinSegment, IsNotNegative, IsPositive}
-use Rattle.delaunay_location.specs.plane.Line.{Meets, at_vertex, across}
-use Rattle.delaunay_location.specs.plane.Location.{IsPast}
-use Rattle.delaunay_location.specs.plane.Tiling.{Triangulation, IsVertex, vertex, TilesHull}
-use Rattle.delaunay_location.specs.plane.Tiling.{JoinsLine}
-use Rattle.delaunay_location.proofs.plane.IntegerOrder.{mul-pos_ℤ, mul-nonneg_ℤ, pos_of_mul-pos_ℤ}
-use Rattle.delaunay_location.proofs.plane.Means.{TwoWeights, two_weights}
-use Rattle.delaunay_location.proofs.plane.Nearer.{same_not_nearer}
-use Rattle.delaunay_location.proofs.plane.Segments.{on_segment_is, on_of_within, end_on_segment}
-use Rattle.delaunay_location.proofs.plane.Segments.{same-refl}
-use Rattle.delaunay_location.proofs.plane.Signs.{at_most_and_more, sum_not_negative_of}
-use Rattle.delaunay_location.proofs.plane.Signs.{opposite_of_negative, opposites_not_both_positive}
-use Rattle.delaunay_location.proofs.plane.Solver.{◌⊕◌, ◌⊗◌, ring_in_from}
-use Rattle.delaunay_location.proofs.plane.Steps.{weak, product_zero_left}
-use Rattle.delaunay_location.proofs.plane_theorems.Delaunay.Circles.EmptyCircles.{weights_along}
-use Rattle.delaunay_location.proofs.plane_theorems.Delaunay.Floods.Flooded.{segment_from}
-use Rattle.delaunay_location.proofs.plane_theorems.Delaunay.Points.AlongSegment.{reach_less}
-use Rattle.delaunay_location.proofs.plane_theorems.Delaunay.Points.Bracket.{bracket, bracket-first}
-use Rattle.delaunay_location.proofs.plane_theorems.Delaunay.Points.Bracket.{bracket-second}
-use Rattle.delaunay_location.proofs.plane_theorems.Delaunay.Points.Bracket.{bracket-swapped}
-use Rattle.delaunay_location.proofs.plane_theorems.Delaunay.Points.Bracket.{above_if_left}
-use Rattle.delaunay_location.specs.plane_theorems.Tiling.Laws.{EdgesMeetAtVertices}
-use Rattle.plane_theorems.specs.Segments.LineLaws.{ArePlacedOnce}
-use Rattle.plane_theorems.specs.Segments.WalkLaws.{IsLaid}
+use Rattle.plane.specs.{across, at_vertex, Fraction, IsNearer, IsNotNegative, IsPast, IsPositive}
+use Rattle.plane.specs.{IsSame, IsVertex, JoinsLine, Meets, OnSegment, Point, TilesHull}
+use Rattle.plane.specs.{Triangulation, vertex, whole, WithinSegment}
+use Rattle.plane.proofs.{◌⊕◌, ◌⊗◌, at_most_and_more, end_on_segment, mul-nonneg_ℤ, mul-pos_ℤ}
+use Rattle.plane.proofs.{on_of_within, on_segment_is, opposite_of_negative}
+use Rattle.plane.proofs.{opposites_not_both_positive, pos_of_mul-pos_ℤ, product_zero_left}
+use Rattle.plane.proofs.{ring_in_from, same-refl, same_not_nearer, sum_not_negative_of, two_weights}
+use Rattle.plane_theorems.specs.{EdgesMeetAtVertices, IsLaid, Segments.LineLaws.ArePlacedOnce}
+use Rattle.plane_theorems.proofs.{bracket, bracket-second, bracket-swapped, first_on_line}
+use Rattle.plane_theorems.proofs.Delaunay.Circles.EmptyCircles.{weights_along}
+use Rattle.plane_theorems.proofs.Delaunay.Floods.Flooded.{segment_from}
+use Rattle.plane_theorems.proofs.Delaunay.Points.AlongSegment.{reach_less}
+use Rattle.plane_theorems.proofs.Delaunay.Points.Bracket.{above_if_left, bracket-first}
 use Rattle.plane_theorems.proofs.Segments.First.EdgeStarts.{crossing_on_line}
-use Rattle.plane_theorems.proofs.Segments.First.LineStarts.{first_on_line}
 use Rattle.plane_theorems.proofs.Segments.Items.SideSigns.{below_if_right}
 use Rattle.plane_theorems.proofs.Segments.Walking.OneLine.{line_ends}
-use Rattle.delaunay_location.specs.delaunay_legalization.Drawn.{drawn}
-use Rattle.delaunay_location.specs.Location.{Locates}
-use Rattle.delaunay_location.specs.declared.position_in_triangulation.PositionInTriangulation.TheVariants.{OutsideOfConvexHull}
-use Rattle.delaunay_location.specs.delaunay_legalization.Known.{point_at}
-use Rattle.delaunay_location.specs.delaunay_legalization.Placed.{IsPlaced}
-use Rattle.delaunay_location.specs.declared.intersection.FixedIntersection.TheVariants.{Vertex}
-use Rattle.delaunay_location.specs.Starts.{StartsOutside}
-use Rattle.delaunay_location.specs.Steps.{IsLeftOf}
+use Rattle.{half_edge_dcel.specs.Contents, half_edge_links.specs.Mesh, half_edge_links.specs.origin}
+use Rattle.delaunay_legalization.specs.{drawn, IsEmbedding, point_at}
+use Rattle.delaunay_location.specs.{IsLeftOf, Locates, OutsideOfConvexHull, StartsOutside, Vertex}
 use Rattle.delaunay_location.specs.Walk.{Starts}
-use Rattle.delaunay_location.proofs.FirstItems.{starts_first, nothing_met}
-use Rattle.delaunay_location.proofs.Located.{none_past}
-use Rattle.delaunay_location.proofs.MeshSteps.{laid, in_mesh, start_in, start_known, not_same}
+use Rattle.delaunay_location.proofs.FirstItems.{nothing_met, starts_first}
+use Rattle.{delaunay_location.proofs.Located.none_past, plane.proofs.TwoWeights, plane.proofs.weak}
+use Rattle.delaunay_location.proofs.MeshSteps.{in_mesh, laid, not_same, start_in, start_known}
 
 -- ---- a point i strictly within the way from p to k
 module _ (p k i : Fraction) (within : WithinSegment p k i) where
@@ -102,7 +81,7 @@ module _ (p k i : Fraction) (within : WithinSegment p k i) where
 
 -- ---- over a mesh
 module _ {V D U F P : Type 0} {at : V → Point} {IsSite : P → Point → Type 0}
-    {c : Contents V D U F} {tests : P} (placed : IsPlaced at IsSite c tests) where
+    {c : Contents V D U F} {tests : P} (embedding : IsEmbedding at IsSite c tests) where
   abbrev m : Mesh
   m = c.mesh
 
@@ -127,17 +106,17 @@ module _ {V D U F P : Type 0} {at : V → Point} {IsSite : P → Point → Type 
     end = origin m h
 
     end_in : IsVertex t end
-    end_in = start_in placed h
-        (in_mesh placed h h_in)
+    end_in = start_in embedding h
+        (in_mesh embedding h h_in)
 
     t_laid : IsLaid t
-    t_laid = laid placed
+    t_laid = laid embedding
 
     ways_apart : ¬ IsSame (whole p) (whole q)
     ways_apart = not_same p q apart
 
     no_hull : ¬ TilesHull t
-    no_hull tiles = none_past placed tiles p end end_in past
+    no_hull tiles = none_past embedding tiles p end end_in past
 
     -- a segment through a vertex passes the end
     end_on_way : (k : ℕ) → Meets t (whole p) (whole q) (at_vertex k)
@@ -190,7 +169,7 @@ module _ {V D U F P : Type 0} {at : V → Point} {IsSite : P → Point → Type 
         → Starts at c p q (Some (Vertex end))
     end_passed is met =
         let on = subst (λ (x : Point). OnSegment (whole p) (whole q) (whole x)) is met in
-        starts_first placed apart (Vertex end) (start_known placed h h_in) (elim t_laid [
+        starts_first embedding apart (Vertex end) (start_known embedding h h_in) (elim t_laid [
           | inl tiles ↦ absurd (no_hull tiles)
           | inr l ↦ ((first_on_line t l.0 l.1 l.2 (whole p) (whole q) ways_apart).3
               outside.no_edge).0 end (end_in, on) none_sooner
@@ -202,7 +181,7 @@ module _ {V D U F P : Type 0} {at : V → Point} {IsSite : P → Point → Type 
     end_missed is missed =
         let off = λ (on : OnSegment (whole p) (whole q) (vertex t end)).
         missed (subst (λ (x : Point). OnSegment (whole p) (whole q) (whole x)) (sym is) on) in
-        nothing_met placed apart (elim t_laid [
+        nothing_met embedding apart (elim t_laid [
           | inl tiles ↦ absurd (no_hull tiles)
           | inr l ↦
               ((first_on_line t l.0 l.1 l.2 (whole p) (whole q) ways_apart).3 outside.no_edge).1

@@ -3,15 +3,11 @@
 -- next_face.
 use Rattle.std.proofs.Common.{◌≡◌, ◌↔◌, ℕ, ◌+◌, ◌<◌, ◌≤◌, arith, List, sym, subst, inl, inr}
 use Rattle.std.proofs.lemmas.Bool.{cases_eq}
-use Rattle.delaunay_legalization.specs.half_edge_links.Mesh.{Mesh, origin, next, prev, face}
-use Rattle.delaunay_legalization.specs.half_edge_links.Mesh.{face_edge, rev}
-use Rattle.delaunay_legalization.specs.plane.Fraction.{Point, whole, WithinSegment, InsideTriangle}
-use Rattle.delaunay_legalization.specs.plane.Side.{TurnsLeft}
-use Rattle.delaunay_legalization.specs.plane.Pairs.{place}
-use Rattle.delaunay_location.specs.declared.position_in_triangulation.PositionInTriangulation.TheVariants.{OutsideOfConvexHull}
-use Rattle.delaunay_legalization.specs.Known.{point_at}
-use Rattle.delaunay_legalization.specs.Parts.{IsMeshEdge, IsMeshFace, IsWithinEdge, IsInsideFaceOf}
-use Rattle.delaunay_location.specs.Location.{Locates, IsClearOfEdge}
+use Rattle.plane.specs.{InsideTriangle, place, Point, TurnsLeft, whole, WithinSegment}
+use Rattle.half_edge_links.specs.{face, face_edge, Mesh, next, origin, prev, rev}
+use Rattle.delaunay_legalization.specs.{IsInsideFaceOf, IsMeshEdge, IsMeshFace, IsWithinEdge}
+use Rattle.delaunay_legalization.specs.{point_at}
+use Rattle.delaunay_location.specs.{Locates, Location.IsClearOfEdge, OutsideOfConvexHull}
 
 module _ (points : List Point) (m : Mesh) (p a b : Point) (e : ℕ)
     (from : a ≡ point_at points (origin m e)) (to : b ≡ point_at points (origin m (rev e))) where

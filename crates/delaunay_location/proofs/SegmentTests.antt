@@ -4,12 +4,10 @@ use Rattle.std.proofs.Common.{◌≡◌, ◌≢◌, ◌⊎◌, ◌↔◌, Bool, 
 use Rattle.std.proofs.Common.{arith}
 use Rattle.std.specs.Prelude.{ℤ, pos, ◌<ℤ◌, ◌*ℤ◌}
 use Rattle.std.proofs.lemmas.Int.{ints}
-use Rattle.delaunay_location.specs.plane.Fraction.{Point, whole, IsSame, OnSegment, WithinSegment}
-use Rattle.delaunay_location.proofs.plane.Segments.{reach, reach-start, within_segment_is}
-use Rattle.delaunay_location.proofs.plane.Segments.{start_on_segment, end_on_segment}
-use Rattle.delaunay_location.proofs.delaunay_legalization_lemmas.Questions.{both_ways}
-use Rattle.plane_theorems.proofs.Segments.Crossing.EitherWay.{one_point}
-use Rattle.plane_theorems.proofs.Segments.Constraints.Pieces.{on_parts}
+use Rattle.plane.specs.{IsSame, OnSegment, Point, whole, WithinSegment}
+use Rattle.plane.proofs.{end_on_segment, reach, reach-start, start_on_segment, within_segment_is}
+use Rattle.plane_theorems.proofs.{on_parts, one_point}
+use Rattle.delaunay_legalization.proofs.{both_ways}
 
 -- what a question is about does not hold where its answer is no
 pub unless : {A : Type 0} {b : Bool} → IsTrue b ↔ A → b ≡ false → ¬ A

@@ -4,26 +4,15 @@
 use Rattle.std.proofs.Common.{◌≡◌, ◌⊎◌, ℕ, ◌<◌, ◌≤◌, List, length, map}
 use Rattle.std.proofs.Common.{sym, ap, ◌∙◌, subst, inl, inr, arith}
 use Rattle.std.specs.Prelude.{ℤ}
-use Rattle.delaunay_legalization.specs.half_edge_links.Mesh.{Mesh, origin, next, prev, face}
-use Rattle.delaunay_legalization.specs.half_edge_links.Mesh.{face_edge, rev}
-use Rattle.delaunay_legalization.proofs.half_edge_links_lemmas.Lists.Rev.{rev-rev, rev_within}
-use Rattle.delaunay_legalization.proofs.half_edge_links_lemmas.Sound.Triangles as T
-use Rattle.delaunay_legalization.specs.plane.Fraction.{Point, whole}
-use Rattle.delaunay_legalization.specs.plane.Side.{TurnsLeft}
-use Rattle.delaunay_legalization.specs.plane.Pairs.{place}
-use Rattle.delaunay_legalization.proofs.plane.Triangles.{inside_is_sides}
-use Rattle.delaunay_legalization.specs.delaunay_core.Place.{place_of}
-use Rattle.delaunay_legalization.specs.delaunay_core.declared.point.Point2.{Point2}
-use Rattle.delaunay_legalization.specs.Known.{point_at}
-use Rattle.delaunay_legalization.specs.Parts.{IsInsideFaceOf}
-use Rattle.delaunay_legalization.specs.Shape.{IsTriangulated}
-use Rattle.delaunay_legalization.specs.State.{State}
-use Rattle.delaunay_legalization.proofs.MeshParts.{mesh_face}
-use Rattle.delaunay_location.specs.Location.{Locates}
-use Rattle.delaunay_location.specs.Stop.{IsStop}
-use Rattle.delaunay_location.specs.declared.steps.Stop.{Stop}
-use Rattle.delaunay_location.specs.declared.position_in_triangulation.PositionInTriangulation.TheVariants.{OnFace}
-use Rattle.delaunay_location.proofs.Locating.{in_face}
+use Rattle.plane.specs.{place, Point, TurnsLeft, whole}
+use Rattle.plane.proofs.Triangles.{inside_is_sides}
+use Rattle.half_edge_links.specs.{face, face_edge, Mesh, next, origin, prev, rev}
+use Rattle.half_edge_links.proofs.{rev-rev, rev_within}
+use Rattle.delaunay_core.specs.{place_of, Point2}
+use Rattle.delaunay_legalization.specs.{IsInsideFaceOf, IsTriangulated, point_at, State.State}
+use Rattle.{delaunay_legalization.proofs.mesh_face, delaunay_location.proofs.Locating.in_face}
+use Rattle.delaunay_location.specs.{declared.steps.Stop.Stop, Locates, OnFace, Stop.IsStop}
+use Rattle.half_edge_links.proofs.Sound.Triangles as T
 
 module _ {V D U F : Type 0} {at : V → Point} {s : State V D U F} (kept : IsTriangulated at s) where
   abbrev points : List Point

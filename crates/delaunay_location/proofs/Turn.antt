@@ -5,29 +5,14 @@ use Rattle.std.proofs.Common.{◌≡◌, ◌≢◌, ◌↔◌, ◌-◌, ◌≤�
 use Rattle.std.proofs.Common.{ℕ, List, Option, Some, None, refl, sym, ap, subst}
 use Rattle.std.specs.Borrow.{Bor}
 use Rattle.std.specs.Prelude.{ℤ}
-use Rattle.delaunay_location.specs.half_edge_dcel.Contents.{Contents}
-use Rattle.delaunay_location.specs.half_edge_dcel.declared.edge.DirectedEdgeHandle.{DirectedEdgeHandle}
-use Rattle.delaunay_location.specs.half_edge_dcel.declared.vertex.VertexHandle.{VertexHandle}
-use Rattle.delaunay_location.specs.plane.Fraction.{Point}
-use Rattle.delaunay_location.specs.plane.Line.{Item}
-use Rattle.delaunay_location.specs.delaunay_core.Place.{place_of}
-use Rattle.delaunay_location.specs.declared.intersection.Intersection.{Intersection}
-use Rattle.delaunay_location.specs.declared.intersection.Intersection.TheVariants.{EdgeIntersection}
-use Rattle.delaunay_location.specs.declared.intersection.Intersection.TheVariants.{VertexIntersection}
-use Rattle.delaunay_location.specs.declared.intersection.Intersection.TheVariants.{EdgeOverlap}
-use Rattle.delaunay_location.specs.declared.intersection.FixedIntersection.{FixedIntersection}
-use Rattle.delaunay_location.specs.declared.intersection.FixedIntersection.TheVariants.{
-  Edge,
-  Vertex,
-  Overlap,
-}
-use Rattle.delaunay_location.specs.declared.iterator.LineIntersectionIterator.{LineIntersectionIterator}
-use Rattle.delaunay_location.specs.Items.{item_of, item_in, mesh_of}
-use Rattle.delaunay_location.specs.Over.{IsAtItem}
-use Rattle.delaunay_location.specs.Steps.{IsNext}
-use Rattle.delaunay_location.specs.Walk.{AreFrom, AreLeft, GivesNext, IsReady}
+use Rattle.half_edge_dcel.specs.{Contents, DirectedEdgeHandle, VertexHandle}
+use Rattle.delaunay_core.specs.{place_of}
+use Rattle.delaunay_location.specs.{AreLeft, Edge, EdgeIntersection, EdgeOverlap, FixedIntersection}
+use Rattle.delaunay_location.specs.{GivesNext, Intersection, IsNext, IsReady, item_in, item_of}
+use Rattle.delaunay_location.specs.{LineIntersectionIterator, mesh_of, Overlap, Vertex}
+use Rattle.delaunay_location.specs.{Over.IsAtItem, VertexIntersection, Walk.AreFrom}
 use Rattle.delaunay_location.proofs.Advance.{further, one_fewer, some_left}
-use Rattle.delaunay_location.proofs.SegmentTests.{unless}
+use Rattle.{delaunay_location.proofs.SegmentTests.unless, plane.specs.Item, plane.specs.Point}
 
 -- item j is item i, after which nothing comes from a point to itself, and r from p to another
 -- point q
@@ -110,7 +95,7 @@ module _ {V D U F P S : Type 0} {at : V → Point} {number : S → ℤ}
 
     others : (items : List Item) → AreLeft at number it items → (others : List Item)
         × (items ≡ item_of it.dcel.now.mesh i ∷ others) × AreLeft at number after others
-    others items left = further ready.over.placed p q i items (from_here items left) r
+    others items left = further ready.over.embedding p q i items (from_here items left) r
         goes.alone goes.next
 
     -- an answer with the current item of the same mesh gives what is next

@@ -2,23 +2,13 @@
 -- Lemmas: apart_elsewhere.
 use Rattle.std.proofs.Common.{◌≡◌, ℕ, List, map, refl, sym, ap}
 use Rattle.std.specs.Prelude.{pos, ◌*ℤ◌}
-use Rattle.delaunay_legalization.specs.plane.Fraction.{Point, IsSame, whole}
-use Rattle.delaunay_legalization.specs.plane.Location.{Location, IsLocation, on_vertex}
-use Rattle.delaunay_legalization.specs.plane_theorems.Tiling.Laws.{IsSameLocation}
-use Rattle.delaunay_legalization.proofs.plane_theorems.Tiling.Locations.{each_point_has_one_location}
-use Rattle.delaunay_legalization.specs.Drawn.{drawn, faces_of, outer_of, edges_of}
-use Rattle.delaunay_legalization.proofs.OwnEdges.{own_edges}
-use Rattle.delaunay_location.specs.declared.position_in_triangulation.PositionInTriangulation.{PositionInTriangulation}
-use Rattle.delaunay_location.specs.declared.position_in_triangulation.PositionInTriangulation.TheVariants.{OnVertex}
-use Rattle.delaunay_location.specs.declared.position_in_triangulation.PositionInTriangulation.TheVariants.{OnEdge}
-use Rattle.delaunay_location.specs.declared.position_in_triangulation.PositionInTriangulation.TheVariants.{OnFace}
-use Rattle.delaunay_location.specs.declared.position_in_triangulation.PositionInTriangulation.TheVariants.{OutsideOfConvexHull}
-use Rattle.delaunay_location.specs.declared.position_in_triangulation.PositionInTriangulation.TheVariants.{NoTriangulation}
-use Rattle.delaunay_legalization.specs.Known.{point_at}
-use Rattle.delaunay_legalization.specs.Parts.{IsApart}
-use Rattle.delaunay_legalization.specs.State.{State}
-use Rattle.delaunay_legalization.specs.Shape.{IsTriangulated}
-use Rattle.delaunay_location.specs.Location.{Locates, location_of}
+use Rattle.plane.specs.{IsLocation, IsSame, Location, on_vertex, Point, whole}
+use Rattle.{plane_theorems.proofs.each_point_has_one_location, plane_theorems.specs.IsSameLocation}
+use Rattle.delaunay_legalization.specs.{drawn, edges_of, faces_of, IsApart, IsTriangulated}
+use Rattle.delaunay_legalization.specs.{outer_of, point_at}
+use Rattle.{delaunay_legalization.proofs.own_edges, delaunay_legalization.specs.State.State}
+use Rattle.delaunay_location.specs.{Locates, location_of, NoTriangulation, OnEdge, OnFace, OnVertex}
+use Rattle.delaunay_location.specs.{OutsideOfConvexHull, PositionInTriangulation}
 
 module _ {V D U F : Type 0} (at : V → Point) (s : State V D U F) (kept : IsTriangulated at s) where
   abbrev points : List Point

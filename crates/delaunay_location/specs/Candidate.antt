@@ -1,12 +1,8 @@
 -- A vertex that may be the nearest one to a position.
 use Rattle.std.specs.Prelude.{◌≡◌, ℕ, ◌+◌, ◌<◌, ◌≤◌, ◌<ℤ◌, List, length}
-use Rattle.delaunay_legalization.specs.half_edge_links.Mesh.{Mesh, origin, rev}
-use Rattle.delaunay_legalization.specs.plane.Fraction.{Point, whole}
-use Rattle.delaunay_legalization.specs.plane.Circle.{gap, IsNearer}
-use Rattle.delaunay_legalization.specs.plane.Pairs.{place}
-use Rattle.delaunay_legalization.specs.plane.Tiling.{IsEdge, Triangulation}
-use Rattle.plane_theorems.specs.Delaunay.Nearer.{nearer_count}
-use Rattle.delaunay_legalization.specs.Drawn.{drawn}
+use Rattle.plane.specs.{gap, IsEdge, IsNearer, place, Point, Triangulation, whole}
+use Rattle.half_edge_links.specs.{Mesh, origin, rev}
+use Rattle.{delaunay_legalization.specs.drawn, plane_theorems.specs.nearer_count}
 use Rattle.delaunay_location.specs.declared.nearest_walk.Candidate.{Candidate}
 
 module _ (points : List Point) (m : Mesh) (p : Point) where

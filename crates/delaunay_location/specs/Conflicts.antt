@@ -1,18 +1,12 @@
 -- The constraints that a segment crosses.
 use Rattle.std.specs.Prelude.{◌≡◌, ◌≢◌, ◌/◌, ◌<◌, [], ◌∷◌, ◌++◌}
 use Rattle.std.specs.Prelude.{ℕ, List, length, ℤ, Option, Some, MatchOption, Contains}
-use Rattle.delaunay_location.specs.half_edge_links.Mesh.{origin, rev}
-use Rattle.delaunay_location.specs.half_edge_dcel.Contents.{Contents}
-use Rattle.delaunay_location.specs.half_edge_dcel.declared.edge.DirectedEdgeHandle.{DirectedEdgeHandle}
-use Rattle.delaunay_location.specs.plane.Crossing.{MeetsWithin}
-use Rattle.delaunay_location.specs.plane.Fraction.{Point, whole}
-use Rattle.delaunay_location.specs.plane.Line.{Item, across}
-use Rattle.delaunay_location.specs.plane.Pairs.{Joins}
-use Rattle.delaunay_location.specs.plane.Tiling.{Triangulation, vertex}
-use Rattle.delaunay_location.specs.declared.iterator.LineIntersectionIterator.{LineIntersectionIterator}
-use Rattle.delaunay_location.specs.declared.intersection.Intersection.{Intersection}
+use Rattle.plane.specs.{across, Item, Joins, MeetsWithin, Point, Triangulation, vertex, whole}
+use Rattle.half_edge_links.specs.{origin, rev}
+use Rattle.half_edge_dcel.specs.{Contents, DirectedEdgeHandle}
 use Rattle.delaunay_location.specs.Items.{crossed_edge}
-use Rattle.delaunay_location.specs.Walk.{AreLeft}
+use Rattle.delaunay_location.specs.{declared.intersection.Intersection.Intersection, Walk.AreLeft}
+use Rattle.delaunay_location.specs.declared.iterator.LineIntersectionIterator.{LineIntersectionIterator}
 
 -- item k of the line list is an edge that is crossed, and a constraint
 abbrev pub IsConflict : {V D U F : Type 0} → (List U → List ℕ) → Contents V D U F → Item → Type 0

@@ -1,20 +1,17 @@
 -- Items of the line list by handles: of a mesh alone, and together with the mesh.
 use Rattle.std.specs.Prelude.{◌<◌, Option, Some, None, length}
 use Rattle.std.specs.Borrow.{Bor}
-use Rattle.delaunay_location.specs.half_edge_links.Mesh.{Mesh, origin, rev}
-use Rattle.delaunay_location.specs.half_edge_dcel.Contents.{Contents}
-use Rattle.delaunay_location.specs.half_edge_dcel.declared.edge.DirectedEdgeHandle.{DirectedEdgeHandle}
-use Rattle.delaunay_location.specs.plane.Line.{Item, at_vertex, across, along}
+use Rattle.plane.specs.{across, along, at_vertex, Item}
+use Rattle.half_edge_links.specs.{Mesh, origin, rev}
+use Rattle.half_edge_dcel.specs.{Contents, DirectedEdgeHandle}
+use Rattle.delaunay_location.specs.declared.intersection.FixedIntersection.{FixedIntersection}
+use Rattle.delaunay_location.specs.declared.intersection.FixedIntersection.TheVariants.{Edge}
+use Rattle.delaunay_location.specs.declared.intersection.FixedIntersection.TheVariants.{Overlap}
+use Rattle.delaunay_location.specs.declared.intersection.FixedIntersection.TheVariants.{Vertex}
 use Rattle.delaunay_location.specs.declared.intersection.Intersection.{Intersection}
 use Rattle.delaunay_location.specs.declared.intersection.Intersection.TheVariants.{EdgeIntersection}
-use Rattle.delaunay_location.specs.declared.intersection.Intersection.TheVariants.{VertexIntersection}
 use Rattle.delaunay_location.specs.declared.intersection.Intersection.TheVariants.{EdgeOverlap}
-use Rattle.delaunay_location.specs.declared.intersection.FixedIntersection.{FixedIntersection}
-use Rattle.delaunay_location.specs.declared.intersection.FixedIntersection.TheVariants.{
-  Edge,
-  Vertex,
-  Overlap,
-}
+use Rattle.delaunay_location.specs.declared.intersection.Intersection.TheVariants.{VertexIntersection}
 
 -- the item that handles of mesh m name
 abbrev pub item_of : Mesh → FixedIntersection → Item

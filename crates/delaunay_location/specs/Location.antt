@@ -1,25 +1,16 @@
 -- What an answer to a location says: vertices in place of handles.
 use Rattle.std.specs.Prelude.{◌≡◌, ℕ, ℤ, ◌<◌, ◌≤◌, ◌≤ℤ◌, List, length, map, Option, Some, None}
-use Rattle.delaunay_legalization.specs.half_edge_links.Mesh.{Mesh, origin, face, face_edge, rev}
-use Rattle.delaunay_legalization.specs.half_edge_links.Mesh.{IsInner}
-use Rattle.delaunay_legalization.specs.half_edge_links.Triangles.{triangle_at}
-use Rattle.delaunay_legalization.specs.plane.Fraction.{Point, whole}
-use Rattle.delaunay_legalization.specs.plane.Side.{TurnsLeft}
-use Rattle.delaunay_legalization.specs.plane.Circle.{gap}
-use Rattle.delaunay_legalization.specs.plane.Pairs.{place}
-use Rattle.delaunay_legalization.specs.plane.Location.{Location, IsLocation, on_vertex, on_edge}
-use Rattle.delaunay_legalization.specs.plane.Location.{on_face, outside_hull, no_triangulation}
+use Rattle.plane.specs.{gap, IsLocation, Location, no_triangulation, on_edge, on_face, on_vertex}
+use Rattle.plane.specs.{outside_hull, place, Point, TurnsLeft, whole}
+use Rattle.half_edge_links.specs.{face, face_edge, IsInner, Mesh, origin, rev, triangle_at}
+use Rattle.delaunay_core.specs.{place_of, Point2}
+use Rattle.delaunay_legalization.specs.{drawn, IsApart, IsInsideFaceOf, IsWithinEdge, Reading}
 use Rattle.delaunay_location.specs.declared.position_in_triangulation.PositionInTriangulation.{PositionInTriangulation}
-use Rattle.delaunay_location.specs.declared.position_in_triangulation.PositionInTriangulation.TheVariants.{OnVertex}
+use Rattle.delaunay_location.specs.declared.position_in_triangulation.PositionInTriangulation.TheVariants.{NoTriangulation}
 use Rattle.delaunay_location.specs.declared.position_in_triangulation.PositionInTriangulation.TheVariants.{OnEdge}
 use Rattle.delaunay_location.specs.declared.position_in_triangulation.PositionInTriangulation.TheVariants.{OnFace}
+use Rattle.delaunay_location.specs.declared.position_in_triangulation.PositionInTriangulation.TheVariants.{OnVertex}
 use Rattle.delaunay_location.specs.declared.position_in_triangulation.PositionInTriangulation.TheVariants.{OutsideOfConvexHull}
-use Rattle.delaunay_location.specs.declared.position_in_triangulation.PositionInTriangulation.TheVariants.{NoTriangulation}
-use Rattle.delaunay_legalization.specs.delaunay_core.Place.{place_of}
-use Rattle.delaunay_legalization.specs.delaunay_core.declared.point.Point2.{Point2}
-use Rattle.delaunay_legalization.specs.Parts.{IsApart, IsInsideFaceOf, IsWithinEdge}
-use Rattle.delaunay_legalization.specs.Placed.{Reading}
-use Rattle.delaunay_legalization.specs.Drawn.{drawn}
 
 -- the location that an answer says, by the vertices of the part that it names
 abbrev pub location_of : Mesh → PositionInTriangulation → Location

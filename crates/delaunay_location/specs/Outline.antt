@@ -1,11 +1,8 @@
 -- A walk along the outline of a mesh from outside, towards the line of a segment.
 use Rattle.std.specs.Prelude.{◌≡◌, ◌≢◌, ℕ, ◌<◌, List, length, map, Option, MatchOption}
-use Rattle.delaunay_location.specs.half_edge_links.Mesh.{Mesh, origin, next, prev, face, rev}
-use Rattle.delaunay_location.specs.half_edge_dcel.Contents.{Contents}
-use Rattle.delaunay_location.specs.plane.Fraction.{Point, whole}
-use Rattle.delaunay_location.specs.plane.Side.{side, left, right}
-use Rattle.delaunay_location.specs.plane.Pairs.{place}
-use Rattle.delaunay_location.specs.Steps.{IsLeftOf}
+use Rattle.plane.specs.{left, place, Point, right, side, whole}
+use Rattle.half_edge_links.specs.{face, Mesh, next, origin, prev, rev}
+use Rattle.{delaunay_location.specs.Steps.IsLeftOf, half_edge_dcel.specs.Contents}
 
 -- directed edge h has the outer face on its left, and p strictly on its left
 pub record IsSeenOuter {V D U F : Type 0} (at : V → Point) (c : Contents V D U F) (p : Point)

@@ -1,16 +1,11 @@
 -- A segment over the mesh of a triangulation, by its ends.
 use Rattle.std.specs.Prelude.{◌≢◌, ℕ, ℤ, Option, map}
-use Rattle.delaunay_location.specs.plane.Fraction.{Point, whole}
-use Rattle.delaunay_location.specs.plane.Line.{Meets}
-use Rattle.delaunay_location.specs.delaunay_legalization.Drawn.{drawn}
-use Rattle.delaunay_location.specs.delaunay_core.Place.{place_of}
-use Rattle.delaunay_location.specs.delaunay_core.declared.point.Point2.{Point2}
-use Rattle.delaunay_location.specs.delaunay_legalization.Placed.{Reading}
+use Rattle.plane.specs.{Meets, Point, whole}
+use Rattle.delaunay_core.specs.{place_of, Point2}
+use Rattle.delaunay_legalization.specs.{drawn, Reading}
+use Rattle.delaunay_location.specs.{Items.IsHandleOf, Items.item_of, Walk.Starts}
+use Rattle.delaunay_location.specs.{Starts.StartsInside, Starts.StartsOutside, Steps.IsNext}
 use Rattle.delaunay_location.specs.declared.intersection.FixedIntersection.{FixedIntersection}
-use Rattle.delaunay_location.specs.Items.{item_of, IsHandleOf}
-use Rattle.delaunay_location.specs.Starts.{StartsInside, StartsOutside}
-use Rattle.delaunay_location.specs.Steps.{IsNext}
-use Rattle.delaunay_location.specs.Walk.{Starts}
 
 -- its ends are two different points that the tests cover
 pub record AreEnds {P S : Type 0} (number : S → ℤ) (IsCovered : P → Point → Type 0) (tests : P)

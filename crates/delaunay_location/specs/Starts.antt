@@ -1,14 +1,10 @@
 -- Where a segment starts in a mesh.
 use Rattle.std.specs.Prelude.{◌≡◌, ◌≢◌, ℕ, ◌<◌, ◌<ℤ◌, List, length, Option, MatchOption, IfSome}
 use Rattle.std.specs.Prelude.{⊤}
-use Rattle.delaunay_location.specs.half_edge_links.Mesh.{Mesh, origin, prev, face, rev}
-use Rattle.delaunay_location.specs.plane.Fraction.{Point, whole, IsSame, OnSegment, WithinSegment}
-use Rattle.delaunay_location.specs.plane.Fraction.{InsideTriangle}
-use Rattle.delaunay_location.specs.plane.Side.{side, left, right, TurnsLeft}
-use Rattle.delaunay_location.specs.plane.Circle.{gap, IsNearer}
-use Rattle.delaunay_location.specs.plane.Pairs.{place}
-use Rattle.delaunay_location.specs.plane.Tiling.{Triangulation, IsVertex, IsEdge, vertex, TilesHull}
-use Rattle.delaunay_location.specs.plane.Location.{IsOuter}
+use Rattle.plane.specs.{gap, InsideTriangle, IsEdge, IsNearer, IsOuter, IsSame, IsVertex, left}
+use Rattle.plane.specs.{OnSegment, place, Point, right, side, TilesHull, Triangulation, TurnsLeft}
+use Rattle.plane.specs.{vertex, whole, WithinSegment}
+use Rattle.half_edge_links.specs.{face, Mesh, origin, prev, rev}
 
 -- p is strictly within directed edge h
 abbrev pub StartsWithin : List Point → Mesh → Point → ℕ → Type 0

@@ -1,15 +1,11 @@
 -- From an item that a segment meets in a mesh to the next, by handles.
 use Rattle.std.specs.Prelude.{◌⊎◌, ℕ, ◌<◌, List, map, Option, MatchOption}
-use Rattle.delaunay_location.specs.half_edge_links.Mesh.{Mesh, origin, prev, face, rev}
-use Rattle.delaunay_location.specs.half_edge_dcel.Contents.{Contents}
-use Rattle.delaunay_location.specs.plane.Fraction.{Point, whole}
-use Rattle.delaunay_location.specs.plane.Side.{TurnsLeft}
-use Rattle.delaunay_location.specs.plane.Pairs.{place}
-use Rattle.delaunay_location.specs.plane.Line.{Item}
-use Rattle.plane_theorems.specs.Segments.Steps.{ComesNext, IsLast, IsAhead}
-use Rattle.delaunay_location.specs.delaunay_legalization.Drawn.{drawn}
+use Rattle.plane.specs.{Item, place, Point, TurnsLeft, whole}
+use Rattle.half_edge_links.specs.{face, Mesh, origin, prev, rev}
+use Rattle.plane_theorems.specs.{ComesNext, IsAhead, IsLast}
+use Rattle.{delaunay_legalization.specs.drawn, half_edge_dcel.specs.Contents}
+use Rattle.delaunay_location.specs.Items.{IsHandleOf, item_of}
 use Rattle.delaunay_location.specs.declared.intersection.FixedIntersection.{FixedIntersection}
-use Rattle.delaunay_location.specs.Items.{item_of, IsHandleOf}
 
 -- q is on the left of directed edge h
 abbrev pub IsLeftOf : List Point → Mesh → Point → ℕ → Type 0

@@ -1,16 +1,11 @@
 -- Where a walk from face to face is.
 use Rattle.std.specs.Prelude.{◌≡◌, ℕ, ℤ, ◌<◌, List, length, map, IfSome}
-use Rattle.delaunay_legalization.specs.half_edge_links.Mesh.{Mesh, origin, rev}
-use Rattle.delaunay_legalization.specs.plane.Fraction.{Point}
-use Rattle.delaunay_legalization.specs.delaunay_core.Place.{place_of}
-use Rattle.delaunay_legalization.specs.delaunay_core.declared.point.Point2.{Point2}
-use Rattle.delaunay_legalization.specs.Known.{point_at}
-use Rattle.delaunay_legalization.specs.Placed.{Reading}
-use Rattle.delaunay_location.specs.Location.{IsPlaceOf}
-use Rattle.delaunay_location.specs.declared.steps.Stop.{Stop}
-use Rattle.delaunay_location.specs.declared.steps.Step.{Step}
+use Rattle.half_edge_links.specs.{Mesh, origin, rev}
+use Rattle.{delaunay_core.specs.place_of, delaunay_core.specs.Point2, plane.specs.Point}
+use Rattle.delaunay_legalization.specs.{point_at, Reading}
+use Rattle.delaunay_location.specs.{declared.steps.Stop.Stop, Location.IsPlaceOf}
+use Rattle.delaunay_location.specs.{declared.steps.Step.Step, declared.walk.Walked.Walked}
 use Rattle.delaunay_location.specs.declared.steps.Step.TheVariants.{Beyond, Found, OnSide}
-use Rattle.delaunay_location.specs.declared.walk.Walked.{Walked}
 use Rattle.delaunay_location.specs.declared.walk.Walked.TheVariants.{Ended, Reached}
 
 -- one of the n directed edges of a mesh, with the positions of its ends, which are covered

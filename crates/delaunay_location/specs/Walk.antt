@@ -1,20 +1,14 @@
 -- What is left of the walk along a segment over a mesh.
 use Rattle.std.specs.Prelude.{◌≡◌, ◌+◌, ◌≤◌, [], ◌∷◌}
 use Rattle.std.specs.Prelude.{ℕ, List, ℤ, length, map, Option, Some, None, IfNone, MatchOption}
-use Rattle.delaunay_location.specs.half_edge_dcel.Contents.{Contents}
-use Rattle.delaunay_location.specs.plane.Fraction.{Point, whole}
-use Rattle.delaunay_location.specs.plane.Tiling.{Triangulation}
-use Rattle.delaunay_location.specs.plane.Line.{Item, Meets, IsLineList}
-use Rattle.plane_theorems.specs.Segments.Steps.{GoesOn}
-use Rattle.delaunay_location.specs.delaunay_legalization.Drawn.{drawn}
-use Rattle.delaunay_location.specs.delaunay_core.Place.{place_of}
-use Rattle.delaunay_location.specs.delaunay_legalization.Known.{point_at}
-use Rattle.delaunay_location.specs.delaunay_legalization.Placed.{IsPlaced}
-use Rattle.delaunay_location.specs.delaunay_legalization.State.{State, state_of, triangulation_of}
-use Rattle.delaunay_location.specs.declared.intersection.Intersection.{Intersection}
+use Rattle.plane.specs.{IsLineList, Item, Meets, Point, Triangulation, whole}
+use Rattle.{delaunay_core.specs.place_of, plane_theorems.specs.GoesOn}
+use Rattle.delaunay_legalization.specs.{drawn, IsEmbedding, point_at, state_of, triangulation_of}
+use Rattle.{delaunay_legalization.specs.State.State, half_edge_dcel.specs.Contents}
+use Rattle.delaunay_location.specs.Items.{IsHandleOf, item_in, item_of, mesh_of}
 use Rattle.delaunay_location.specs.declared.intersection.FixedIntersection.{FixedIntersection}
+use Rattle.delaunay_location.specs.declared.intersection.Intersection.{Intersection}
 use Rattle.delaunay_location.specs.declared.iterator.LineIntersectionIterator.{LineIntersectionIterator}
-use Rattle.delaunay_location.specs.Items.{item_of, item_in, mesh_of, IsHandleOf}
 
 -- of the line list from p to q these items come after item k; from a point to itself none does
 pub record ComeAfter (t : Triangulation) (p q : Point) (k : Item)
@@ -62,7 +56,7 @@ pub record GivesNext {V D U F P S : Type 0} (at : V → Point) (number : S → �
 -- the mesh of a triangulation whose vertices are sites of the tests, which cover both points
 pub record IsOverMesh {V D U F P : Type 0} (at : V → Point) (IsSite IsCovered : P → Point → Type 0)
     (c : Contents V D U F) (tests : P) (p q : Point) : Type 0 where
-  pub placed : IsPlaced at IsSite c tests
+  pub embedding : IsEmbedding at IsSite c tests
   pub from_covered : IsCovered tests p
   pub to_covered : IsCovered tests q
 

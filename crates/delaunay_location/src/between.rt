@@ -1,40 +1,37 @@
 //! What a segment meets, from wherever its start is.
 ghost use Rattle.std.specs.Prelude.{◌↔◌, ◌<◌, length, map, IsTrue};
-ghost use Rattle.delaunay_location.specs.delaunay_core.Place.{place_of};
-ghost use Rattle.delaunay_location.specs.delaunay_legalization.Constraints.{constraints_by};
-ghost use Rattle.delaunay_location.specs.delaunay_legalization.Placed.{Reading};
-ghost use Rattle.delaunay_location.specs.delaunay_legalization.State.{state_of, triangulation_of};
-ghost use Rattle.delaunay_location.specs.Location.{Locates};
-ghost use Rattle.delaunay_location.specs.Conflicts.{IntersectsConstraint};
-ghost use Rattle.delaunay_location.specs.Over.{BeginsWith};
+ghost use Rattle.{delaunay_core.specs.place_of, delaunay_location.specs.Over.BeginsWith};
+ghost use Rattle.delaunay_legalization.specs.{constraints_by, Reading, state_of, triangulation_of};
+ghost use Rattle.delaunay_location.specs.{Conflicts.IntersectsConstraint, Location.Locates};
 ghost use Rattle.delaunay_location.specs.Walk.{IsReady, WalksBetween, WalksLine};
 
-use crate::conflicts::ConflictingEdgesIterator;
-use crate::delaunay_core::math::PlaneTests;
-use crate::delaunay_core::point::{HasPosition, Point2};
-use crate::half_edge_dcel::{FixedVertexHandle, MeshViews};
-use crate::intersection::FixedIntersection;
-use crate::iterator::LineIntersectionIterator;
 use crate::outside::{first_along, first_on_outline, first_past, if_seen};
 use crate::starts::{first_in_face, first_on_edge};
-use crate::{LocationViews, PositionInTriangulation};
-use delaunay_legalization::{ConstraintMarker, Placed, is_same_point, position_of};
+use crate::{
+    ConflictingEdgesIterator, FixedIntersection, LineIntersectionIterator, LocationViews,
+    PositionInTriangulation,
+};
+use delaunay_core::math::PlaneTests;
+use delaunay_core::point::{HasPosition, Point2};
+use delaunay_legalization::{ConstraintMarker, Embedding, is_same_point, position_of};
+use half_edge_dcel::MeshViews;
+use half_edge_links::FixedVertexHandle;
 
 // What a segment meets first, from the location of its start. Where its ends are one point, it is
 // the vertex there, or else the edge.
 fn first_from<V: HasPosition, DE, UE, F, P: PlaneTests<V::Scalar>>(
-    placed: &Placed<'_, V, DE, UE, F, P>,
+    embedding: &Embedding<'_, V, DE, UE, F, P>,
     from: Point2<V::Scalar>,
     to: Point2<V::Scalar>,
     start: PositionInTriangulation,
 ) -> Option<FixedIntersection>
-    requires from_covered { P.covered placed.now.tests (place_of V.Scalar.whole from) }
-    requires to_covered { P.covered placed.now.tests (place_of V.Scalar.whole to) }
-    requires start { Locates (map V.place placed.now.dcel.vertices) placed.now.dcel.mesh
+    requires from_covered { P.covered embedding.now.tests (place_of V.Scalar.whole from) }
+    requires to_covered { P.covered embedding.now.tests (place_of V.Scalar.whole to) }
+    requires start { Locates (map V.place embedding.now.dcel.vertices) embedding.now.dcel.mesh
         (place_of V.Scalar.whole from) start }
-    ensures { BeginsWith V.place V.Scalar.whole placed.now from to result }
+    ensures { BeginsWith V.place V.Scalar.whole embedding.now from to result }
 {
-    let dcel = placed.dcel;
+    let dcel = embedding.dcel;
     if is_same_point(from, to) {
         return match start {
             PositionInTriangulation::OnVertex(vertex) => Some(FixedIntersection::Vertex(vertex)),
@@ -44,21 +41,21 @@ fn first_from<V: HasPosition, DE, UE, F, P: PlaneTests<V::Scalar>>(
     }
     match start {
         PositionInTriangulation::OnVertex(vertex) => Some(FixedIntersection::Vertex(vertex)),
-        PositionInTriangulation::OnEdge(edge) => Some(first_on_edge(placed, from, to, edge)),
+        PositionInTriangulation::OnEdge(edge) => Some(first_on_edge(embedding, from, to, edge)),
         PositionInTriangulation::OnFace(face) => {
-            first_in_face(placed, from, to, dcel.face(face).adjacent_edge().fix())
+            first_in_face(embedding, from, to, dcel.face(face).adjacent_edge().fix())
         }
         // It goes along the outline from this edge on. Past the end of a line of vertices, where it
         // sees no edge, it looks at this end alone.
-        PositionInTriangulation::OutsideOfConvexHull(edge) => match if_seen(placed, from, edge) {
-            Some(seen) => first_along(placed, from, to, seen),
-            None => first_past(placed, from, to, edge),
+        PositionInTriangulation::OutsideOfConvexHull(edge) => match if_seen(embedding, from, edge) {
+            Some(seen) => first_along(embedding, from, to, seen),
+            None => first_past(embedding, from, to, edge),
         },
-        PositionInTriangulation::NoTriangulation => first_on_outline(placed, from, to),
+        PositionInTriangulation::NoTriangulation => first_on_outline(embedding, from, to),
     }
 }
 
-/// What segments meet, in a mesh with its points. What each call gives is said at `Placed`.
+/// What segments meet, in a mesh with its points. What each call gives is said at `Embedding`.
 pub trait LineViews<'a, V: HasPosition, DE, UE, F, P: PlaneTests<V::Scalar>> {
     ghost reading: { Self → Reading V DE UE F P };
 
@@ -97,7 +94,7 @@ pub trait LineViews<'a, V: HasPosition, DE, UE, F, P: PlaneTests<V::Scalar>> {
 }
 
 impl<'a, V: HasPosition, DE, UE, F, P: PlaneTests<V::Scalar>> LineViews<'a, V, DE, UE, F, P>
-    for Placed<'a, V, DE, UE, F, P> {
+    for Embedding<'a, V, DE, UE, F, P> {
     ghost reading = { λ s. s };
 
     fn line_between(

@@ -1,19 +1,17 @@
 //! The constraints that a segment crosses.
 ghost use Rattle.std.specs.Prelude.{◌/◌, ◌<◌, length, map, Contains, IfNone};
 ghost use Rattle.std.specs.Iterator.{at_most};
-ghost use Rattle.delaunay_location.specs.delaunay_core.Place.{place_of};
-ghost use Rattle.delaunay_location.specs.delaunay_legalization.Known.{point_at};
-ghost use Rattle.delaunay_location.specs.delaunay_legalization.State.{state_of};
+ghost use Rattle.delaunay_core.specs.{place_of};
+ghost use Rattle.delaunay_legalization.specs.{point_at, state_of};
 ghost use Rattle.delaunay_location.specs.Conflicts.{GivesConflict, IsConflictOf};
 ghost use Rattle.delaunay_location.specs.Walk.{IsReady, WalksLine};
 
-use crate::between::LineViews;
-use crate::delaunay_core::math::PlaneTests;
-use crate::delaunay_core::point::{HasPosition, Point2};
-use crate::half_edge_dcel::{DirectedEdgeHandle, FixedVertexHandle};
-use crate::intersection::Intersection;
-use crate::iterator::LineIntersectionIterator;
-use delaunay_legalization::{ConstraintMarker, Placed};
+use crate::{Intersection, LineIntersectionIterator, LineViews};
+use delaunay_core::math::PlaneTests;
+use delaunay_core::point::{HasPosition, Point2};
+use delaunay_legalization::{ConstraintMarker, Embedding};
+use half_edge_dcel::DirectedEdgeHandle;
+use half_edge_links::FixedVertexHandle;
 use std::marker::PhantomData;
 
 // The edge of an item, if the segment crosses it and it is a constraint.
@@ -34,8 +32,8 @@ fn conflict_in<'a, M: ConstraintMarker<UE>, V, DE, UE, F>(
 /// segment. No call takes memory. After the last one it gives `None` as often as it is asked.
 ///
 /// ```
-/// let walls = site.get_conflicting_edges_between_points(from, to, &ExactTests);
-/// println!(rt; "{} walls in the way", walls.count())?;
+/// let constraints = site.get_conflicting_edges_between_points(from, to, &ExactTests);
+/// println!(rt; "{} constraints in the way", constraints.count())?;
 /// ```
 #[derive(Drop)]
 pub struct ConflictingEdgesIterator<
@@ -62,19 +60,19 @@ impl<
 > ConflictingEdgesIterator<'a, M, V, DE, UE, F, P> {
     /// The constraints that the segment between two vertices crosses.
     pub fn between_vertices(
-        placed: &Placed<'a, V, DE, UE, F, P>,
+        embedding: &Embedding<'a, V, DE, UE, F, P>,
         from: FixedVertexHandle,
         to: FixedVertexHandle,
     ) -> Self
-        requires from_in { from < length placed.now.dcel.vertices }
-        requires to_in { to < length placed.now.dcel.vertices }
-        ensures line { let d = placed.now.dcel in let points = map V.place d.vertices in
+        requires from_in { from < length embedding.now.dcel.vertices }
+        requires to_in { to < length embedding.now.dcel.vertices }
+        ensures line { let d = embedding.now.dcel in let points = map V.place d.vertices in
             WalksLine V.place V.Scalar.whole (state_of d) (point_at points from)
             (point_at points to) result.line }
         ensures ready { IsReady V.place V.Scalar.whole P.sites P.covered result.line }
     {
         ConflictingEdgesIterator {
-            line: placed.line_between_vertices(from, to),
+            line: embedding.line_between_vertices(from, to),
             marks: PhantomData,
         }
     }
@@ -82,19 +80,19 @@ impl<
     /// The constraints that the segment between two positions crosses. The search for the first
     /// position begins at the vertex `hint`, or at vertex 0 where there is no such vertex.
     pub fn between_points(
-        placed: &Placed<'a, V, DE, UE, F, P>,
+        embedding: &Embedding<'a, V, DE, UE, F, P>,
         from: Point2<V::Scalar>,
         to: Point2<V::Scalar>,
         hint: FixedVertexHandle,
     ) -> Self
-        requires from_covered { P.covered placed.now.tests (place_of V.Scalar.whole from) }
-        requires to_covered { P.covered placed.now.tests (place_of V.Scalar.whole to) }
-        ensures line { WalksLine V.place V.Scalar.whole (state_of placed.now.dcel)
+        requires from_covered { P.covered embedding.now.tests (place_of V.Scalar.whole from) }
+        requires to_covered { P.covered embedding.now.tests (place_of V.Scalar.whole to) }
+        ensures line { WalksLine V.place V.Scalar.whole (state_of embedding.now.dcel)
             (place_of V.Scalar.whole from) (place_of V.Scalar.whole to) result.line }
         ensures ready { IsReady V.place V.Scalar.whole P.sites P.covered result.line }
     {
         ConflictingEdgesIterator {
-            line: placed.line_between(from, to, hint),
+            line: embedding.line_between(from, to, hint),
             marks: PhantomData,
         }
     }

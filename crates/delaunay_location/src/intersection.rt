@@ -2,9 +2,8 @@
 ghost use Rattle.std.specs.Prelude.{◌≡◌};
 ghost use Rattle.delaunay_location.specs.Items.{crossed_edge};
 
-use crate::half_edge_dcel::{
-    DirectedEdgeHandle, FixedDirectedEdgeHandle, FixedVertexHandle, VertexHandle,
-};
+use half_edge_dcel::{DirectedEdgeHandle, VertexHandle};
+use half_edge_links::{FixedDirectedEdgeHandle, FixedVertexHandle};
 
 /// A vertex or an edge that a segment meets.
 ///

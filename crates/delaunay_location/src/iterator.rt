@@ -3,12 +3,12 @@ ghost use Rattle.std.specs.Iterator.{at_most};
 ghost use Rattle.delaunay_location.specs.Walk.{GivesNext, IsReady};
 
 use crate::crossing::{after_crossing, after_overlap};
-use crate::delaunay_core::math::PlaneTests;
-use crate::delaunay_core::point::{HasPosition, Point2};
-use crate::half_edge_dcel::{Dcel, MeshViews};
-use crate::intersection::{FixedIntersection, Intersection};
 use crate::vertex::after_vertex;
-use delaunay_legalization::{Placed, is_same_point};
+use crate::{FixedIntersection, Intersection};
+use delaunay_core::math::PlaneTests;
+use delaunay_core::point::{HasPosition, Point2};
+use delaunay_legalization::{Embedding, is_same_point};
+use half_edge_dcel::{Dcel, MeshViews};
 
 /// The vertices and edges that a segment meets, in the order along the segment. No call takes
 /// memory. A call of `next` looks at the edges of one vertex at most. After the last item it gives
@@ -44,16 +44,16 @@ impl<'a, V: HasPosition, DE, UE, F, P: PlaneTests<V::Scalar> + 'a> Iterator
 
     fn next(&mut self) -> Option<Intersection<'a, V, DE, UE, F>> {
         let item = self.current?;
-        let placed = Placed {
+        let embedding = Embedding {
             dcel: self.dcel,
             tests: self.tests,
         };
         let (from, to) = (self.from, self.to);
         let next = match item {
             _ if is_same_point(from, to) => None,
-            FixedIntersection::Edge(edge) => after_crossing(&placed, from, to, edge),
-            FixedIntersection::Vertex(vertex) => after_vertex(&placed, from, to, vertex),
-            FixedIntersection::Overlap(edge) => after_overlap(&placed, from, to, edge),
+            FixedIntersection::Edge(edge) => after_crossing(&embedding, from, to, edge),
+            FixedIntersection::Vertex(vertex) => after_vertex(&embedding, from, to, vertex),
+            FixedIntersection::Overlap(edge) => after_overlap(&embedding, from, to, edge),
         };
         let found = match item {
             FixedIntersection::Edge(edge) => {

@@ -1,18 +1,15 @@
 //! The walk along a segment over whatever has the mesh of a triangulation.
 ghost use Rattle.std.specs.Prelude.{◌≡◌, ◌<◌, length, map, All};
-ghost use Rattle.delaunay_location.specs.plane.Tests.{InRange};
-ghost use Rattle.delaunay_location.specs.delaunay_core.Place.{place_of};
-ghost use Rattle.delaunay_location.specs.delaunay_legalization.Known.{point_at};
-ghost use Rattle.delaunay_location.specs.delaunay_legalization.Shape.{IsTriangulated};
-ghost use Rattle.delaunay_location.specs.delaunay_legalization.State.{State, state_of};
+ghost use Rattle.{delaunay_core.specs.place_of, plane.specs.InRange};
+ghost use Rattle.delaunay_legalization.specs.{IsTriangulated, point_at, State.State, state_of};
 ghost use Rattle.delaunay_location.specs.Walk.{IsReady, WalksLine};
 
-use crate::between::LineViews;
-use crate::delaunay_core::math::PlaneTests;
-use crate::delaunay_core::point::{HasPosition, Point2};
-use crate::half_edge_dcel::{Dcel, FixedVertexHandle};
-use crate::iterator::LineIntersectionIterator;
-use delaunay_legalization::Placed;
+use crate::{LineIntersectionIterator, LineViews};
+use delaunay_core::math::PlaneTests;
+use delaunay_core::point::{HasPosition, Point2};
+use delaunay_legalization::Embedding;
+use half_edge_dcel::Dcel;
+use half_edge_links::FixedVertexHandle;
 
 /// What has the mesh of a triangulation, and says where searches in it begin: each of the two types
 /// of triangulations.
@@ -66,11 +63,11 @@ impl<'a, V: HasPosition, DE, UE, F, P: PlaneTests<V::Scalar>> LineIntersectionIt
         ensures ready { IsReady V.place V.Scalar.whole P.sites P.covered result }
     {
         let start = triangulation.search_start(from, tests);
-        let placed = Placed {
+        let embedding = Embedding {
             dcel: triangulation.mesh(),
             tests,
         };
-        placed.line_between(from, to, start)
+        embedding.line_between(from, to, start)
     }
 
     /// What the segment from one vertex to another meets, from the first vertex on: of a vertex to
@@ -91,10 +88,10 @@ impl<'a, V: HasPosition, DE, UE, F, P: PlaneTests<V::Scalar>> LineIntersectionIt
             WalksLine V.place V.Scalar.whole s (point_at points from) (point_at points to) result }
         ensures ready { IsReady V.place V.Scalar.whole P.sites P.covered result }
     {
-        let placed = Placed {
+        let embedding = Embedding {
             dcel: triangulation.mesh(),
             tests,
         };
-        placed.line_between_vertices(from, to)
+        embedding.line_between_vertices(from, to)
     }
 }

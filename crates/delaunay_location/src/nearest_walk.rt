@@ -1,28 +1,20 @@
 //! The vertex that is nearest to a position, by a walk from neighbour to neighbour.
 ghost use Rattle.std.specs.Prelude.{◌≡◌, ◌≢◌, ℕ, ◌+◌, ◌<◌, ◌≤◌, ◌^◌, [], length, map};
 ghost use Rattle.std.specs.Prelude.{MatchOption};
-ghost use Rattle.delaunay_legalization.specs.half_edge_links.Mesh.{next, origin, rev};
-ghost use Rattle.delaunay_legalization.specs.plane.Fraction.{whole as fraction};
-ghost use Rattle.delaunay_legalization.specs.plane.Circle.{gap};
-ghost use Rattle.delaunay_legalization.specs.plane.Pairs.{place};
-ghost use Rattle.delaunay_legalization.specs.plane.Delaunay.{IsConstrainedDelaunay};
-ghost use Rattle.delaunay_legalization.specs.plane.Shape.{IsNearest};
-ghost use Rattle.delaunay_legalization.specs.plane.Tests.{InRange};
-ghost use Rattle.plane_theorems.specs.Delaunay.Nearer.{nearer_count};
-ghost use Rattle.delaunay_legalization.specs.delaunay_core.Place.{place_of};
-ghost use Rattle.delaunay_legalization.specs.Shape.{IsTriangulated};
-ghost use Rattle.delaunay_legalization.specs.State.{state_of, triangulation_of};
+ghost use Rattle.plane.specs.{gap, InRange, IsConstrainedDelaunay, IsNearest, place};
+ghost use Rattle.half_edge_links.specs.{next, origin, rev};
+ghost use Rattle.{delaunay_core.specs.place_of, plane.specs.whole as fraction};
+ghost use Rattle.delaunay_legalization.specs.{IsTriangulated, state_of, triangulation_of};
 ghost use Rattle.delaunay_location.specs.Candidate.{EndsNoNearer, HasNoNearerNeighbor, IsCandidate};
 ghost use Rattle.delaunay_location.specs.Candidate.{IsMoveCount, IsNearerCandidate, IsReached};
-ghost use Rattle.delaunay_location.specs.Distances.{CanMeasure};
+ghost use Rattle.{delaunay_location.specs.Distances.CanMeasure, plane_theorems.specs.nearer_count};
 
 use crate::samples::nearer_sample;
 use crate::vertex_distance::distance_2_to;
+use delaunay_core::point::{HasPosition, Point2};
 use delaunay_legalization::ccw_edge;
-use delaunay_legalization::delaunay_core::point::{HasPosition, Point2};
-use delaunay_legalization::half_edge_dcel::{
-    Dcel, FixedDirectedEdgeHandle, FixedVertexHandle, MeshViews,
-};
+use half_edge_dcel::{Dcel, MeshViews};
+use half_edge_links::{FixedDirectedEdgeHandle, FixedVertexHandle};
 
 // After so many moves a walk looks for a nearer vertex anywhere in the mesh.
 const FEW_MOVES: u64 = 16;

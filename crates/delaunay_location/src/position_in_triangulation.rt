@@ -1,7 +1,5 @@
 //! The answer to a location.
-use delaunay_legalization::half_edge_dcel::{
-    FixedDirectedEdgeHandle, FixedFaceHandle, FixedVertexHandle,
-};
+use half_edge_links::{FixedDirectedEdgeHandle, FixedFaceHandle, FixedVertexHandle};
 
 /// Where a position is in a triangulation.
 ///

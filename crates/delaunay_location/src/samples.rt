@@ -1,15 +1,13 @@
 //! Vertices all over a mesh, of which one may be nearer to a position than where a search is.
 ghost use Rattle.std.specs.Prelude.{◌≡◌, ◌⊎◌, ◌<◌, length};
-ghost use Rattle.delaunay_legalization.specs.plane.Fraction.{whole as fraction};
-ghost use Rattle.delaunay_legalization.specs.plane.Circle.{IsNearer};
-ghost use Rattle.delaunay_legalization.specs.plane.Tiling.{vertex};
-ghost use Rattle.delaunay_legalization.specs.delaunay_core.Place.{place_of};
-ghost use Rattle.delaunay_legalization.specs.State.{state_of, triangulation_of};
-ghost use Rattle.delaunay_location.specs.Distances.{CanMeasure};
+ghost use Rattle.plane.specs.{IsNearer, vertex, whole as fraction};
+ghost use Rattle.{delaunay_core.specs.place_of, delaunay_location.specs.Distances.CanMeasure};
+ghost use Rattle.delaunay_legalization.specs.{state_of, triangulation_of};
 
 use crate::vertex_distance::is_nearer;
-use delaunay_legalization::delaunay_core::point::{HasPosition, Point2};
-use delaunay_legalization::half_edge_dcel::{Dcel, FixedVertexHandle};
+use delaunay_core::point::{HasPosition, Point2};
+use half_edge_dcel::Dcel;
+use half_edge_links::FixedVertexHandle;
 
 // The nearest to a position of some vertices all over the mesh, or the vertex `from`, where none of
 // them is nearer. Of so many vertices about the cube root is taken.

@@ -1,15 +1,15 @@
 //! The steps of a walk from face to face towards a position.
 ghost use Rattle.std.specs.Prelude.{◌<◌, length, map};
-ghost use Rattle.delaunay_legalization.specs.half_edge_links.Mesh.{face};
-ghost use Rattle.delaunay_legalization.specs.delaunay_core.Place.{place_of};
-ghost use Rattle.delaunay_legalization.specs.Parts.{IsMeshEdge};
+ghost use Rattle.half_edge_links.specs.{face};
+ghost use Rattle.{delaunay_core.specs.place_of, delaunay_legalization.specs.IsMeshEdge};
 ghost use Rattle.delaunay_location.specs.Stop.{IsStepOf, IsStopOf};
 
-use crate::position_in_triangulation::PositionInTriangulation;
-use delaunay_legalization::delaunay_core::math::PlaneTests;
-use delaunay_legalization::delaunay_core::point::{HasPosition, Point2};
-use delaunay_legalization::half_edge_dcel::{FixedDirectedEdgeHandle, MeshViews};
-use delaunay_legalization::{Placed, is_outer, turns_left};
+use crate::PositionInTriangulation;
+use delaunay_core::math::PlaneTests;
+use delaunay_core::point::{HasPosition, Point2};
+use delaunay_legalization::{Embedding, is_outer, turns_left};
+use half_edge_dcel::MeshViews;
+use half_edge_links::FixedDirectedEdgeHandle;
 
 // Where a walk is: in the face on the left of an edge. The positions of its ends are kept, so that
 // a step reads that of one vertex.
@@ -33,16 +33,16 @@ pub(crate) enum Step<S> {
 // The positions of the ends of an edge.
 #[inline(always)]
 pub(crate) fn ends_of<V: HasPosition, DE, UE, F, P: PlaneTests<V::Scalar>>(
-    placed: &Placed<'_, V, DE, UE, F, P>,
+    embedding: &Embedding<'_, V, DE, UE, F, P>,
     edge: FixedDirectedEdgeHandle,
 ) -> (Point2<V::Scalar>, Point2<V::Scalar>)
-    requires { edge < length placed.now.dcel.directed }
-    ensures stop { IsStopOf V.place V.Scalar.whole P.covered placed.now
+    requires { edge < length embedding.now.dcel.directed }
+    ensures stop { IsStopOf V.place V.Scalar.whole P.covered embedding.now
         (record { edge = edge; from = result.0; to = result.1 }) }
-    ensures edge { IsMeshEdge (map V.place placed.now.dcel.vertices) placed.now.dcel.mesh edge }
+    ensures edge { IsMeshEdge (map V.place embedding.now.dcel.vertices) embedding.now.dcel.mesh edge }
 {
-    let to = placed.dcel.directed_edge(edge).rev().fix();
-    (placed.start_of(edge), placed.start_of(to))
+    let to = embedding.dcel.directed_edge(edge).rev().fix();
+    (embedding.start_of(edge), embedding.start_of(to))
 }
 
 // The step from the inner face on the left of an edge: across a side that has the position strictly
@@ -50,18 +50,18 @@ pub(crate) fn ends_of<V: HasPosition, DE, UE, F, P: PlaneTests<V::Scalar>>(
 // strictly inside, or the side that it is on.
 #[inline(always)]
 pub(crate) fn way_through<V: HasPosition, DE, UE, F, P: PlaneTests<V::Scalar>>(
-    placed: &Placed<'_, V, DE, UE, F, P>,
+    embedding: &Embedding<'_, V, DE, UE, F, P>,
     point: Point2<V::Scalar>,
     stop: Stop<V::Scalar>,
 ) -> Step<V::Scalar>
-    requires stop { IsStopOf V.place V.Scalar.whole P.covered placed.now stop }
-    requires inner { 0 < face placed.now.dcel.mesh stop.edge }
-    requires covered { P.covered placed.now.tests (place_of V.Scalar.whole point) }
-    ensures { IsStepOf V.place V.Scalar.whole P.covered placed.now point result }
+    requires stop { IsStopOf V.place V.Scalar.whole P.covered embedding.now stop }
+    requires inner { 0 < face embedding.now.dcel.mesh stop.edge }
+    requires covered { P.covered embedding.now.tests (place_of V.Scalar.whole point) }
+    ensures { IsStepOf V.place V.Scalar.whole P.covered embedding.now point result }
 {
-    let here = placed.dcel.directed_edge(stop.edge);
+    let here = embedding.dcel.directed_edge(stop.edge);
     let Stop { from, to, .. } = stop;
-    let across = placed.start_before(stop.edge);
+    let across = embedding.start_before(stop.edge);
     let behind = Stop {
         edge: here.prev().fix(),
         from: across,
@@ -72,15 +72,15 @@ pub(crate) fn way_through<V: HasPosition, DE, UE, F, P: PlaneTests<V::Scalar>>(
         from: to,
         to: across,
     };
-    let at_behind = placed.tests.side(across, from, point);
+    let at_behind = embedding.tests.side(across, from, point);
     if at_behind.is_on_right_side() {
         return Step::Beyond(behind);
     }
-    let at_ahead = placed.tests.side(to, across, point);
+    let at_ahead = embedding.tests.side(to, across, point);
     if at_ahead.is_on_right_side() {
         return Step::Beyond(ahead);
     }
-    let at_stop = placed.tests.side(from, to, point);
+    let at_stop = embedding.tests.side(from, to, point);
     if at_stop.is_on_right_side() {
         return Step::Beyond(stop);
     }
@@ -100,19 +100,19 @@ pub(crate) fn way_through<V: HasPosition, DE, UE, F, P: PlaneTests<V::Scalar>>(
 // position is strictly on the left of that.
 #[inline(never)]
 pub(crate) fn way_near_hull<V: HasPosition, DE, UE, F, P: PlaneTests<V::Scalar>>(
-    placed: &Placed<'_, V, DE, UE, F, P>,
+    embedding: &Embedding<'_, V, DE, UE, F, P>,
     point: Point2<V::Scalar>,
     stop: Stop<V::Scalar>,
 ) -> Step<V::Scalar>
-    requires stop { IsStopOf V.place V.Scalar.whole P.covered placed.now stop }
-    requires covered { P.covered placed.now.tests (place_of V.Scalar.whole point) }
-    ensures { IsStepOf V.place V.Scalar.whole P.covered placed.now point result }
+    requires stop { IsStopOf V.place V.Scalar.whole P.covered embedding.now stop }
+    requires covered { P.covered embedding.now.tests (place_of V.Scalar.whole point) }
+    ensures { IsStepOf V.place V.Scalar.whole P.covered embedding.now point result }
 {
-    if is_outer(placed.dcel, stop.edge) {
-        if turns_left(stop.from, stop.to, point, placed.tests) {
+    if is_outer(embedding.dcel, stop.edge) {
+        if turns_left(stop.from, stop.to, point, embedding.tests) {
             return Step::Found(PositionInTriangulation::OutsideOfConvexHull(stop.edge));
         }
         return Step::Beyond(stop);
     }
-    way_through(placed, point, stop)
+    way_through(embedding, point, stop)
 }

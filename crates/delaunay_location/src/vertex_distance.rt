@@ -1,14 +1,12 @@
 //! Squared distances from a position to vertices.
 ghost use Rattle.std.specs.Prelude.{◌≡◌, ◌↔◌, ℕ, ◌<◌, ◌<ℤ◌, length, map, IsTrue};
-ghost use Rattle.delaunay_legalization.specs.plane.Fraction.{whole as fraction};
-ghost use Rattle.delaunay_legalization.specs.plane.Circle.{gap};
-ghost use Rattle.delaunay_legalization.specs.plane.Pairs.{place};
-ghost use Rattle.delaunay_legalization.specs.delaunay_core.Place.{place_of};
-ghost use Rattle.delaunay_location.specs.Distances.{CanMeasure};
+ghost use Rattle.plane.specs.{gap, place, whole as fraction};
+ghost use Rattle.{delaunay_core.specs.place_of, delaunay_location.specs.Distances.CanMeasure};
 
-use delaunay_legalization::delaunay_core::point::{HasPosition, Point2};
-use delaunay_legalization::half_edge_dcel::{Dcel, FixedVertexHandle};
+use delaunay_core::point::{HasPosition, Point2};
 use delaunay_legalization::position_of;
+use half_edge_dcel::Dcel;
+use half_edge_links::FixedVertexHandle;
 
 // The squared distance from a position to a vertex.
 pub(crate) fn distance_2_to<V: HasPosition, DE, UE, F>(

@@ -1,22 +1,19 @@
 //! Where a position is, by a walk from face to face.
 ghost use Rattle.std.specs.Prelude.{◌<◌, length, map, IfSome};
-ghost use Rattle.delaunay_legalization.specs.delaunay_core.Place.{place_of};
-ghost use Rattle.delaunay_legalization.specs.Placed.{Reading};
-ghost use Rattle.delaunay_location.specs.Distances.{CanMeasure};
-ghost use Rattle.delaunay_location.specs.Location.{IsPlaceOf, Locates};
-ghost use Rattle.delaunay_location.specs.Stop.{IsWalkOf};
+ghost use Rattle.{delaunay_core.specs.place_of, delaunay_location.specs.Distances.CanMeasure};
+ghost use Rattle.delaunay_legalization.specs.{Reading};
+ghost use Rattle.delaunay_location.specs.{Location.IsPlaceOf, Location.Locates, Stop.IsWalkOf};
 
+use crate::PositionInTriangulation;
 use crate::line::place_on_line;
 use crate::location::place_by_scan;
-use crate::position_in_triangulation::PositionInTriangulation;
 use crate::samples::nearer_sample;
 use crate::steps::{Step, Stop, ends_of, way_near_hull, way_through};
-use delaunay_legalization::delaunay_core::math::PlaneTests;
-use delaunay_legalization::delaunay_core::point::{HasPosition, Point2};
-use delaunay_legalization::half_edge_dcel::{
-    Dcel, FixedDirectedEdgeHandle, FixedVertexHandle, MeshViews,
-};
-use delaunay_legalization::{Placed, is_same_point, is_strictly_within};
+use delaunay_core::math::PlaneTests;
+use delaunay_core::point::{HasPosition, Point2};
+use delaunay_legalization::{Embedding, is_same_point, is_strictly_within};
+use half_edge_dcel::{Dcel, MeshViews};
+use half_edge_links::{FixedDirectedEdgeHandle, FixedVertexHandle};
 
 // After so many steps a walk looks for a nearer vertex anywhere in the mesh.
 pub(crate) const FEW_STEPS: usize = 16;
@@ -32,23 +29,23 @@ pub(crate) enum Walked {
 // The location of a position on an edge: at one of its ends, or within it.
 #[inline(never)]
 pub(crate) fn place_on_edge<V: HasPosition, DE, UE, F, P: PlaneTests<V::Scalar>>(
-    placed: &Placed<'_, V, DE, UE, F, P>,
+    embedding: &Embedding<'_, V, DE, UE, F, P>,
     point: Point2<V::Scalar>,
     edge: FixedDirectedEdgeHandle,
 ) -> Option<PositionInTriangulation>
-    requires within { edge < length placed.now.dcel.directed }
-    requires covered { P.covered placed.now.tests (place_of V.Scalar.whole point) }
-    ensures { IfSome result (IsPlaceOf V.place V.Scalar.whole placed.now point) }
+    requires within { edge < length embedding.now.dcel.directed }
+    requires covered { P.covered embedding.now.tests (place_of V.Scalar.whole point) }
+    ensures { IfSome result (IsPlaceOf V.place V.Scalar.whole embedding.now point) }
 {
-    let (from, to) = ends_of(placed, edge);
-    let here = placed.dcel.directed_edge(edge);
+    let (from, to) = ends_of(embedding, edge);
+    let here = embedding.dcel.directed_edge(edge);
     if is_same_point(from, point) {
         return Some(PositionInTriangulation::OnVertex(here.from().fix()));
     }
     if is_same_point(to, point) {
         return Some(PositionInTriangulation::OnVertex(here.to().fix()));
     }
-    if is_strictly_within(from, to, point, placed.tests) {
+    if is_strictly_within(from, to, point, embedding.tests) {
         return Some(PositionInTriangulation::OnEdge(edge));
     }
     None
@@ -61,26 +58,26 @@ pub(crate) fn place_on_edge<V: HasPosition, DE, UE, F, P: PlaneTests<V::Scalar>>
 // sides are asked for while the corner between them is on its way from memory, and the next step
 // does not wait for its own.
 fn walk_on<V: HasPosition, DE, UE, F, P: PlaneTests<V::Scalar>>(
-    placed: &Placed<'_, V, DE, UE, F, P>,
+    embedding: &Embedding<'_, V, DE, UE, F, P>,
     point: Point2<V::Scalar>,
     edge: FixedDirectedEdgeHandle,
     steps: usize,
 ) -> Walked
-    requires within { edge < length placed.now.dcel.directed }
-    requires covered { P.covered placed.now.tests (place_of V.Scalar.whole point) }
-    ensures { IsWalkOf V.place V.Scalar.whole placed.now point result }
+    requires within { edge < length embedding.now.dcel.directed }
+    requires covered { P.covered embedding.now.tests (place_of V.Scalar.whole point) }
+    ensures { IsWalkOf V.place V.Scalar.whole embedding.now point result }
 {
-    let (from, to) = ends_of(placed, edge);
+    let (from, to) = ends_of(embedding, edge);
     let mut stop = Stop { edge, from, to };
     for _ in 0..steps {
-        let here = placed.dcel.directed_edge(stop.edge);
+        let here = embedding.dcel.directed_edge(stop.edge);
         let step = if here.is_outer_edge()
             || here.prev().rev().is_outer_edge()
             || here.next().rev().is_outer_edge()
         {
-            way_near_hull(placed, point, stop)
+            way_near_hull(embedding, point, stop)
         } else {
-            way_through(placed, point, stop)
+            way_through(embedding, point, stop)
         };
         match step {
             Step::Beyond(side) => {
@@ -91,7 +88,7 @@ fn walk_on<V: HasPosition, DE, UE, F, P: PlaneTests<V::Scalar>>(
                 };
             }
             Step::Found(place) => return Walked::Ended(Some(place)),
-            Step::OnSide(side) => return Walked::Ended(place_on_edge(placed, point, side)),
+            Step::OnSide(side) => return Walked::Ended(place_on_edge(embedding, point, side)),
         }
     }
     Walked::Reached(stop.edge)
@@ -102,22 +99,22 @@ fn walk_on<V: HasPosition, DE, UE, F, P: PlaneTests<V::Scalar>>(
 // pass the circle test it ends earlier. A long walk goes on at a vertex all over the mesh, if one
 // of those looked at is nearer.
 fn walk_from<V: HasPosition, DE, UE, F, P: PlaneTests<V::Scalar>>(
-    placed: &Placed<'_, V, DE, UE, F, P>,
+    embedding: &Embedding<'_, V, DE, UE, F, P>,
     point: Point2<V::Scalar>,
     start: FixedDirectedEdgeHandle,
 ) -> Option<PositionInTriangulation>
-    requires within { start < length placed.now.dcel.directed }
-    requires covered { P.covered placed.now.tests (place_of V.Scalar.whole point) }
-    ensures { IfSome result (IsPlaceOf V.place V.Scalar.whole placed.now point) }
+    requires within { start < length embedding.now.dcel.directed }
+    requires covered { P.covered embedding.now.tests (place_of V.Scalar.whole point) }
+    ensures { IfSome result (IsPlaceOf V.place V.Scalar.whole embedding.now point) }
 {
-    if placed.dcel.num_inner_faces() == 0 {
-        return place_on_line(placed, point, start);
+    if embedding.dcel.num_inner_faces() == 0 {
+        return place_on_line(embedding, point, start);
     }
-    let edge = match walk_on(placed, point, start, FEW_STEPS) {
+    let edge = match walk_on(embedding, point, start, FEW_STEPS) {
         Walked::Ended(place) => return place,
-        Walked::Reached(edge) => nearer_edge(placed.dcel, edge, point),
+        Walked::Reached(edge) => nearer_edge(embedding.dcel, edge, point),
     };
-    match walk_on(placed, point, edge, placed.dcel.num_directed_edges()) {
+    match walk_on(embedding, point, edge, embedding.dcel.num_directed_edges()) {
         Walked::Ended(place) => place,
         Walked::Reached(_) => None,
     }
@@ -143,7 +140,7 @@ pub(crate) fn nearer_edge<V: HasPosition, DE, UE, F>(
     }
 }
 
-/// Where positions are, in a mesh with its points. What each call gives is said at `Placed`.
+/// Where positions are, in a mesh with its points. What each call gives is said at `Embedding`.
 pub trait LocationViews<V: HasPosition, DE, UE, F, P: PlaneTests<V::Scalar>> {
     ghost reading: { Self → Reading V DE UE F P };
 
@@ -160,7 +157,7 @@ pub trait LocationViews<V: HasPosition, DE, UE, F, P: PlaneTests<V::Scalar>> {
 }
 
 impl<V: HasPosition, DE, UE, F, P: PlaneTests<V::Scalar>> LocationViews<V, DE, UE, F, P>
-    for Placed<'_, V, DE, UE, F, P> {
+    for Embedding<'_, V, DE, UE, F, P> {
     ghost reading = { λ s. s };
 
     fn locate_with_hint(

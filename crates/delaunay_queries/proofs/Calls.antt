@@ -5,16 +5,13 @@ use Rattle.std.proofs.Common.{◌≡◌, map, sym, subst, arith}
 use Rattle.std.specs.Prelude.{All, Result, Ok, Err, IfOk}
 use Rattle.std.specs.Borrow.{Bor}
 use Rattle.std.proofs.lemmas.List.Elements.{All-map}
-use Rattle.delaunay_interface.specs.half_edge_dcel.Contents.{Contents}
-use Rattle.delaunay_interface.specs.plane.Fraction.{Point, Fraction}
-use Rattle.delaunay_interface.specs.plane.Tests.{InRange}
-use Rattle.delaunay_interface.specs.delaunay_edit.Headline.{AreSites}
-use Rattle.delaunay_interface.specs.delaunay_legalization.Shape.{IsTriangulated}
-use Rattle.delaunay_interface.specs.delaunay_legalization.State.{State, state_of}
+use Rattle.plane.specs.{Fraction, InRange, Point}
+use Rattle.delaunay_legalization.specs.{IsTriangulated, State.State, state_of}
+use Rattle.delaunay_shapes.specs.{corners, edges_left, vertices_left}
+use Rattle.delaunay_shapes.specs.Left.{GivesEdgesIn, GivesVerticesIn}
 use Rattle.delaunay_shapes.specs.declared.in_shape.EdgesInShapeIterator.{EdgesInShapeIterator}
 use Rattle.delaunay_shapes.specs.declared.in_shape.VerticesInShapeIterator.{VerticesInShapeIterator}
-use Rattle.delaunay_shapes.specs.Left.{GivesEdgesIn, GivesVerticesIn, edges_left, vertices_left}
-use Rattle.delaunay_shapes.specs.Tests.{corners}
+use Rattle.{delaunay_edit.specs.AreSites, half_edge_dcel.specs.Contents}
 use Rattle.delaunay_queries.specs.Found.{FindsEdges, FindsVertices}
 
 -- what holds of all corners of a rectangle holds of the lower one

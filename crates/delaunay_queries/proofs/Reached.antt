@@ -10,35 +10,21 @@ use Rattle.std.specs.Prelude.{ℤ, pos, ◌+ℤ◌, ◌≤ℤ◌, ◌<ℤ◌, ne
 use Rattle.std.proofs.lemmas.Bool.{cases_eq, eqb-true}
 use Rattle.std.proofs.lemmas.Int.{ints}
 use Rattle.std.proofs.lemmas.List.{length-map}
-use Rattle.delaunay_interface.specs.half_edge_links.Mesh.{Mesh, origin, next, prev, face, rev}
-use Rattle.delaunay_interface.specs.half_edge_links.Mesh.{face_edge, IsValidMesh}
-use Rattle.delaunay_interface.specs.half_edge_links.Triangles.{triangles, triangle_at}
-use Rattle.delaunay_interface.proofs.half_edge_links_lemmas.Lists.Rev.{rev-rev, rev_within}
-use Rattle.delaunay_interface.proofs.half_edge_links_lemmas.Sound.Triangles as T
-use Rattle.delaunay_interface.specs.plane.Fraction.{Point, whole}
-use Rattle.delaunay_interface.specs.plane.Tiling.{Face}
-use Rattle.delaunay_interface.proofs.plane.Bracket.{lift, bracket}
-use Rattle.delaunay_interface.proofs.plane.BracketIdentities.{bracket-sum, bracket-swap}
-use Rattle.delaunay_interface.proofs.plane.Sides.{if_left}
-use Rattle.delaunay_interface.specs.plane_theorems.Tiling.Local.{LocalMesh, IsMesh, around, along}
-use Rattle.delaunay_interface.specs.plane_theorems.Tiling.Local.{total}
-use Rattle.delaunay_interface.specs.plane_theorems.Tiling.Local.{IsAntisymmetric}
-use Rattle.delaunay_interface.proofs.plane_theorems.Tiling.Totals.{all_none, get_or_any}
-use Rattle.delaunay_interface.proofs.plane_theorems.Tiling.Totals.{total_at_least}
-use Rattle.delaunay_interface.specs.delaunay_legalization.Drawn.{corners_of, faces_of, outer_of}
-use Rattle.delaunay_interface.proofs.delaunay_legalization_lemmas.MeshLegal.{own_indexes}
-use Rattle.delaunay_interface.proofs.delaunay_legalization_lemmas.MeshStars.{IsEdgeOfFace}
-use Rattle.delaunay_interface.proofs.delaunay_legalization_lemmas.MeshStars.{edge_of_face}
-use Rattle.delaunay_interface.proofs.delaunay_legalization_lemmas.OuterEdges.{real}
-use Rattle.delaunay_interface.proofs.delaunay_legalization_lemmas.WorkLists.{contains_map}
-use Rattle.delaunay_queries.specs.Layers.{AreLayers}
-use Rattle.delaunay_interface.specs.half_edge_dcel.Contents.{Contents}
-use Rattle.delaunay_interface.specs.delaunay_legalization.Shape.{IsTriangulated}
-use Rattle.delaunay_interface.specs.delaunay_legalization.State.{state_of}
-use Rattle.delaunay_queries.specs.Search.{unseen, layer_at, IsMet, IsFound, IsLayered, IsSearching}
+use Rattle.plane.proofs.{bracket, bracket-sum, bracket-swap, if_left, lift}
+use Rattle.half_edge_links.specs.{face, face_edge, IsValidMesh, Mesh, next, origin, prev, rev}
+use Rattle.half_edge_links.specs.{triangle_at, triangles}
+use Rattle.half_edge_links.proofs.{rev-rev, rev_within}
+use Rattle.plane_theorems.specs.{along, around, IsAntisymmetric, IsMesh, LocalMesh, total}
+use Rattle.plane_theorems.proofs.{get_or_any, Tiling.Totals.all_none, Tiling.Totals.total_at_least}
+use Rattle.{half_edge_dcel.specs.Contents, plane.specs.Face, plane.specs.Point, plane.specs.whole}
+use Rattle.delaunay_legalization.specs.{corners_of, faces_of, IsTriangulated, outer_of, state_of}
+use Rattle.delaunay_legalization.proofs.{contains_map, edge_of_face, own_indexes, real}
+use Rattle.delaunay_legalization.proofs.MeshStars.{IsEdgeOfFace}
+use Rattle.delaunay_queries.specs.{AreLayers, IsMet, IsSearching, layer_at}
+use Rattle.delaunay_queries.specs.Search.{IsFound, IsLayered, unseen}
 use Rattle.delaunay_queries.specs.declared.search.LayerSearch.{LayerSearch}
-use Rattle.delaunay_queries.proofs.Searching.{all_found}
-use Rattle.delaunay_queries.proofs.Ways.{no_shorter}
+use Rattle.delaunay_queries.proofs.{Searching.all_found, Ways.no_shorter}
+use Rattle.half_edge_links.proofs.Sound.Triangles as T
 
 -- ---- a test of the numbers below a bound
 abbrev any_below : (ℕ → Bool) → ℕ → Bool

@@ -10,9 +10,6 @@ use mathlib.Core.Bool.{Bool, true, false, ◌||◌}
 use Rattle.std.specs.List.{list_any}
 use Rattle.std.proofs.lemmas.List.Folds.{list_any_at}
 use Rattle.std.proofs.lemmas.Bool.Decides.{eqb_tells}
-use Rattle.delaunay_interface.proofs.half_edge_links_lemmas.Lists.Rev.{rev_within}
-use Rattle.delaunay_interface.proofs.plane_theorems.Tiling.Totals.{get_or_any}
-use Rattle.delaunay_queries.proofs.Ways.{way_on}
 use mathlib.Core.Logic.{inl, inr, ◌≢◌}
 use Rattle.std.specs.Prelude.{Contains, cond, nat_eq}
 use Rattle.std.proofs.lemmas.Bool.{cases_eq}
@@ -22,17 +19,15 @@ use Rattle.std.proofs.lemmas.List.{length-replicate}
 use Rattle.std.proofs.lemmas.List.Elements.{Contains-push, Contains-push_cases}
 use Rattle.std.proofs.lemmas.List.Elements.{Contains-append_left}
 use Rattle.std.proofs.lemmas.List.Sums.{count_by-le-length, sum_by-set}
-use Rattle.delaunay_interface.specs.half_edge_links.Mesh.{Mesh, face, rev, next, prev, face_edge}
-use Rattle.delaunay_interface.specs.half_edge_links.Mesh.{AreSoundLinks}
-use Rattle.delaunay_interface.proofs.half_edge_links_lemmas.Sound.Triangles.{same_loop, triangle_at}
-use Rattle.delaunay_queries.specs.Search.{unseen, layer_at, IsMet, left_unseen, weight, HasWay}
-use Rattle.delaunay_queries.specs.Search.{IsDue, IsReachedAcross, IsLayered, IsSideOf, Lists}
-use Rattle.delaunay_queries.specs.Search.{work_left}
-use Rattle.delaunay_queries.specs.Search.{IsFound, IsSearching, PutsIn, TakesNow, TakesLater}
-use Rattle.delaunay_queries.specs.declared.search.LayerSearch.{LayerSearch}
-use Rattle.delaunay_interface.specs.half_edge_dcel.Contents.{Contents, IsMeshWithData}
-use Rattle.delaunay_interface.specs.half_edge_links.declared.room.TheConstants.{MAX_ELEMENTS}
-use Rattle.delaunay_queries.specs.Layers.{is_constrained}
+use Rattle.half_edge_links.specs.{AreSoundLinks, face, face_edge, MAX_ELEMENTS, Mesh, next, prev}
+use Rattle.half_edge_links.proofs.{rev_within, Sound.Triangles.same_loop, triangle_at}
+use Rattle.half_edge_dcel.specs.{Contents, IsMeshWithData}
+use Rattle.delaunay_queries.specs.{is_constrained, IsMet, IsSearching, IsSideOf, layer_at, PutsIn}
+use Rattle.{delaunay_queries.specs.weight, half_edge_links.specs.rev}
+use Rattle.delaunay_queries.specs.Search.{HasWay, IsDue, IsFound, IsLayered, IsReachedAcross}
+use Rattle.delaunay_queries.specs.Search.{left_unseen, Lists, TakesLater, TakesNow, unseen}
+use Rattle.delaunay_queries.specs.{declared.search.LayerSearch.LayerSearch, Search.work_left}
+use Rattle.{delaunay_queries.proofs.Ways.way_on, plane_theorems.proofs.get_or_any}
 
 none_in : (h : ℕ) → Contains [] h → ⊥
 none_in h c = let w = c.1 in omega (arith, w)

@@ -4,9 +4,9 @@ use Rattle.std.proofs.Common.{◌≡◌, ◌+◌, ◌<◌, ◌≤◌, [], ◌∷
 use Rattle.std.proofs.Common.{ℕ, List, length, refl, sym, ap, subst, arith}
 use Rattle.std.proofs.lemmas.List.Sums.{sum_by-append}
 use Rattle.std.specs.Prelude.{cond}
-use Rattle.delaunay_interface.specs.half_edge_links.Mesh.{Mesh, face, rev}
-use Rattle.delaunay_queries.specs.Layers.{Leads, is_constrained, crossed}
-use Rattle.delaunay_queries.specs.Search.{weight, HasWay, IsMet, IsReachedAcross, layer_at}
+use Rattle.half_edge_links.specs.{face, Mesh, rev}
+use Rattle.delaunay_queries.specs.{crossed, is_constrained, IsMet, layer_at, Leads, weight}
+use Rattle.delaunay_queries.specs.Search.{HasWay, IsReachedAcross}
 
 module _ (m : Mesh) (constraints : List ℕ) where
   -- one edge more

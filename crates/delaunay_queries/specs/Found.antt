@@ -1,11 +1,11 @@
 -- The edges and vertices of a triangulation that have a point in a shape.
 use Rattle.std.specs.Prelude.{◌≡◌, ℕ, List}
 use Rattle.std.specs.Borrow.{Bor}
-use Rattle.delaunay_interface.specs.half_edge_dcel.Contents.{Contents}
-use Rattle.delaunay_interface.specs.plane.Fraction.{Point, Fraction}
-use Rattle.delaunay_interface.specs.delaunay_legalization.State.{State, state_of}
-pub use Rattle.delaunay_shapes.specs.Left.{GivesEdgesIn, GivesVerticesIn, edges_left, vertices_left}
-pub use Rattle.delaunay_shapes.specs.Tests.{corners}
+use Rattle.{delaunay_legalization.specs.state_of, half_edge_dcel.specs.Contents}
+use Rattle.{delaunay_legalization.specs.State.State, plane.specs.Fraction, plane.specs.Point}
+pub use Rattle.delaunay_shapes.specs.Left.{GivesEdgesIn, GivesVerticesIn}
+pub use Rattle.delaunay_shapes.specs.{edges_left, vertices_left}
+pub use Rattle.delaunay_shapes.specs.{corners}
 
 -- the given are handles of the edges of a triangulation in state s that have a point in the shape,
 -- each once

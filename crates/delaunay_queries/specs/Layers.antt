@@ -2,7 +2,7 @@
 use Rattle.std.specs.Prelude.{◌≡◌, ◌+◌, ◌/◌, ◌<◌, ◌≤◌, [], ◌∷◌}
 use Rattle.std.specs.Prelude.{ℕ, Bool, List, length, nat_eq, slice_index_or}
 use Rattle.std.specs.List.{count_by, list_any}
-use Rattle.delaunay_interface.specs.half_edge_links.Mesh.{Mesh, face, rev}
+use Rattle.half_edge_links.specs.{face, Mesh, rev}
 
 -- whoever is in face f and crosses these edges one after the other, each from its left to its
 -- right, comes to face g

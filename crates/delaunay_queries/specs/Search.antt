@@ -3,10 +3,10 @@ use Rattle.std.specs.Prelude.{◌≡◌, ◌≢◌, ◌⊎◌, ◌+◌, ◌*◌,
 use Rattle.std.specs.Prelude.{[], ◌∷◌, ◌++◌, Option, MatchOption}
 use Rattle.std.specs.Prelude.{ℕ, List, length, Contains, cond, nat_eq, slice_index_or}
 use Rattle.std.specs.List.{count_by}
-use Rattle.delaunay_interface.specs.half_edge_dcel.Contents.{Contents, IsMeshWithData}
-use Rattle.delaunay_interface.specs.half_edge_links.Mesh.{Mesh, face, rev}
+use Rattle.half_edge_links.specs.{face, Mesh, rev}
+use Rattle.half_edge_dcel.specs.{Contents, IsMeshWithData}
+use Rattle.delaunay_queries.specs.Layers.{crossed, is_constrained, Leads}
 use Rattle.delaunay_queries.specs.declared.search.LayerSearch.{LayerSearch}
-use Rattle.delaunay_queries.specs.Layers.{Leads, is_constrained, crossed}
 
 -- what stands in place of the layer of a face that was not reached
 abbrev pub unseen : ℕ

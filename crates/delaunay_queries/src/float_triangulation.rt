@@ -1,16 +1,13 @@
 //! The calls of both triangulations that ask for edges and vertices in a rectangle or a circle.
 ghost use Rattle.std.specs.Prelude.{◌≤ℤ◌, pos, All, IfOk};
-ghost use Rattle.delaunay_interface.specs.delaunay_core.Place.{place_of};
-ghost use Rattle.delaunay_interface.specs.delaunay_edit.Headline.{AreSites};
-ghost use Rattle.delaunay_shapes.specs.Left.{edges_left, vertices_left};
-ghost use Rattle.delaunay_shapes.specs.Start.{HasStartAt};
-ghost use Rattle.delaunay_shapes.specs.Tests.{corners};
+ghost use Rattle.plane.specs.{InClosedCircle, InClosedRectangle};
+ghost use Rattle.{delaunay_core.specs.place_of, delaunay_edit.specs.AreSites};
+ghost use Rattle.delaunay_shapes.specs.{corners, edges_left, HasStartAt, vertices_left};
 ghost use Rattle.delaunay_queries.specs.Found.{FindsEdges, FindsVertices};
-ghost use Rattle.delaunay_interface.specs.plane.Shape.{InClosedCircle, InClosedRectangle};
 
-use delaunay_interface::delaunay_core::HintGenerator;
-use delaunay_interface::delaunay_core::math::PlaneTests;
-use delaunay_interface::delaunay_core::point::{HasPosition, Point2};
+use delaunay_core::HintGenerator;
+use delaunay_core::math::PlaneTests;
+use delaunay_core::point::{HasPosition, Point2};
 use delaunay_interface::{DirectedOf, FaceOf, Triangulation, UndirectedOf, VertexOf};
 use delaunay_shapes::{
     CircleMetric, DistanceMetric, EdgesInShapeIterator, RectangleMetric, VerticesInShapeIterator,

@@ -2,15 +2,14 @@
 //! any other edge.
 ghost use Rattle.std.specs.Prelude.{◌≡◌, ◌+◌, ◌*◌, ◌<◌, ◌≤◌, ◌++◌, ◌∷◌, [], length};
 ghost use Rattle.std.specs.Prelude.{IfOk, MatchOption, OnOk};
-ghost use Rattle.delaunay_interface.specs.delaunay_legalization.Shape.{IsTriangulated};
-ghost use Rattle.delaunay_interface.specs.delaunay_legalization.State.{state_of};
-ghost use Rattle.delaunay_queries.specs.Layers.{AreLayers};
+ghost use Rattle.delaunay_legalization.specs.{IsTriangulated, state_of};
+ghost use Rattle.delaunay_queries.specs.{Layers.AreLayers, Search.unseen, Search.work_left};
 ghost use Rattle.delaunay_queries.specs.Search.{IsSearching, IsSideOf, Lists, PutsIn, TakesNext};
-ghost use Rattle.delaunay_queries.specs.Search.{unseen, work_left};
 
-use delaunay_interface::delaunay_core::point::HasPosition;
-use delaunay_interface::delaunay_legalization::{ConstraintMarker, is_constraint_edge};
-use delaunay_interface::half_edge_mesh::{Dcel, FixedDirectedEdgeHandle, MeshViews};
+use delaunay_core::point::HasPosition;
+use delaunay_legalization::{ConstraintMarker, is_constraint_edge};
+use half_edge_dcel::{Dcel, MeshViews};
+use half_edge_links::FixedDirectedEdgeHandle;
 use std::alloc::{AllocError, Global};
 
 // In place of the layer of a face that was not reached.

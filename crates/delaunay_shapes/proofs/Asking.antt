@@ -14,15 +14,12 @@ use Rattle.std.proofs.lemmas.Grind.{common_steps}
 use Rattle.std.proofs.lemmas.List.{get_or-set_same, get_or-set_other, map-append}
 use Rattle.std.proofs.lemmas.List.{length-set, length-replicate, get_or-replicate, append-nil}
 use Rattle.std.proofs.lemmas.List.Elements.{Contains-append_cases}
-use Rattle.delaunay_location.specs.half_edge_links.Mesh.{Mesh, next, prev, rev}
-use Rattle.delaunay_location.proofs.plane_theorems.Tiling.Totals.{Contains-none, get_or_any}
-use Rattle.delaunay_location.proofs.plane_theorems.Edits.LocalMesh.Changes.{IsOnce, once_none}
-use Rattle.delaunay_location.proofs.delaunay_legalization_lemmas.WorkLists.{contains_last}
-use Rattle.delaunay_location.proofs.delaunay_legalization_lemmas.WorkLists.{contains_before}
-use Rattle.delaunay_location.proofs.delaunay_legalization_lemmas.WorkLists.{last_or_before}
-use Rattle.delaunay_location.proofs.delaunay_legalization_lemmas.WorkLists.{once_after}
-use Rattle.delaunay_shapes.specs.Flood.{IsAsked, IsFlooding, Spreads, Asks, AsksBeside}
-use Rattle.delaunay_shapes.specs.InShape.{undirected_of}
+use Rattle.half_edge_links.specs.{Mesh, next, prev, rev}
+use Rattle.plane_theorems.proofs.{Contains-none, get_or_any, IsOnce, once_none}
+use Rattle.delaunay_legalization.proofs.{contains_before, contains_last, once_after}
+use Rattle.delaunay_legalization.proofs.WorkLists.{last_or_before}
+use Rattle.delaunay_shapes.specs.{IsAsked, IsFlooding, Spreads, undirected_of}
+use Rattle.delaunay_shapes.specs.Flood.{Asks, AsksBeside}
 
 -- ---- a filter
 -- of the numbers below i those that are inside, each once

@@ -6,17 +6,13 @@ use mathlib.Core.Bool.{Bool}
 use Rattle.std.specs.Prelude.{ℤ, pos, ◌-ℤ◌, ◌*ℤ◌, ◌≤ℤ◌, IsTrue}
 use Rattle.std.proofs.lemmas.Int.{ints}
 use Rattle.std.proofs.lemmas.Bool.Decides.{same_from_decides}
-use Rattle.delaunay_location.specs.plane.Fraction.{Point, whole}
-use Rattle.delaunay_location.specs.plane.Circle.{gap}
-use Rattle.delaunay_location.specs.plane.Shape.{InClosedCircle}
-use Rattle.delaunay_location.proofs.plane.Solver.{num, ◌⊕◌, ◌⊖◌, ◌⊗◌, ring_in}
-use Rattle.delaunay_location.specs.plane_theorems.Delaunay.EdgeTests.{distance_2, factor}
-use Rattle.delaunay_location.specs.plane_theorems.Delaunay.EdgeTests.{MeetsCircle}
-use Rattle.delaunay_location.specs.plane_theorems.Delaunay.EdgeTests.{HasPointIn}
-use Rattle.delaunay_location.proofs.plane_theorems.Delaunay.Floods.EdgeInCircle.{edge_meets_circle}
-use Rattle.delaunay_shapes.specs.Tests.{circle_distance, meets_circle, IsEdgeNear}
-use Rattle.delaunay_location.specs.delaunay_core.Projection.{along}
-use Rattle.delaunay_shapes.proofs.Decided.{decides_le, decides_lt, decides_or, decides_and_4}
+use Rattle.plane.specs.{gap, InClosedCircle, Point, whole}
+use Rattle.plane.proofs.{◌⊕◌, ◌⊖◌, ◌⊗◌, num, ring_in}
+use Rattle.plane_theorems.specs.{Delaunay.EdgeTests.MeetsCircle, distance_2, factor, HasPointIn}
+use Rattle.plane_theorems.proofs.Delaunay.Floods.EdgeInCircle.{edge_meets_circle}
+use Rattle.delaunay_core.specs.{along}
+use Rattle.delaunay_shapes.specs.{circle_distance, Tests.IsEdgeNear, Tests.meets_circle}
+use Rattle.delaunay_shapes.proofs.Decided.{decides_and_4, decides_le, decides_lt, decides_or}
 
 decides_meets : (c : Point) (r : ℤ) (p q : Point) → IsTrue (meets_circle c r p q)
     ↔ MeetsCircle c r p q

@@ -3,27 +3,17 @@
 -- false_tells, crossed_within, crossing_item, overlap_item.
 use Rattle.std.proofs.Common.{◌≡◌, ◌⊎◌, ◌<◌, ◌↔◌, ◌∙◌, ℕ, Bool, IsTrue, List, length, map}
 use Rattle.std.proofs.Common.{true, false, refl, sym, ap, subst, inl, inr}
-use Rattle.delaunay_location.specs.half_edge_links.Mesh.{Mesh, origin, rev}
-use Rattle.delaunay_location.specs.half_edge_dcel.Contents.{Contents}
-use Rattle.delaunay_location.proofs.half_edge_links_lemmas.Lists.Rev.{rev-rev}
-use Rattle.delaunay_location.specs.half_edge_dcel.declared.edge.DirectedEdgeHandle.{DirectedEdgeHandle}
-use Rattle.delaunay_location.specs.plane.Fraction.{Point, Fraction, whole}
-use Rattle.delaunay_location.specs.plane.Side.{side, on, opposite}
-use Rattle.delaunay_location.specs.plane.Pairs.{place}
-use Rattle.delaunay_location.specs.plane.Line.{Item, across, along}
-use Rattle.delaunay_location.proofs.plane.Sides.{side_swapped}
-use Rattle.plane_theorems.specs.Sight.Sight.{PassesFree}
-use Rattle.delaunay_location.specs.delaunay_legalization.Drawn.{drawn}
-use Rattle.delaunay_location.proofs.delaunay_legalization_lemmas.Questions.{both_ways}
-use Rattle.delaunay_location.specs.declared.intersection.Intersection.{Intersection}
-use Rattle.delaunay_location.specs.declared.intersection.Intersection.TheVariants.{EdgeIntersection}
-use Rattle.delaunay_location.specs.declared.intersection.Intersection.TheVariants.{EdgeOverlap}
-use Rattle.delaunay_location.specs.Items.{item_in, mesh_of}
-use Rattle.delaunay_location.specs.Walk.{IsOverMesh}
-use Rattle.delaunay_location.proofs.MeshSteps.{in_mesh}
-use Rattle.delaunay_shapes.specs.Beside.{by_place, IsFreeBeside, IsFreeUnlessOn}
-use Rattle.delaunay_shapes.specs.Passing.{Looking, Passes}
-use Rattle.delaunay_shapes.proofs.MeshFaces.{beside_iff, behind_iff}
+use Rattle.plane.specs.{across, along, Fraction, Item, on, opposite, place, Point, side, whole}
+use Rattle.plane.proofs.{side_swapped}
+use Rattle.half_edge_links.specs.{Mesh, origin, rev}
+use Rattle.{half_edge_links.proofs.rev-rev, plane_theorems.specs.PassesFree}
+use Rattle.half_edge_dcel.specs.{Contents, DirectedEdgeHandle}
+use Rattle.{delaunay_legalization.proofs.both_ways, delaunay_legalization.specs.drawn}
+use Rattle.delaunay_location.specs.{EdgeIntersection, EdgeOverlap, Intersection, IsOverMesh}
+use Rattle.delaunay_location.specs.{item_in, mesh_of}
+use Rattle.{delaunay_location.proofs.MeshSteps.in_mesh, delaunay_shapes.specs.Beside.IsFreeUnlessOn}
+use Rattle.delaunay_shapes.specs.{by_place, IsFreeBeside, Passing.Looking, Passing.Passes}
+use Rattle.delaunay_shapes.proofs.MeshFaces.{behind_iff, beside_iff}
 
 -- ---- answers that are known
 pub true_tells : {P : Type 0} → P → IsTrue true ↔ P
@@ -57,7 +47,7 @@ module _ {V D U F P : Type 0} {at : V → Point} {IsSite IsCovered : P → Point
 
   -- edge h is one of the mesh
   w : h < length m.half_edges
-  w = in_mesh over.placed h within
+  w = in_mesh over.embedding h within
 
   -- the reverse of the reverse starts where the edge does
   back : origin m (rev (rev h)) ≡ origin m h
@@ -67,8 +57,9 @@ module _ {V D U F P : Type 0} {at : V → Point} {IsSite IsCovered : P → Point
   pub crossed_iff : (IsFreeUnlessOn points m free p (rev h) × IsFreeUnlessOn points m free q h)
       ↔ Passed (across a b)
   crossed_iff =
-      let left = beside_iff points m over.placed.kept.valid over.placed.kept.shape free h w in
-      let right = behind_iff points m over.placed.kept.valid over.placed.kept.shape free h w in (
+      let left = beside_iff points m over.embedding.kept.valid over.embedding.kept.shape free h w in
+      let right = behind_iff points m over.embedding.kept.valid over.embedding.kept.shape free h w
+      in (
         (λ x. (
           (λ n. right.0 (x.0 (λ e. n (on_swapped (place points b) (place points a) (whole p) (subst
               (λ (i : ℕ). side (place points b) (place points i) (whole p) ≡ on) back e))))),
@@ -85,8 +76,9 @@ module _ {V D U F P : Type 0} {at : V → Point} {IsSite IsCovered : P → Point
   -- one of both
   pub along_iff : (IsFreeBeside m free h ⊎ IsFreeBeside m free (rev h)) ↔ Passed (along a b)
   along_iff =
-      let left = beside_iff points m over.placed.kept.valid over.placed.kept.shape free h w in
-      let right = behind_iff points m over.placed.kept.valid over.placed.kept.shape free h w in (
+      let left = beside_iff points m over.embedding.kept.valid over.embedding.kept.shape free h w in
+      let right = behind_iff points m over.embedding.kept.valid over.embedding.kept.shape free h w
+      in (
         (λ x. elim x [ inl f ↦ inl (left.0 f) | inr f ↦ inr (right.0 f) ]),
         (λ x. elim x [ inl f ↦ inl (left.1 f) | inr f ↦ inr (right.1 f) ]),
       )

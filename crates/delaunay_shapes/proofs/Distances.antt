@@ -5,19 +5,13 @@ use mathlib.Core.Logic.{◌↔◌, inl, inr}
 use mathlib.Core.Bool.{Bool, true, false, cond}
 use Rattle.std.specs.Prelude.{ℤ, pos, ◌+ℤ◌, ◌-ℤ◌, ◌*ℤ◌, ◌<ℤ◌, ◌≤ℤ◌, IsTrue, int_lt}
 use Rattle.std.proofs.lemmas.Int.{ints}
-use Rattle.delaunay_location.specs.plane.Fraction.{Point, Fraction, whole}
-use Rattle.delaunay_location.specs.plane.Circle.{gap}
-use Rattle.delaunay_location.specs.plane.Shape.{InClosedRectangle}
-use Rattle.delaunay_location.specs.plane.Tests.{IsCoordinate, InRange}
-use Rattle.delaunay_location.proofs.plane.IntegerOrder.{mul-nonneg_ℤ, square-nonneg_ℤ, square-pos_ℤ}
-use Rattle.delaunay_location.proofs.plane.IntegerOrder.{lt_or_ge_ℤ, mul-le-mul_ℤ}
-use Rattle.delaunay_location.proofs.plane.IntegerLaws.{add-mul_ℤ}
-use Rattle.delaunay_location.proofs.plane.Solver.{num, ◌⊕◌, ◌⊖◌, ◌⊗◌, ring_in}
-use Rattle.delaunay_shapes.specs.Tests.{IsReversed, is_reversed}
-use Rattle.delaunay_shapes.specs.Distance.{clamped, rectangle_distance, IsLeastDistance, farthest}
-use Rattle.delaunay_shapes.proofs.Decided.{decides_lt}
-use Rattle.delaunay_shapes.proofs.Rectangles.{sorted_x, sorted_y, decides_reversed}
-use Rattle.delaunay_location.proofs.plane.Signs.{positive_is_not_negative}
+use Rattle.plane.specs.{Fraction, gap, InClosedRectangle, InRange, IsCoordinate, Point, whole}
+use Rattle.plane.proofs.{◌⊕◌, ◌⊖◌, ◌⊗◌, lt_or_ge_ℤ, mul-le-mul_ℤ, mul-nonneg_ℤ, num, ring_in}
+use Rattle.plane.proofs.{Signs.positive_is_not_negative, square-nonneg_ℤ, square-pos_ℤ}
+use Rattle.{delaunay_shapes.specs.is_reversed, plane.proofs.IntegerLaws.add-mul_ℤ}
+use Rattle.delaunay_shapes.specs.Distance.{clamped, farthest, IsLeastDistance, rectangle_distance}
+use Rattle.{delaunay_shapes.proofs.Decided.decides_lt, delaunay_shapes.specs.Tests.IsReversed}
+use Rattle.delaunay_shapes.proofs.Rectangles.{decides_reversed, sorted_x, sorted_y}
 
 -- n is the number from low to high that is nearest to a
 data Nearest (low high a n : ℤ) : Type 0 where

@@ -4,14 +4,10 @@ use Rattle.std.proofs.Common.{◌≡◌, sym, subst, w64, to_z, of_z}
 use mathlib.Core.Logic.{◌↔◌}
 use mathlib.Core.Bool.{Bool, true}
 use Rattle.std.specs.Prelude.{ℤ, pos, ◌*ℤ◌, ◌≤ℤ◌, IsTrue}
-use Rattle.delaunay_location.specs.plane.Fraction.{Point, whole}
-use Rattle.delaunay_location.specs.plane.Circle.{gap}
-use Rattle.delaunay_location.specs.plane.Tests.{InRange}
-use Rattle.delaunay_location.specs.delaunay_core.Projection.{along}
-use Rattle.delaunay_location.proofs.delaunay_core_lemmas.Projections.{stays, along_bound}
-use Rattle.delaunay_location.proofs.delaunay_core_lemmas.Projections.{gap_passes}
-use Rattle.delaunay_shapes.specs.Tests.{circle_distance, FallsOn}
-use Rattle.delaunay_shapes.proofs.Decided.{and_also}
+use Rattle.plane.specs.{gap, InRange, Point, whole}
+use Rattle.{delaunay_core.specs.along, delaunay_shapes.specs.Tests.FallsOn}
+use Rattle.delaunay_core.proofs.Projections.{along_bound, gap_passes, stays}
+use Rattle.{delaunay_shapes.proofs.Decided.and_also, delaunay_shapes.specs.circle_distance}
 
 -- a projection that is on the edge, and a product that is compared with a square
 pub falls_told : (c : Point) (r : ℤ) (p q : Point) (on near : Bool) (d l f : ℤ) {m n : ℤ}

@@ -2,8 +2,8 @@
 -- Lemmas: three_sides, if_ok, on_ok.
 use Rattle.std.proofs.Common.{◌≡◌, ℕ, ◌/◌, [], ◌∷◌, arith}
 use Rattle.std.specs.Prelude.{Result, Ok, Err, IfOk, OnOk}
-use Rattle.delaunay_location.specs.half_edge_links.Mesh.{Mesh, next, prev}
-use Rattle.delaunay_shapes.specs.Start.{HasSides}
+use Rattle.half_edge_links.specs.{Mesh, next, prev}
+use Rattle.delaunay_shapes.specs.{HasSides}
 
 -- the three sides of a face, each by its index
 pub three_sides : (m : Mesh) (h x y z : ℕ) → x ≡ h / 2 → y ≡ next m h / 2 → z ≡ prev m h / 2 →

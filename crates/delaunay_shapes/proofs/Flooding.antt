@@ -9,36 +9,21 @@ use mathlib.Core.Bool.{Bool}
 use Rattle.std.specs.Prelude.{Contains, ◌==◌}
 use Rattle.std.proofs.lemmas.Bool.{cases_eq, eqb-true}
 use Rattle.std.proofs.lemmas.Grind.{common_steps}
-use Rattle.delaunay_location.specs.half_edge_links.Mesh.{Mesh, origin, next, prev, face, rev}
-use Rattle.delaunay_location.specs.half_edge_links.Mesh.{IsValidMesh, IsClosed, IsInnerEdge}
-use Rattle.delaunay_location.proofs.half_edge_links_lemmas.Lists.Rev.{rev-rev, rev_same, rev_within}
-use Rattle.delaunay_location.specs.plane.Fraction.{Point, Fraction}
-use Rattle.delaunay_location.specs.plane.Pairs.{Joins}
-use Rattle.delaunay_location.specs.plane.Shape.{IsEdgeIn}
-use Rattle.delaunay_location.specs.plane.Tiling.{Triangulation, IsEdge, IsFace, IsTiling, JoinsLine}
-use Rattle.delaunay_location.specs.plane_theorems.Tiling.Local.{IsMesh, LineMesh}
-use Rattle.delaunay_location.specs.plane_theorems.Delaunay.EdgeTests.{HasPointIn}
-use Rattle.delaunay_location.specs.plane_theorems.Delaunay.Flood.{Region, InRegion, IsFloodedAround}
-use Rattle.delaunay_location.proofs.plane_theorems.Delaunay.Floods.FloodOnLine.{turned_join}
-use Rattle.delaunay_location.proofs.plane_theorems.Delaunay.Floods.FloodOnLine.{turned_edge}
-use Rattle.delaunay_location.proofs.plane_theorems.Delaunay.Floods.FloodOnLine.{flood_finds_on_line}
-use Rattle.delaunay_location.proofs.plane_theorems.Delaunay.Floods.Flooded.{flood_finds_region}
-use Rattle.delaunay_location.specs.delaunay_legalization.Drawn.{drawn, faces_of, edges_of, outer_of}
-use Rattle.delaunay_location.specs.delaunay_legalization.Legal.{pair_at, pairs_at}
-use Rattle.delaunay_location.proofs.delaunay_legalization_lemmas.OwnEdges.{own_edges}
-use Rattle.delaunay_location.proofs.plane_theorems.Tiling.Meshes.{meshes_tile}
-use Rattle.delaunay_location.proofs.delaunay_legalization_lemmas.EdgePairs.{edge_joins, joins_edge}
-use Rattle.delaunay_location.proofs.delaunay_legalization_lemmas.MeshStars.{edge_of_face}
-use Rattle.delaunay_location.proofs.delaunay_legalization_lemmas.MeshStays.{halved, half_same}
-use Rattle.delaunay_location.proofs.delaunay_legalization_lemmas.MeshLegal.{own_indexes}
-use Rattle.delaunay_location.proofs.delaunay_legalization_lemmas.LineNeighbours.{two_neighbours}
-use Rattle.delaunay_location.proofs.delaunay_legalization_lemmas.WorkLists.{contains_map}
-use Rattle.delaunay_location.proofs.delaunay_legalization_lemmas.WorkLists.{contains_map_from}
-use Rattle.delaunay_shapes.specs.Known.{point_at}
-use Rattle.delaunay_shapes.specs.InShape.{IsEdgeInShape, AreEdgesInShape, undirected_of}
-use Rattle.delaunay_shapes.specs.Flood.{IsAsked, IsFlooding, AreAskedBeside, IsSpread}
-use Rattle.delaunay_shapes.specs.Flood.{HasBegunWith, IsBegunBy, Spreads}
-use Rattle.delaunay_shapes.specs.Start.{HasStartAt}
+use Rattle.plane.specs.{Fraction, IsEdge, IsEdgeIn, IsFace, IsTiling, Joins, JoinsLine, Point}
+use Rattle.half_edge_links.specs.{face, IsClosed, IsInnerEdge, IsValidMesh, Mesh, next, origin}
+use Rattle.{half_edge_links.specs.prev, half_edge_links.specs.rev, plane.proofs.turned_join}
+use Rattle.half_edge_links.proofs.{Lists.Rev.rev_same, rev-rev, rev_within}
+use Rattle.plane_theorems.specs.{HasPointIn, InRegion, IsMesh, LineMesh, Region}
+use Rattle.plane_theorems.specs.Delaunay.Flood.{IsFloodedAround}
+use Rattle.plane_theorems.proofs.{Delaunay.Floods.Flooded.flood_finds_region, meshes_tile}
+use Rattle.plane_theorems.proofs.Delaunay.Floods.FloodOnLine.{flood_finds_on_line, turned_edge}
+use Rattle.delaunay_legalization.specs.{drawn, edges_of, faces_of, outer_of, pair_at, pairs_at}
+use Rattle.delaunay_legalization.proofs.{contains_map, contains_map_from, edge_joins, edge_of_face}
+use Rattle.delaunay_legalization.proofs.{half_same, halved, joins_edge, own_edges, own_indexes}
+use Rattle.{delaunay_legalization.proofs.LineNeighbours.two_neighbours, plane.specs.Triangulation}
+use Rattle.delaunay_shapes.specs.{AreEdgesInShape, HasStartAt, IsAsked, IsEdgeInShape, IsFlooding}
+use Rattle.delaunay_shapes.specs.{point_at, Spreads, undirected_of}
+use Rattle.delaunay_shapes.specs.Flood.{AreAskedBeside, HasBegunWith, IsBegunBy, IsSpread}
 use Rattle.delaunay_shapes.proofs.Asking.{rev_half}
 
 -- the undirected edge of either of its directions

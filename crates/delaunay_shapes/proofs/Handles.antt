@@ -8,19 +8,14 @@ use mathlib.Core.Bool.{Bool, true, false}
 use Rattle.std.specs.Prelude.{pos, All, IsTrue}
 use Rattle.std.specs.Borrow.{Bor}
 use Rattle.std.proofs.lemmas.List.{length-map}
-use Rattle.delaunay_location.specs.half_edge_links.Mesh.{Mesh, origin, next, prev, rev}
-use Rattle.delaunay_location.specs.half_edge_dcel.Contents.{Contents, IsMeshWithData}
-use Rattle.delaunay_location.proofs.half_edge_links_lemmas.Lists.Rev.{rev_within}
-use Rattle.delaunay_location.specs.plane.Fraction.{Point, Fraction, whole}
-use Rattle.delaunay_location.specs.plane_theorems.Delaunay.EdgeTests.{HasPointIn}
-use Rattle.delaunay_location.proofs.plane_theorems.Tiling.Totals.{get_or_any}
-use Rattle.delaunay_location.proofs.delaunay_legalization_lemmas.WorkLists.{at_most_so_many}
-use Rattle.delaunay_location.proofs.delaunay_legalization_lemmas.WorkLists.{contains_map}
-use Rattle.delaunay_shapes.specs.Known.{point_at}
-use Rattle.delaunay_shapes.specs.InShape.{IsEdgeInShape, AreEdgesInShape, AreVerticesInShape}
-use Rattle.delaunay_shapes.specs.InShape.{IsInside, undirected_of}
-use Rattle.delaunay_shapes.specs.Flood.{IsAsked, IsFlooding}
-use Rattle.delaunay_shapes.proofs.Asking.{IsFilteredTo}
+use Rattle.plane.specs.{Fraction, Point, whole}
+use Rattle.half_edge_links.specs.{Mesh, next, origin, prev, rev}
+use Rattle.{plane_theorems.proofs.get_or_any, plane_theorems.specs.HasPointIn}
+use Rattle.half_edge_dcel.specs.{Contents, IsMeshWithData}
+use Rattle.delaunay_legalization.proofs.{at_most_so_many, contains_map}
+use Rattle.delaunay_shapes.specs.{AreEdgesInShape, AreVerticesInShape, IsAsked, IsEdgeInShape}
+use Rattle.delaunay_shapes.specs.{InShape.IsInside, IsFlooding, point_at, undirected_of}
+use Rattle.{delaunay_shapes.proofs.Asking.IsFilteredTo, half_edge_links.proofs.rev_within}
 
 double_below : (k n b : ℕ) → 2 * n ≡ b → k < n → (2 * k) < b
 double_below k n b e h = omega (arith, e, h)

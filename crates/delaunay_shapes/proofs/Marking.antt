@@ -13,10 +13,10 @@ use Rattle.std.proofs.lemmas.List.{ext_get_or, get_or-set_same, get_or-set_other
 use Rattle.std.proofs.lemmas.List.{get_or_append_left, get_or-append_right, length-append}
 use Rattle.std.proofs.lemmas.List.{length-set, length-replicate, get_or-replicate}
 use Rattle.std.proofs.lemmas.List.FromFn.{length-map-range_with_len, get_or-map-range_with_len}
-use Rattle.delaunay_location.proofs.plane_theorems.Tiling.Totals.{get_or_any}
-use Rattle.delaunay_location.specs.delaunay_legalization.Bits.{has_bit}
-use Rattle.delaunay_location.proofs.delaunay_legalization_lemmas.Bits.{no_bit, no_bits}
-use Rattle.delaunay_shapes.specs.Marks.{tests_below, has_mark, count_others, IsDirectory}
+use Rattle.{delaunay_legalization.specs.has_bit, plane_theorems.proofs.get_or_any}
+use Rattle.delaunay_legalization.proofs.Bits.{no_bit, no_bits}
+use Rattle.delaunay_shapes.specs.{has_mark}
+use Rattle.delaunay_shapes.specs.Marks.{count_others, IsDirectory, tests_below}
 
 -- so many entries
 tests_count : (n : ℕ) (f : ℕ → Bool) → length (tests_below n f) ≡ n
@@ -167,14 +167,14 @@ names_new_page places pages p page d here none = record {
     count : length (pages ++ page ∷ []) ≡ suc (length pages)
     count = let both = length-append pages (page ∷ []) in omega (arith, both)
 
-    placed : get_or now p 0 ≡ suc (length pages)
-    placed = get_or-set_same places p (suc (length pages)) 0 here
+    embedding : get_or now p 0 ≡ suc (length pages)
+    embedding = get_or-set_same places p (suc (length pages)) 0 here
 
     other : (q : ℕ) → q ≢ p → get_or now q 0 ≡ get_or places q 0
     other q a = get_or-set_other places p q (suc (length pages)) 0 a
 
     at_p : (q : ℕ) → q ≡ p → get_or now q 0 ≡ suc (length pages)
-    at_p q e = ap (λ (x : ℕ). get_or now x 0) e ∙ placed
+    at_p q e = ap (λ (x : ℕ). get_or now x 0) e ∙ embedding
 
     bound : (q : ℕ) → (q ≡ p) ⊎ (q ≢ p) → get_or now q 0 ≤ suc (length pages)
     bound q (inl e) = let is = at_p q e in omega (arith, is)

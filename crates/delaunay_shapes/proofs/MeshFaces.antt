@@ -4,26 +4,17 @@ use Rattle.std.proofs.Common.{◌≡◌, ◌⊎◌, ◌+◌, ◌-◌, ◌<◌, �
 use Rattle.std.proofs.Common.{sym, ap, subst, inl, inr, arith}
 use Rattle.std.specs.Prelude.{slice_index_or}
 use Rattle.std.proofs.lemmas.List.{get_or-map, length-map}
-use Rattle.delaunay_location.specs.half_edge_links.Mesh.{Mesh, IsValidMesh, origin, next, prev}
-use Rattle.delaunay_location.specs.half_edge_links.Mesh.{face}
-use Rattle.delaunay_location.specs.half_edge_links.Mesh.{face_edge, rev}
-use Rattle.delaunay_location.specs.half_edge_links.Triangles.{Triangle, triangles, triangle_at}
-use Rattle.delaunay_location.proofs.half_edge_links_lemmas.Lists.Rev.{rev-rev, rev_within}
-use Rattle.delaunay_location.proofs.half_edge_links_lemmas.Sound.Triangles as T
-use Rattle.delaunay_location.specs.plane.Fraction.{Point}
-use Rattle.delaunay_location.specs.plane.Pairs.{EachPairOnce}
-use Rattle.delaunay_location.specs.plane.Tiling.{Triangulation, Face, TilesHull}
-use Rattle.delaunay_location.specs.plane.Tiling as D
-use Rattle.delaunay_location.specs.plane_theorems.Tiling.Laws.{IsTurned}
-use Rattle.delaunay_location.specs.plane_theorems.Tiling.Local.{IsMesh}
-use Rattle.delaunay_location.specs.plane_theorems.Segments.WalkLaws.{IsLaid}
-use Rattle.delaunay_location.proofs.plane_theorems.Segments.Walking.LaidMeshes.{meshes_are_laid}
-use Rattle.plane_theorems.specs.Sight.Sight.{face_at, HasFreeFace}
-use Rattle.delaunay_location.specs.delaunay_legalization.Drawn.{drawn, faces_of, edges_of, outer_of}
-use Rattle.delaunay_location.specs.delaunay_legalization.Drawn.{corners_of}
-use Rattle.delaunay_location.proofs.delaunay_legalization_lemmas.MeshStays.{one_way}
-use Rattle.delaunay_location.proofs.delaunay_legalization_lemmas.OwnEdges.{own_edges}
-use Rattle.delaunay_shapes.specs.Beside.{by_place, IsFreeBeside}
+use Rattle.plane.specs.{EachPairOnce, Face, Point, TilesHull, Triangulation}
+use Rattle.half_edge_links.specs.{face, face_edge, IsValidMesh, Mesh, next, origin, prev, rev}
+use Rattle.half_edge_links.specs.{Triangle, triangle_at, triangles}
+use Rattle.half_edge_links.proofs.{rev-rev, rev_within}
+use Rattle.plane_theorems.specs.{face_at, HasFreeFace, IsLaid, IsMesh, IsTurned}
+use Rattle.plane_theorems.proofs.Segments.Walking.LaidMeshes.{meshes_are_laid}
+use Rattle.delaunay_legalization.specs.{corners_of, drawn, edges_of, faces_of, outer_of}
+use Rattle.delaunay_legalization.proofs.{one_way, own_edges}
+use Rattle.delaunay_shapes.specs.{by_place, IsFreeBeside}
+use Rattle.half_edge_links.proofs.Sound.Triangles as T
+use Rattle.plane.specs.Tiling as D
 
 module _ (points : List Point) (m : Mesh) (s : IsValidMesh m)
     (shape : IsMesh points (faces_of m) (outer_of m)) (free : ℕ → Bool) where

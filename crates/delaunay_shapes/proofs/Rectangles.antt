@@ -7,19 +7,15 @@ use mathlib.Core.Bool.{Bool, true, false}
 use Rattle.std.specs.Prelude.{ℤ, pos, ◌*ℤ◌, ◌<ℤ◌, ◌≤ℤ◌, IsTrue}
 use Rattle.std.proofs.lemmas.Int.{ints}
 use Rattle.std.proofs.lemmas.Bool.Decides.{same_from_decides}
-use Rattle.delaunay_location.specs.plane.Fraction.{Point, Fraction, whole}
-use Rattle.delaunay_location.specs.plane.Side.{Side, left, right, on}
-use Rattle.delaunay_location.specs.plane.Shape.{InClosedRectangle}
-use Rattle.delaunay_location.proofs.plane.IntegerOrder.{lt_or_ge_ℤ, mul-lt-mul_ℤ}
-use Rattle.delaunay_location.proofs.plane.Segments.{start_on_segment, end_on_segment}
-use Rattle.delaunay_location.proofs.plane.Solver.{◌⊗◌, ring_in}
-use Rattle.delaunay_location.specs.plane_theorems.Delaunay.EdgeTests.{RangeMeets, AreCornersOn}
-use Rattle.delaunay_location.specs.plane_theorems.Delaunay.EdgeTests.{MeetsRectangle, HasPointIn}
-use Rattle.delaunay_location.proofs.plane_theorems.Delaunay.Floods.EdgeInRectangle.{edge_meets_rectangle}
-use Rattle.delaunay_shapes.specs.Tests.{IsReversed, is_reversed, range_meets, is_left, is_right}
-use Rattle.delaunay_shapes.specs.Tests.{are_corners, meets_rectangle}
-use Rattle.delaunay_shapes.proofs.Decided.{decides_le, decides_lt, decides_not, decides_or}
-use Rattle.delaunay_shapes.proofs.Decided.{decides_and, decides_and_4}
+use Rattle.plane.specs.{Fraction, InClosedRectangle, left, on, Point, right, Side, whole}
+use Rattle.plane.proofs.{◌⊗◌, end_on_segment, lt_or_ge_ℤ, mul-lt-mul_ℤ, ring_in, start_on_segment}
+use Rattle.plane_theorems.specs.{AreCornersOn, HasPointIn, MeetsRectangle}
+use Rattle.plane_theorems.proofs.Delaunay.Floods.EdgeInRectangle.{edge_meets_rectangle}
+use Rattle.{delaunay_shapes.specs.is_reversed, plane_theorems.specs.Delaunay.EdgeTests.RangeMeets}
+use Rattle.delaunay_shapes.specs.Tests.{are_corners, is_left, is_right, IsReversed, meets_rectangle}
+use Rattle.delaunay_shapes.specs.Tests.{range_meets}
+use Rattle.delaunay_shapes.proofs.Decided.{decides_and, decides_and_4, decides_le, decides_lt}
+use Rattle.delaunay_shapes.proofs.Decided.{decides_not, decides_or}
 
 -- the test of the corners of a rectangle decides whether they are reversed
 pub decides_reversed : (l u : Point) → IsTrue (is_reversed l u) ↔ IsReversed l u

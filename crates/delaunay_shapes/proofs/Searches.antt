@@ -2,14 +2,10 @@
 -- Lemmas: search_of, place_in, found_in.
 use Rattle.std.proofs.Common.{◌≡◌, ◌<◌, ℕ, List, length, get_or, subst, arith}
 use Rattle.std.specs.Prelude.{vec_len}
-use Rattle.delaunay_location.specs.plane.Fraction.{Point, Fraction}
-use Rattle.delaunay_location.specs.delaunay_legalization.Shape.{IsTriangulated}
-use Rattle.delaunay_location.specs.delaunay_legalization.State.{State}
+use Rattle.{delaunay_legalization.specs.IsTriangulated, plane.specs.Fraction, plane.specs.Point}
+use Rattle.{delaunay_legalization.specs.State.State, delaunay_shapes.proofs.Spreading.found_within}
+use Rattle.delaunay_shapes.specs.{declared.flood.EdgeFlood.EdgeFlood, IsFlooding, undirected_of}
 use Rattle.delaunay_shapes.specs.Enclosing.{Enclosing, IsShapeSearch}
-use Rattle.delaunay_shapes.specs.Flood.{IsFlooding}
-use Rattle.delaunay_shapes.specs.InShape.{undirected_of}
-use Rattle.delaunay_shapes.specs.declared.flood.EdgeFlood.{EdgeFlood}
-use Rattle.delaunay_shapes.proofs.Spreading.{found_within}
 
 -- what holds of the fields of a search holds of its value
 pub search_of : {V D U F M P : Type 0} {at : V → Point} {own : M → List Point}

@@ -2,10 +2,9 @@
 -- Lemmas: circle_begins, rectangle_begins.
 use Rattle.std.proofs.Common.{refl}
 use Rattle.std.specs.Prelude.{ℤ}
-use Rattle.delaunay_location.specs.plane.Fraction.{Point}
-use Rattle.delaunay_location.specs.plane.Shape.{InClosedCircle, InClosedRectangle}
-use Rattle.delaunay_location.specs.plane_theorems.Delaunay.Flood.{circle, rectangle}
-use Rattle.delaunay_shapes.specs.Start.{HasStartAt}
+use Rattle.plane.specs.{InClosedCircle, InClosedRectangle, Point}
+use Rattle.plane_theorems.specs.{circle, rectangle}
+use Rattle.delaunay_shapes.specs.{HasStartAt}
 
 -- a closed circle and a closed rectangle are regions with a start
 pub circle_begins : (centre : Point) (radius_2 : ℤ)

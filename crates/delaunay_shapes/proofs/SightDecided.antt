@@ -5,37 +5,23 @@
 use Rattle.std.proofs.Common.{◌≡◌, ◌⊎◌, ◌<◌, ◌↔◌, ℕ, Bool, IsTrue, List, length, map}
 use Rattle.std.proofs.Common.{false, sym, subst, inl, inr}
 use Rattle.std.specs.Prelude.{Contains, All}
-use Rattle.delaunay_location.specs.half_edge_links.Mesh.{Mesh, origin, next, prev, face, face_edge}
-use Rattle.delaunay_location.specs.half_edge_links.Mesh.{rev}
-use Rattle.delaunay_location.specs.half_edge_dcel.Contents.{Contents}
-use Rattle.delaunay_location.specs.plane.Fraction.{Point, Fraction, whole}
-use Rattle.delaunay_location.specs.plane.Tiling.{Triangulation, TilesHull}
-use Rattle.delaunay_location.specs.plane.Line.{Item, IsLineList}
-use Rattle.plane_theorems.specs.Sight.Sight.{IsInFree, IsInSight, HasFreeFace, PassesFree}
+use Rattle.plane.specs.{Fraction, IsLineList, Item, Point, TilesHull, Triangulation, whole}
+use Rattle.plane.proofs.{end_on_segment, start_on_segment}
+use Rattle.half_edge_links.specs.{face, face_edge, Mesh, next, origin, prev, rev}
+use Rattle.plane_theorems.specs.{HasFreeFace, IsInFree, IsInSight, PassesFree}
 use Rattle.plane_theorems.proofs.Sight.Sights.{in_free_by_place, sight_by_line}
-use Rattle.delaunay_location.proofs.plane.Segments.{start_on_segment, end_on_segment}
-use Rattle.delaunay_location.specs.delaunay_legalization.Drawn.{drawn}
-use Rattle.delaunay_location.specs.delaunay_legalization.Placed.{IsPlaced}
-use Rattle.delaunay_location.specs.delaunay_legalization.Shape.{IsTriangulated}
-use Rattle.delaunay_location.specs.delaunay_legalization.State.{State, state_of, triangulation_of}
-use Rattle.delaunay_location.specs.declared.position_in_triangulation.PositionInTriangulation.{PositionInTriangulation}
-use Rattle.delaunay_location.specs.declared.position_in_triangulation.PositionInTriangulation.TheVariants.{OnVertex}
-use Rattle.delaunay_location.specs.declared.position_in_triangulation.PositionInTriangulation.TheVariants.{OnEdge}
-use Rattle.delaunay_location.specs.declared.position_in_triangulation.PositionInTriangulation.TheVariants.{OnFace}
-use Rattle.delaunay_location.specs.declared.position_in_triangulation.PositionInTriangulation.TheVariants.{OutsideOfConvexHull}
-use Rattle.delaunay_location.specs.declared.position_in_triangulation.PositionInTriangulation.TheVariants.{NoTriangulation}
-use Rattle.delaunay_location.specs.Location.{Locates}
-use Rattle.delaunay_location.specs.Starts.{StartsOutside}
-use Rattle.delaunay_location.specs.Walk.{IsOverMesh}
+use Rattle.delaunay_legalization.specs.{drawn, IsEmbedding, IsTriangulated, state_of}
+use Rattle.{delaunay_legalization.specs.State.State, delaunay_legalization.specs.triangulation_of}
+use Rattle.delaunay_location.specs.{IsOverMesh, Locates, NoTriangulation, OnEdge, OnFace, OnVertex}
+use Rattle.delaunay_location.specs.{OutsideOfConvexHull, PositionInTriangulation, StartsOutside}
 use Rattle.delaunay_location.proofs.Located.{on_that_vertex, outside_that_edge}
-use Rattle.delaunay_location.proofs.Located.{without_triangulation}
-use Rattle.delaunay_shapes.specs.Beside.{by_place, IsFreeBeside, HasFreeRound}
-use Rattle.delaunay_shapes.specs.Passing.{GoesFree}
+use Rattle.{delaunay_location.proofs.Located.without_triangulation, half_edge_dcel.specs.Contents}
+use Rattle.delaunay_shapes.specs.{Beside.HasFreeRound, by_place, IsFreeBeside, Passing.GoesFree}
 use Rattle.delaunay_shapes.proofs.Crossed.{false_tells}
-use Rattle.delaunay_shapes.proofs.MeshFaces.{beside_iff, behind_iff, free_edge, tiles_with}
+use Rattle.delaunay_shapes.proofs.MeshFaces.{behind_iff, beside_iff, free_edge, tiles_with}
 
 module _ {V D U F P : Type 0} {at : V → Point} {IsSite : P → Point → Type 0}
-    {c : Contents V D U F} {tests : P} (placed : IsPlaced at IsSite c tests) (free : ℕ → Bool)
+    {c : Contents V D U F} {tests : P} (embedding : IsEmbedding at IsSite c tests) (free : ℕ → Bool)
     (p : Point) where
   abbrev m : Mesh
   m = c.mesh
@@ -50,23 +36,23 @@ module _ {V D U F P : Type 0} {at : V → Point} {IsSite : P → Point → Type 
   InFree = IsInFree t (by_place free) (whole p)
 
   tiles : (n : ℕ) → n < length t.faces → TilesHull t
-  tiles n within = tiles_with points m placed.kept.valid placed.kept.shape free n within
+  tiles n within = tiles_with points m embedding.kept.valid embedding.kept.shape free n within
 
   -- a vertex that was found is there
   pub vertex_there : {v : ℕ} → Locates points m p (OnVertex v) → v < length c.vertices
-  vertex_there {v = v} l = (on_that_vertex placed v l).0
+  vertex_there {v = v} l = (on_that_vertex embedding v l).0
 
   -- at a vertex
   pub at_vertex_iff : (v : ℕ) → Locates points m p (OnVertex v)
       → HasFreeRound m free v ↔ InFree
   at_vertex_iff v l = (
     (λ r. let f = subst (λ (i : ℕ). HasFreeFace t (by_place free) i (origin m (rev r.0))) r.2
-        ((beside_iff points m placed.kept.valid placed.kept.shape free r.0 r.1).0 r.3) in
+        ((beside_iff points m embedding.kept.valid embedding.kept.shape free r.0 r.1).0 r.3) in
         ((in_free_by_place t (tiles f.index f.within) (by_place free) (whole p)).2 v l.location.0
         l.location.1).1 (origin m (rev r.0), f)),
     (λ o. let f = ((in_free_by_place t (tiles o.index o.within) (by_place free) (whole p)).2 v
         l.location.0 l.location.1).0 o in
-        let e = free_edge points m placed.kept.valid placed.kept.shape free v f.0 f.1 in
+        let e = free_edge points m embedding.kept.valid embedding.kept.shape free v f.0 f.1 in
         (e.0, e.1, sym e.2, e.4)),
   )
 
@@ -74,8 +60,8 @@ module _ {V D U F P : Type 0} {at : V → Point} {IsSite : P → Point → Type 
   pub on_edge_iff : (e : ℕ) → Locates points m p (OnEdge e)
       → (IsFreeBeside m free e ⊎ IsFreeBeside m free (rev e)) ↔ InFree
   on_edge_iff e l =
-      let left = beside_iff points m placed.kept.valid placed.kept.shape free e l.handle in
-      let right = behind_iff points m placed.kept.valid placed.kept.shape free e l.handle in (
+      let left = beside_iff points m embedding.kept.valid embedding.kept.shape free e l.handle in
+      let right = behind_iff points m embedding.kept.valid embedding.kept.shape free e l.handle in (
         (λ x. elim x [
           | inl y ↦ (let f = left.0 y in ((in_free_by_place t (tiles f.index f.within)
               (by_place free) (whole p)).1 (origin m e) (origin m (rev e)) l.location.0
@@ -103,16 +89,17 @@ module _ {V D U F P : Type 0} {at : V → Point} {IsSite : P → Point → Type 
   )
     where
       named : (face_edge m f < length m.half_edges) × (face m (face_edge m f) ≡ f)
-      named = placed.kept.valid.sound.faces f l.handle.0 l.handle.1
+      named = embedding.kept.valid.sound.faces f l.handle.0 l.handle.1
 
       starts : origin m (next m (face_edge m f)) ≡ origin m (rev (face_edge m f))
-      starts = (placed.kept.valid.sound.edges (face_edge m f) named.0).starts
+      starts = (embedding.kept.valid.sound.edges (face_edge m f) named.0).starts
 
       listed : IsFreeBeside m free (face_edge m f) ↔ HasFreeFace t (by_place free)
           (origin m (face_edge m f)) (origin m (next m (face_edge m f)))
       listed = subst (λ (j : ℕ). IsFreeBeside m free (face_edge m f) ↔ HasFreeFace t (by_place free)
           (origin m (face_edge m f)) j) (sym starts)
-          (beside_iff points m placed.kept.valid placed.kept.shape free (face_edge m f) named.0)
+          (beside_iff points m embedding.kept.valid embedding.kept.shape free (face_edge m f)
+          named.0)
 
       law : TilesHull t → InFree ↔ HasFreeFace t (by_place free) (origin m (face_edge m f))
           (origin m (next m (face_edge m f)))
@@ -130,9 +117,9 @@ module _ {V D U F P : Type 0} {at : V → Point} {IsSite : P → Point → Type 
   pub beyond_tells : {r : PositionInTriangulation}
       → ((e : ℕ) × (r ≡ OutsideOfConvexHull e)) ⊎ (r ≡ NoTriangulation) → Locates points m p r
       → IsTrue false ↔ InFree
-  beyond_tells (inl is) l = false_tells (outside (outside_that_edge placed is.0
+  beyond_tells (inl is) l = false_tells (outside (outside_that_edge embedding is.0
       (subst (Locates points m p) is.1 l)))
-  beyond_tells (inr is) l = false_tells (outside (without_triangulation placed
+  beyond_tells (inr is) l = false_tells (outside (without_triangulation embedding
       (subst (Locates points m p) is l)))
 
   -- where both ends are in closed free faces, the items decide
@@ -170,15 +157,15 @@ goes_free {V} {D} {U} {F} at s c same free p q items line b iff = (
 
 -- a segment over the mesh of a line over a mesh with the same state
 pub over_line : {V D U F P : Type 0} {at : V → Point} {IsSite IsCovered : P → Point → Type 0}
-    {c d : Contents V D U F} {tests : P} {p q : Point} → IsPlaced at IsSite c tests
+    {c d : Contents V D U F} {tests : P} {p q : Point} → IsEmbedding at IsSite c tests
     → state_of d ≡ state_of c → IsCovered tests p → IsCovered tests q
     → IsOverMesh at IsSite IsCovered d tests p q
-over_line {V = V} {D = D} {U = U} {F = F} {at = at} {IsSite = IsSite} {tests = tests} placed same
+over_line {V = V} {D = D} {U = U} {F = F} {at = at} {IsSite = IsSite} {tests = tests} embedding same
     from to = record {
-      placed = record {
-        kept = subst (IsTriangulated at) (sym same) placed.kept;
+      embedding = record {
+        kept = subst (IsTriangulated at) (sym same) embedding.kept;
         sites = subst (λ (x : State V D U F). All (IsSite tests) (map at x.vertices)) (sym same)
-            placed.sites;
+            embedding.sites;
       };
       from_covered = from;
       to_covered = to;

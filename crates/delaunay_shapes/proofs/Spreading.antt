@@ -7,13 +7,11 @@ use mathlib.Core.Bool.{Bool}
 use Rattle.std.specs.Prelude.{Contains}
 use Rattle.std.proofs.lemmas.Bool.{cases_eq, cases_lt}
 use Rattle.std.proofs.lemmas.List.{get_or_append_left, get_or-append_right}
-use Rattle.delaunay_location.proofs.half_edge_links_lemmas.Lists.Rev.{rev-rev, rev_within}
-use Rattle.delaunay_location.specs.half_edge_links.Mesh.{Mesh, next, prev, face, rev, IsValidMesh}
-use Rattle.delaunay_location.proofs.plane_theorems.Tiling.Totals.{get_or_any}
-use Rattle.delaunay_location.proofs.delaunay_legalization_lemmas.WorkLists.{contains_map}
-use Rattle.delaunay_shapes.specs.Flood.{AreAskedBeside, AsksBeside, IsAsked, IsFlooding}
-use Rattle.delaunay_shapes.specs.Flood.{IsSpread, IsSpreadTo, Spreads}
-use Rattle.delaunay_shapes.specs.InShape.{undirected_of}
+use Rattle.half_edge_links.specs.{face, IsValidMesh, Mesh, next, prev, rev}
+use Rattle.half_edge_links.proofs.{rev-rev, rev_within}
+use Rattle.{delaunay_legalization.proofs.contains_map, plane_theorems.proofs.get_or_any}
+use Rattle.delaunay_shapes.specs.{IsAsked, IsFlooding, IsSpreadTo, Spreads, undirected_of}
+use Rattle.delaunay_shapes.specs.Flood.{AreAskedBeside, AsksBeside, IsSpread}
 use Rattle.delaunay_shapes.proofs.Asking.{below_other, rev_half}
 
 never : (j : ℕ) → j < 0 → ⊥

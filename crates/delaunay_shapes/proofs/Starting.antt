@@ -5,38 +5,22 @@ use Rattle.std.proofs.Common.{◌≡◌, ◌↔◌, ◌*◌, ◌/◌, ◌<◌, �
 use Rattle.std.proofs.Common.{ℕ, List, length, refl, sym, ap, subst, arith, None}
 use mathlib.Core.Logic.{inl, inr, ◌≢◌}
 use Rattle.std.specs.Prelude.{Contains, IsSome, Option, Some}
-use Rattle.delaunay_location.specs.plane_theorems.Edits.Change.{IsFaceOf}
 use Rattle.std.proofs.lemmas.Bool.{cases_eq}
-use Rattle.delaunay_location.specs.half_edge_links.Mesh.{Mesh, origin, next, prev, face, rev}
-use Rattle.delaunay_location.specs.half_edge_links.Mesh.{out_edge, face_edge, IsInner, IsValidMesh}
-use Rattle.delaunay_location.specs.plane.Fraction.{Point, Fraction, whole, IsSame}
-use Rattle.delaunay_location.specs.plane.Pairs.{IsSamePair}
-use Rattle.delaunay_location.specs.plane.Shape.{IsEdgeIn}
-use Rattle.delaunay_location.specs.plane.Location.{Location, on_vertex, on_edge, on_face}
-use Rattle.delaunay_location.specs.plane.Location.{outside_hull, IsLocation, IsOuter}
-use Rattle.delaunay_location.specs.plane.Tiling.{IsEdge, vertex}
-use Rattle.delaunay_location.proofs.plane.Segments.{start_on_segment, on_segment-same}
-use Rattle.delaunay_location.specs.plane_theorems.Tiling.Local.{IsMesh}
-use Rattle.delaunay_location.specs.plane_theorems.Delaunay.Flood.{Region, InRegion, IsTried}
-use Rattle.delaunay_location.specs.plane_theorems.Delaunay.Flood.{start_point}
-use Rattle.delaunay_location.proofs.plane_theorems.Delaunay.Floods.Regions.{region_convex}
-use Rattle.delaunay_location.proofs.plane_theorems.Delaunay.Floods.FloodOnLine.{turned_edge}
-use Rattle.delaunay_location.proofs.plane_theorems.Delaunay.Floods.FloodOnLine.{edge_at}
-use Rattle.delaunay_location.proofs.plane_theorems.Delaunay.Floods.FloodRules.{region_has_start}
-use Rattle.delaunay_location.proofs.plane_theorems.Delaunay.Floods.FloodRules.{start_is_exact}
-use Rattle.delaunay_location.specs.delaunay_legalization.Drawn.{drawn, faces_of, outer_of}
-use Rattle.delaunay_location.proofs.delaunay_legalization_lemmas.EdgePairs.{edge_joins, joins_edge}
-use Rattle.delaunay_location.proofs.delaunay_legalization_lemmas.MeshEdits.{face_before}
-use Rattle.delaunay_shapes.specs.InShape.{IsEdgeInShape}
-use Rattle.delaunay_location.specs.declared.position_in_triangulation.PositionInTriangulation.{PositionInTriangulation}
-use Rattle.delaunay_location.specs.declared.position_in_triangulation.PositionInTriangulation.TheVariants.{OnVertex}
-use Rattle.delaunay_location.specs.declared.position_in_triangulation.PositionInTriangulation.TheVariants.{OnEdge}
-use Rattle.delaunay_location.specs.declared.position_in_triangulation.PositionInTriangulation.TheVariants.{OnFace}
-use Rattle.delaunay_location.specs.declared.position_in_triangulation.PositionInTriangulation.TheVariants.{OutsideOfConvexHull}
-use Rattle.delaunay_location.specs.declared.position_in_triangulation.PositionInTriangulation.TheVariants.{NoTriangulation}
-use Rattle.delaunay_location.specs.Location.{location_of, Locates}
-use Rattle.delaunay_shapes.specs.Flood.{HasBegun, IsBegunBy}
-use Rattle.delaunay_shapes.specs.Start.{HasStartAt, HasOuter, HasSides, HasStarts}
+use Rattle.plane.specs.{Fraction, IsEdge, IsEdgeIn, IsLocation, IsOuter, IsSame, IsSamePair}
+use Rattle.plane.specs.{Location, on_edge, on_face, on_vertex, outside_hull, Point, vertex, whole}
+use Rattle.plane.proofs.{on_segment-same, start_on_segment}
+use Rattle.half_edge_links.specs.{face, face_edge, IsInner, IsValidMesh, Mesh, next, origin}
+use Rattle.half_edge_links.specs.{out_edge, prev, rev}
+use Rattle.plane_theorems.specs.{InRegion, IsFaceOf, IsMesh, IsTried, Region, start_point}
+use Rattle.plane_theorems.proofs.Delaunay.Floods.FloodOnLine.{edge_at, turned_edge}
+use Rattle.plane_theorems.proofs.Delaunay.Floods.FloodRules.{region_has_start, start_is_exact}
+use Rattle.plane_theorems.proofs.Delaunay.Floods.Regions.{region_convex}
+use Rattle.delaunay_legalization.specs.{drawn, faces_of, outer_of}
+use Rattle.delaunay_legalization.proofs.{edge_joins, face_before, joins_edge}
+use Rattle.delaunay_location.specs.{Locates, location_of, NoTriangulation, OnEdge, OnFace, OnVertex}
+use Rattle.delaunay_location.specs.{OutsideOfConvexHull, PositionInTriangulation}
+use Rattle.delaunay_shapes.specs.{HasSides, HasStartAt, IsEdgeInShape}
+use Rattle.delaunay_shapes.specs.{Flood.HasBegun, Flood.IsBegunBy, Start.HasOuter, Start.HasStarts}
 use Rattle.delaunay_shapes.proofs.Flooding.{half_by_ends, tiles}
 
 module _ (points : List Point) (m : Mesh) (v : IsValidMesh m) (shape :

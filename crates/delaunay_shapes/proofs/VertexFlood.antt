@@ -9,29 +9,18 @@ use Rattle.std.specs.Prelude.{ℤ, pos, ◌*ℤ◌, Contains, Some, IsSome, IsTr
 use Rattle.std.proofs.lemmas.Int.{ints}
 use Rattle.std.proofs.lemmas.Bool.{cases_eq}
 use Rattle.std.proofs.lemmas.List.{get_or-map, get_or_append_left, length-map, map-append}
-use Rattle.delaunay_location.specs.half_edge_links.Mesh.{Mesh, origin, out_edge, rev, IsValidMesh}
-use Rattle.delaunay_location.proofs.half_edge_links_lemmas.Lists.Rev.{rev_differs}
-use Rattle.delaunay_location.proofs.half_edge_links_lemmas.Removing.CollapseLemmas.{some_of}
-use Rattle.delaunay_location.specs.plane.Fraction.{Point, Fraction, whole, IsSame}
-use Rattle.delaunay_location.specs.plane.Pairs.{place}
-use Rattle.delaunay_location.proofs.plane.Segments.{start_on_segment}
-use Rattle.delaunay_location.specs.plane_theorems.Tiling.Local.{IsMesh}
-use Rattle.delaunay_location.proofs.plane_theorems.Tiling.Totals.{Contains-none, get_or_any}
-use Rattle.delaunay_location.proofs.plane_theorems.Edits.LocalMesh.Changes.{IsOnce, once_none}
-use Rattle.delaunay_location.proofs.plane_theorems.Delaunay.Floods.FloodRules.{vertices_are_ends}
-use Rattle.delaunay_location.specs.delaunay_legalization.Drawn.{drawn, faces_of, outer_of}
-use Rattle.delaunay_location.proofs.delaunay_legalization_lemmas.EdgePairs.{joins_edge}
-use Rattle.delaunay_location.proofs.delaunay_legalization_lemmas.Entries.{one_value}
-use Rattle.delaunay_location.proofs.delaunay_legalization_lemmas.MeshStays.{half_same}
-use Rattle.delaunay_location.proofs.delaunay_legalization_lemmas.WorkLists.{contains_last}
-use Rattle.delaunay_location.proofs.delaunay_legalization_lemmas.WorkLists.{contains_before}
-use Rattle.delaunay_location.proofs.delaunay_legalization_lemmas.WorkLists.{last_or_before}
-use Rattle.delaunay_location.proofs.delaunay_legalization_lemmas.WorkLists.{once_after}
-use Rattle.delaunay_shapes.specs.Known.{point_at}
-use Rattle.delaunay_shapes.specs.InShape.{AreEdgesInShape, AreVerticesInShape, undirected_of}
+use Rattle.plane.specs.{Fraction, IsSame, place, Point, whole}
+use Rattle.{plane.proofs.start_on_segment, plane_theorems.specs.IsMesh}
+use Rattle.half_edge_links.specs.{IsValidMesh, Mesh, origin, out_edge, rev}
+use Rattle.half_edge_links.proofs.{Removing.CollapseLemmas.some_of, rev_differs}
+use Rattle.plane_theorems.proofs.{Contains-none, get_or_any, IsOnce, once_none}
+use Rattle.plane_theorems.proofs.Delaunay.Floods.FloodRules.{vertices_are_ends}
+use Rattle.delaunay_legalization.specs.{drawn, faces_of, outer_of}
+use Rattle.delaunay_legalization.proofs.{contains_before, contains_last, half_same, joins_edge}
+use Rattle.delaunay_legalization.proofs.{once_after, one_value, WorkLists.last_or_before}
+use Rattle.delaunay_shapes.specs.{AreEdgesInShape, AreVerticesInShape, HasStartAt, point_at}
 use Rattle.delaunay_shapes.specs.Flood.{AreNamedIn, IsNamedIn, IsStartKept, KeepsEnds, KeepsStart}
-use Rattle.delaunay_shapes.specs.Start.{HasStartAt}
-use Rattle.delaunay_shapes.proofs.Asking.{below_other}
+use Rattle.{delaunay_shapes.proofs.Asking.below_other, delaunay_shapes.specs.undirected_of}
 use Rattle.delaunay_shapes.proofs.Flooding.{half_of_even, half_of_rev, tiles, to_half}
 
 never : (j : ℕ) → j < 0 → ⊥

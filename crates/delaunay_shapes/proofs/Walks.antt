@@ -4,13 +4,10 @@ use Rattle.std.proofs.Common.{◌≡◌, ◌++◌, [], ◌∷◌, ◌∙◌, Lis
 use Rattle.std.proofs.Common.{refl, sym, ap, subst, append-nil, append_assoc, inl, inr}
 use Rattle.std.specs.Prelude.{ℤ, Contains}
 use Rattle.std.proofs.lemmas.List.Elements.{Contains-push_cases, Contains-append_right}
-use Rattle.delaunay_location.specs.plane.Fraction.{Point}
-use Rattle.delaunay_location.specs.plane.Line.{Item}
-use Rattle.delaunay_location.proofs.plane_theorems.Tiling.Totals.{Contains-none, Contains-head}
-use Rattle.delaunay_location.specs.declared.intersection.Intersection.{Intersection}
-use Rattle.delaunay_location.specs.declared.iterator.LineIntersectionIterator.{LineIntersectionIterator}
-use Rattle.delaunay_location.specs.Items.{item_in, mesh_of}
-use Rattle.delaunay_location.specs.Walk.{AreLeft, GivesNext, IsReady}
+use Rattle.plane.specs.{Item, Point}
+use Rattle.plane_theorems.proofs.{Contains-head, Contains-none}
+use Rattle.delaunay_location.specs.{AreLeft, GivesNext, Intersection, IsReady, item_in}
+use Rattle.delaunay_location.specs.{LineIntersectionIterator, mesh_of}
 
 one_more : (Holds : Item → Type 0) (passed : List Item) (k : Item)
     → ((j : Item) → Contains passed j → Holds j) → Holds k → (j : Item)

@@ -1,9 +1,7 @@
 -- Free faces of a mesh, beside directed edges and round vertices.
 use Rattle.std.specs.Prelude.{◌≡◌, ◌≢◌, ◌+◌, ◌<◌, ℕ, Bool, List, length, IsTrue}
-use Rattle.delaunay_location.specs.half_edge_links.Mesh.{Mesh, origin, face, rev}
-use Rattle.delaunay_location.specs.plane.Fraction.{Point, whole}
-use Rattle.delaunay_location.specs.plane.Side.{side, on}
-use Rattle.delaunay_location.specs.plane.Pairs.{place}
+use Rattle.plane.specs.{on, place, Point, side, whole}
+use Rattle.half_edge_links.specs.{face, Mesh, origin, rev}
 
 -- which faces are free, by their places in the list of inner faces: face 1 comes first
 abbrev pub by_place : (ℕ → Bool) → ℕ → Bool

@@ -1,7 +1,6 @@
 -- Squared distances from shapes.
 use Rattle.std.specs.Prelude.{◌≡◌, ℤ, pos, ◌*ℤ◌, ◌≤ℤ◌, int_lt, if◌then◌else◌}
-use Rattle.delaunay_location.specs.plane.Fraction.{Point, Fraction, whole}
-use Rattle.delaunay_location.specs.plane.Circle.{gap}
+use Rattle.plane.specs.{Fraction, gap, Point, whole}
 use Rattle.delaunay_shapes.specs.Tests.{is_reversed}
 
 -- the number from low to high that is nearest to a

@@ -1,10 +1,8 @@
 -- A search for what has a point in a shape: what a contract sees of it.
 use Rattle.std.specs.Prelude.{List, All}
-use Rattle.delaunay_location.specs.half_edge_dcel.Contents.{Contents}
-use Rattle.delaunay_location.specs.plane.Fraction.{Point, Fraction}
-use Rattle.delaunay_location.specs.delaunay_legalization.Shape.{IsTriangulated}
-use Rattle.delaunay_location.specs.delaunay_legalization.State.{state_of}
-use Rattle.delaunay_shapes.specs.Start.{HasStartAt}
+use Rattle.half_edge_dcel.specs.{Contents}
+use Rattle.delaunay_legalization.specs.{IsTriangulated, state_of}
+use Rattle.{delaunay_shapes.specs.Start.HasStartAt, plane.specs.Fraction, plane.specs.Point}
 
 -- the mesh, the shape, the tests, and the point where the search begins
 pub record Enclosing (V D U F M P : Type 0) : Type 0 where

@@ -1,13 +1,9 @@
 -- A flood over the edges of a mesh: which were asked of, and which of them were found.
 use Rattle.std.specs.Prelude.{◌≡◌, ◌≢◌, ◌↔◌, ◌⊎◌, ℕ, ◌*◌, ◌/◌, ◌<◌, List, [], ◌∷◌, ◌++◌, length}
 use Rattle.std.specs.Prelude.{Some, Bool, true, false, All, Contains, AllPairs, slice_index_or, ◌≤◌}
-use Rattle.delaunay_location.specs.half_edge_links.Mesh.{Mesh, origin, next, prev, face, rev}
-use Rattle.delaunay_location.specs.half_edge_links.Mesh.{out_edge}
-use Rattle.delaunay_location.specs.plane.Fraction.{Point, Fraction}
-use Rattle.delaunay_location.specs.plane.Shape.{IsEdgeIn}
-use Rattle.delaunay_location.specs.plane.Location.{Location}
-use Rattle.delaunay_location.specs.plane_theorems.Delaunay.Flood.{IsTried}
-use Rattle.delaunay_location.specs.delaunay_legalization.Drawn.{drawn}
+use Rattle.plane.specs.{Fraction, IsEdgeIn, Location, Point}
+use Rattle.half_edge_links.specs.{face, Mesh, next, origin, out_edge, prev, rev}
+use Rattle.{delaunay_legalization.specs.drawn, plane_theorems.specs.IsTried}
 use Rattle.delaunay_shapes.specs.InShape.{IsEdgeInShape, undirected_of}
 
 -- the flood has asked of edge or vertex k

@@ -1,10 +1,9 @@
 -- Which edges and vertices of a mesh have a point in a shape.
 use Rattle.std.specs.Prelude.{◌≢◌, ◌↔◌, ℕ, ◌*◌, ◌/◌, ◌<◌, List, length, map, Contains, AllPairs}
-use Rattle.delaunay_location.specs.half_edge_dcel.Contents.{Contents}
-use Rattle.delaunay_location.specs.half_edge_links.Mesh.{Mesh, origin, rev}
-use Rattle.delaunay_location.specs.plane.Fraction.{Point, Fraction, whole}
-use Rattle.delaunay_location.specs.plane_theorems.Delaunay.EdgeTests.{HasPointIn}
-use Rattle.delaunay_shapes.specs.Known.{point_at}
+use Rattle.plane.specs.{Fraction, Point, whole}
+use Rattle.half_edge_links.specs.{Mesh, origin, rev}
+use Rattle.half_edge_dcel.specs.{Contents}
+use Rattle.{delaunay_shapes.specs.Known.point_at, plane_theorems.specs.HasPointIn}
 
 -- directed edges, each without its direction
 abbrev pub undirected_of : List ℕ → List ℕ

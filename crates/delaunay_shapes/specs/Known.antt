@@ -1,6 +1,6 @@
 -- Points by index.
 use Rattle.std.specs.Prelude.{ℕ, List, pos, slice_index_or}
-use Rattle.delaunay_location.specs.plane.Fraction.{Point}
+use Rattle.plane.specs.{Point}
 
 -- the point of an index (at an index past the end, (0, 0))
 abbrev pub point_at : List Point → ℕ → Point

@@ -1,9 +1,8 @@
 -- What is left of iterators over the edges and vertices in a shape.
 use Rattle.std.specs.Prelude.{◌≡◌, ℕ, List, map, drop}
 use Rattle.std.specs.Borrow.{Bor}
-use Rattle.delaunay_location.specs.half_edge_dcel.Contents.{Contents}
-use Rattle.delaunay_location.specs.half_edge_dcel.Left.{each_in}
-use Rattle.delaunay_location.specs.plane.Fraction.{Point, Fraction}
+use Rattle.plane.specs.{Fraction, Point}
+use Rattle.half_edge_dcel.specs.{Contents, each_in}
 use Rattle.delaunay_shapes.specs.InShape.{AreEdgesInShape, AreVerticesInShape, undirected_of}
 use Rattle.delaunay_shapes.specs.declared.in_shape.EdgesInShapeIterator.{EdgesInShapeIterator}
 use Rattle.delaunay_shapes.specs.declared.in_shape.VerticesInShapeIterator.{VerticesInShapeIterator}

@@ -3,7 +3,7 @@
 use Rattle.std.specs.Prelude.{◌≡◌, ℕ, zero, suc, ◌/◌, ◌%◌, ◌<◌, ◌≤◌, List, Bool, [], ◌∷◌}
 use Rattle.std.specs.Prelude.{length, map, slice_index_or}
 use Rattle.std.specs.List.{range_with_len}
-use Rattle.delaunay_location.specs.delaunay_legalization.Bits.{has_bit}
+use Rattle.delaunay_legalization.specs.{has_bit}
 
 -- what a test says of each number below a count, by rising number
 abbrev pub tests_below : ℕ → (ℕ → Bool) → List Bool

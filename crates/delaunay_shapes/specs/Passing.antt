@@ -1,12 +1,8 @@
 -- A segment over a mesh with free faces.
 use Rattle.std.specs.Prelude.{◌↔◌, ℕ, Bool, List, map, Contains, IsTrue}
-use Rattle.delaunay_location.specs.half_edge_dcel.Contents.{Contents}
-use Rattle.delaunay_location.specs.plane.Fraction.{Point, Fraction, whole}
-use Rattle.delaunay_location.specs.plane.Line.{Item, IsLineList}
-use Rattle.delaunay_location.specs.plane.Tiling.{Triangulation}
-use Rattle.plane_theorems.specs.Sight.Sight.{PassesFree}
-use Rattle.delaunay_location.specs.delaunay_legalization.Drawn.{drawn}
-use Rattle.delaunay_shapes.specs.Beside.{by_place}
+use Rattle.plane.specs.{Fraction, IsLineList, Item, Point, Triangulation, whole}
+use Rattle.{half_edge_dcel.specs.Contents, plane_theorems.specs.PassesFree}
+use Rattle.{delaunay_legalization.specs.drawn, delaunay_shapes.specs.Beside.by_place}
 
 -- what a contract sees of it: the mesh, the free faces, its ends and the tests
 pub record Looking (V D U F G P : Type 0) : Type 0 where

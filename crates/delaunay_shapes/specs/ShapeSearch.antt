@@ -1,10 +1,9 @@
 -- What a search for edges and vertices in a shape finds, and what a flood of it has asked of.
 use Rattle.std.specs.Prelude.{ℕ, length}
-use Rattle.delaunay_location.specs.plane.Fraction.{Point, Fraction}
-use Rattle.delaunay_shapes.specs.Enclosing.{Enclosing}
+use Rattle.plane.specs.{Fraction, Point}
+use Rattle.delaunay_shapes.specs.{declared.flood.EdgeFlood.EdgeFlood, Enclosing.Enclosing}
 use Rattle.delaunay_shapes.specs.Flood.{Asks, AsksBeside, IsFlooding}
 use Rattle.delaunay_shapes.specs.InShape.{IsInside, IsVertexInside, undirected_of}
-use Rattle.delaunay_shapes.specs.declared.flood.EdgeFlood.{EdgeFlood}
 
 module _ {V D U F M P : Type 0} (at : V → Point) (Shape : M → Fraction → Type 0)
     (s : Enclosing V D U F M P) where

@@ -1,15 +1,10 @@
 -- Where a flood begins: at the location of a point that the shape has, if it has any.
 use Rattle.std.specs.Prelude.{◌≡◌, ◌↔◌, ℕ, ◌/◌, ◌<◌, List, length, Some, Contains}
-use Rattle.delaunay_location.specs.half_edge_links.Mesh.{Mesh, face, next, prev, face_edge}
-use Rattle.delaunay_location.specs.half_edge_links.Mesh.{out_edge}
-use Rattle.delaunay_location.specs.plane.Fraction.{Point, Fraction}
-use Rattle.delaunay_location.specs.plane_theorems.Delaunay.Flood.{Region, InRegion, start_point}
-use Rattle.delaunay_location.specs.declared.position_in_triangulation.PositionInTriangulation.{PositionInTriangulation}
-use Rattle.delaunay_location.specs.declared.position_in_triangulation.PositionInTriangulation.TheVariants.{OnVertex}
-use Rattle.delaunay_location.specs.declared.position_in_triangulation.PositionInTriangulation.TheVariants.{OnEdge}
-use Rattle.delaunay_location.specs.declared.position_in_triangulation.PositionInTriangulation.TheVariants.{OnFace}
-use Rattle.delaunay_location.specs.declared.position_in_triangulation.PositionInTriangulation.TheVariants.{OutsideOfConvexHull}
-use Rattle.delaunay_location.specs.declared.position_in_triangulation.PositionInTriangulation.TheVariants.{NoTriangulation}
+use Rattle.plane.specs.{Fraction, Point}
+use Rattle.half_edge_links.specs.{face, face_edge, Mesh, next, out_edge, prev}
+use Rattle.plane_theorems.specs.{InRegion, Region, start_point}
+use Rattle.delaunay_location.specs.{NoTriangulation, OnEdge, OnFace, OnVertex, OutsideOfConvexHull}
+use Rattle.delaunay_location.specs.{PositionInTriangulation}
 
 -- the shape is a closed circle with centre p, or a closed rectangle with lower corner p
 pub record HasStartAt (Shape : Fraction → Type 0) (p : Point) : Type 0 where

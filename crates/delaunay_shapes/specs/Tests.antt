@@ -1,11 +1,8 @@
 -- What the shapes answer of an edge, as tests on whole numbers.
 use Rattle.std.specs.Prelude.{◌⊎◌, [], ◌∷◌, ◌-ℤ◌, ◌*ℤ◌, ◌<ℤ◌, ◌≤ℤ◌, ◌&&◌, ◌||◌}
 use Rattle.std.specs.Prelude.{List, ℤ, pos, Bool, true, false, not, int_lt, int_le}
-use Rattle.delaunay_location.specs.plane.Fraction.{Point, whole}
-use Rattle.delaunay_location.specs.plane.Side.{Side, left, right, on, side}
-use Rattle.delaunay_location.specs.plane.Circle.{gap}
-use Rattle.delaunay_location.specs.delaunay_core.Projection.{along}
-use Rattle.delaunay_location.specs.plane_theorems.Delaunay.EdgeTests.{distance_2, factor}
+use Rattle.plane.specs.{gap, left, on, Point, right, Side, side, whole}
+use Rattle.{delaunay_core.specs.along, plane_theorems.specs.distance_2, plane_theorems.specs.factor}
 
 -- the squared distance from the centre, less the squared radius
 abbrev pub circle_distance : Point → ℤ → Point → ℤ

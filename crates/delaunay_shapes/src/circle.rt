@@ -1,16 +1,12 @@
 //! Closed circles.
 ghost use Rattle.std.specs.Prelude.{◌≡◌, ◌↔◌, [], pos, ◌-ℤ◌, ◌*ℤ◌, ◌<ℤ◌, ◌≤ℤ◌, ⊤, All, IsTrue};
-ghost use Rattle.delaunay_location.specs.plane.Fraction.{whole as fraction};
-ghost use Rattle.delaunay_location.specs.plane.Circle.{gap};
-ghost use Rattle.delaunay_location.specs.plane.Shape.{InClosedCircle};
-ghost use Rattle.delaunay_location.specs.plane.Tests.{InRange};
-ghost use Rattle.delaunay_location.specs.plane_theorems.Delaunay.EdgeTests.{HasPointIn};
-ghost use Rattle.delaunay_location.specs.delaunay_core.Place.{place_of};
+ghost use Rattle.plane.specs.{gap, InClosedCircle, InRange, whole as fraction};
+ghost use Rattle.{delaunay_core.specs.place_of, plane_theorems.specs.HasPointIn};
 ghost use Rattle.delaunay_shapes.specs.Tests.{circle_distance, FallsOn, IsEdgeNear, meets_circle};
 
-use crate::distance_metric::DistanceMetric;
-use delaunay_location::delaunay_core::math::{PlaneTests, project_point};
-use delaunay_location::delaunay_core::point::{Point2, SpadeNum};
+use crate::DistanceMetric;
+use delaunay_core::math::{PlaneTests, project_point};
+use delaunay_core::point::{Point2, SpadeNum};
 use std::alloc::AllocError;
 
 /// A closed circle: the points whose squared distance from the centre is at most `radius_2`.

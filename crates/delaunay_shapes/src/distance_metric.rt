@@ -1,18 +1,15 @@
 //! The trait of closed shapes.
 ghost use Rattle.std.specs.Prelude.{◌≡◌, ◌↔◌, ◌*◌, List, Bool, ℤ, pos, ◌≤ℤ◌, map, int_le};
 ghost use Rattle.std.specs.Prelude.{All, IsTrue};
-ghost use Rattle.delaunay_location.specs.half_edge_links.Mesh.{origin, rev};
-ghost use Rattle.delaunay_location.specs.plane.Fraction.{Point, Fraction, whole as fraction};
-ghost use Rattle.delaunay_location.specs.plane.Tests.{InRange};
-ghost use Rattle.delaunay_location.specs.plane_theorems.Delaunay.EdgeTests.{HasPointIn};
-ghost use Rattle.delaunay_location.specs.delaunay_core.Place.{place_of};
-ghost use Rattle.delaunay_shapes.specs.InShape.{IsEdgeInShape};
-ghost use Rattle.delaunay_shapes.specs.Known.{point_at};
+ghost use Rattle.plane.specs.{Fraction, InRange, Point, whole as fraction};
+ghost use Rattle.half_edge_links.specs.{origin, rev};
+ghost use Rattle.{delaunay_core.specs.place_of, plane_theorems.specs.HasPointIn};
+ghost use Rattle.delaunay_shapes.specs.{InShape.IsEdgeInShape, Known.point_at};
 
 use crate::positions::spot_of;
-use delaunay_location::delaunay_core::math::PlaneTests;
-use delaunay_location::delaunay_core::point::{HasPosition, Point2, SpadeNum};
-use delaunay_location::half_edge_dcel::UndirectedEdgeHandle;
+use delaunay_core::math::PlaneTests;
+use delaunay_core::point::{HasPosition, Point2, SpadeNum};
+use half_edge_dcel::UndirectedEdgeHandle;
 
 /// A closed shape. It tells how far a point is from it, as a squared length, and whether an edge
 /// has a point in it.

@@ -1,12 +1,11 @@
 //! Free faces beside edges and round vertices.
 ghost use Rattle.std.specs.Prelude.{◌⊎◌, ◌↔◌, ◌<◌, length, IsTrue};
-ghost use Rattle.delaunay_location.specs.half_edge_links.Mesh.{rev};
+ghost use Rattle.half_edge_links.specs.{rev};
 ghost use Rattle.delaunay_shapes.specs.Beside.{HasFreeRound, IsFreeBeside};
 
-use crate::free_faces::FreeFaces;
-use delaunay_location::half_edge_dcel::{
-    Dcel, FixedDirectedEdgeHandle, FixedVertexHandle, MeshViews,
-};
+use crate::FreeFaces;
+use half_edge_dcel::{Dcel, MeshViews};
+use half_edge_links::{FixedDirectedEdgeHandle, FixedVertexHandle};
 
 // Whether the face on the left of an edge is an inner one, and free.
 pub(crate) fn is_free_beside<V, DE, UE, F, G: FreeFaces>(

@@ -1,16 +1,14 @@
 //! A look at each edge or vertex of a mesh.
 ghost use Rattle.std.specs.Prelude.{All, IfOk, map};
-ghost use Rattle.delaunay_shapes.specs.Left.{GivesEdgesIn, GivesVerticesIn, edges_left};
+ghost use Rattle.delaunay_shapes.specs.Left.{edges_left, GivesEdgesIn, GivesVerticesIn};
 ghost use Rattle.delaunay_shapes.specs.Left.{vertices_left};
 
-use crate::distance_metric::DistanceMetric;
-use crate::in_shape::{EdgesInShapeIterator, VerticesInShapeIterator};
 use crate::positions::spot_of;
-use delaunay_location::delaunay_core::math::PlaneTests;
-use delaunay_location::delaunay_core::point::HasPosition;
-use delaunay_location::half_edge_dcel::{
-    Dcel, FixedUndirectedEdgeHandle, FixedVertexHandle, MeshViews,
-};
+use crate::{DistanceMetric, EdgesInShapeIterator, VerticesInShapeIterator};
+use delaunay_core::math::PlaneTests;
+use delaunay_core::point::HasPosition;
+use half_edge_dcel::{Dcel, MeshViews};
+use half_edge_links::{FixedUndirectedEdgeHandle, FixedVertexHandle};
 use std::alloc::{AllocError, Global};
 
 /// The edges with a point in a shape, each once, by a look at all edges. The tests have to cover

@@ -7,13 +7,13 @@ ghost use Rattle.delaunay_shapes.specs.InShape.{AreEdgesInShape, undirected_of};
 ghost use Rattle.delaunay_shapes.specs.ShapeSearch.{AsksBesideFor, AsksFor, EnclosesEdge};
 ghost use Rattle.delaunay_shapes.specs.ShapeSearch.{IsFloodFor};
 
-use crate::distance_metric::DistanceMetric;
-use crate::marks::Marks;
 use crate::shape_search::ShapeSearch;
+use crate::{DistanceMetric, Marks};
+use delaunay_core::math::PlaneTests;
+use delaunay_core::point::HasPosition;
 use delaunay_location::LocationViews;
-use delaunay_location::delaunay_core::math::PlaneTests;
-use delaunay_location::delaunay_core::point::HasPosition;
-use delaunay_location::half_edge_dcel::{FixedDirectedEdgeHandle, FixedVertexHandle, MeshViews};
+use half_edge_dcel::MeshViews;
+use half_edge_links::{FixedDirectedEdgeHandle, FixedVertexHandle};
 use std::alloc::{AllocError, Global};
 
 // The edges that a flood has asked of, and those of them that have a point in the shape, each in
@@ -92,7 +92,7 @@ impl<
         requires flooding { IsFloodFor V.place M.shape self.now flood.old }
         ensures { OnOk result (AsksBesideFor V.place M.shape self.now flood.old flood.new edge) }
     {
-        let edge = self.placed.dcel.directed_edge(edge);
+        let edge = self.embedding.dcel.directed_edge(edge);
         let after = edge.next().fix();
         let before = edge.prev().fix();
         self.ask(after, flood)?;
@@ -109,7 +109,7 @@ impl<
             flood.new.found.items 0 (length flood.old.found.items)) }
     {
         for index in 0..flood.found.len() {
-            let edge = self.placed.dcel.directed_edge(flood.found[index]);
+            let edge = self.embedding.dcel.directed_edge(flood.found[index]);
             self.ask_beside(edge.rev().fix(), flood)?;
             self.ask_beside(edge.fix(), flood)?;
         }
@@ -128,7 +128,7 @@ impl<
         let mut index = flood.found.len();
         self.spread_starts(flood)?;
         'edges: while index < flood.found.len() {
-            let edge = self.placed.dcel.directed_edge(flood.found[index]).fix();
+            let edge = self.embedding.dcel.directed_edge(flood.found[index]).fix();
             self.ask_beside(edge, flood)?;
             index += 1;
         }
@@ -149,7 +149,7 @@ impl<
         ensures begun { OnOk result (HasBegunWith (EnclosesEdge V.place M.shape self.now)
             (length self.now.dcel.undirected) flood.new.asked) }
     {
-        let location = self.placed.locate_with_hint(self.start, hint);
+        let location = self.embedding.locate_with_hint(self.start, hint);
         let starts = self.edges_at(location, alloc)?;
         for edge in starts.as_slice() {
             self.ask(edge.as_directed(), flood)?;
@@ -168,7 +168,7 @@ impl<
             (map V.place self.now.dcel.vertices) self.now.dcel.mesh (undirected_of v.items)) }
         ensures within { IfOk result (λ v. All (λ e. e < length self.now.dcel.directed) v.items) }
     {
-        let mut flood = EdgeFlood::new(self.placed.dcel.num_undirected_edges(), alloc);
+        let mut flood = EdgeFlood::new(self.embedding.dcel.num_undirected_edges(), alloc);
         self.ask_starts(hint, &mut flood, alloc)?;
         self.spread(&mut flood)?;
         let EdgeFlood { found, .. } = flood;

@@ -1,19 +1,18 @@
 //! The edges that a flood begins with, by the location of the shape's start.
 ghost use Rattle.std.specs.Prelude.{◌≡◌, ℕ, ◌/◌, ◌<◌, ◌≤◌};
 ghost use Rattle.std.specs.Prelude.{length, All, IfNone, IfOk, IfSome, Contains, Some};
-ghost use Rattle.delaunay_location.specs.half_edge_links.Mesh.{face, face_edge, out_edge};
-ghost use Rattle.delaunay_location.specs.Location.{HasHandle};
-ghost use Rattle.delaunay_shapes.specs.ShapeSearch.{EnclosesEdge};
-ghost use Rattle.delaunay_shapes.specs.Start.{HasSides, HasStarts};
+ghost use Rattle.half_edge_links.specs.{face, face_edge, out_edge};
+ghost use Rattle.delaunay_location.specs.{HasHandle};
+ghost use Rattle.delaunay_shapes.specs.{ShapeSearch.EnclosesEdge, Start.HasSides, Start.HasStarts};
 
-use crate::distance_metric::DistanceMetric;
+use crate::DistanceMetric;
 use crate::shape_search::ShapeSearch;
+use delaunay_core::math::PlaneTests;
+use delaunay_core::point::HasPosition;
 use delaunay_location::PositionInTriangulation;
-use delaunay_location::delaunay_core::math::PlaneTests;
-use delaunay_location::delaunay_core::point::HasPosition;
-use delaunay_location::half_edge_dcel::{
-    Dcel, FixedDirectedEdgeHandle, FixedFaceHandle, FixedUndirectedEdgeHandle, FixedVertexHandle,
-    MeshViews,
+use half_edge_dcel::{Dcel, MeshViews};
+use half_edge_links::{
+    FixedDirectedEdgeHandle, FixedFaceHandle, FixedUndirectedEdgeHandle, FixedVertexHandle,
 };
 use std::alloc::{AllocError, Global};
 
@@ -86,8 +85,8 @@ impl<
         ensures none { IfNone result ((h : ℕ) → h < length self.now.dcel.mesh.half_edges →
             face self.now.dcel.mesh h ≡ 0 → ¬ EnclosesEdge V.place M.shape self.now (h / 2)) }
     {
-        let placed = &self.placed;
-        for edge in placed.dcel.convex_hull() {
+        let embedding = &self.embedding;
+        for edge in embedding.dcel.convex_hull() {
             let edge = edge.fix();
             if self.has_edge(edge.as_undirected()) {
                 return Some(edge);
@@ -107,7 +106,7 @@ impl<
             self.now.dcel.mesh v.items location) }
         ensures within { IfOk result (λ v. All (λ e. e < length self.now.dcel.undirected) v.items) }
     {
-        let dcel = self.placed.dcel;
+        let dcel = self.embedding.dcel;
         match location {
             PositionInTriangulation::OnVertex(vertex) => edge_at_vertex(dcel, vertex, alloc),
             PositionInTriangulation::OnEdge(edge) => edge_alone(dcel, edge, alloc),

@@ -2,20 +2,19 @@
 //! looks at its ends as it goes on from it.
 ghost use Rattle.std.specs.Prelude.{◌≡◌, ◌↔◌, ◌<◌, length, map, IfOk};
 ghost use Rattle.std.specs.Prelude.{IsTrue, OnOk, Some};
-ghost use Rattle.delaunay_location.specs.half_edge_links.Mesh.{origin, out_edge};
+ghost use Rattle.half_edge_links.specs.{origin, out_edge};
 ghost use Rattle.delaunay_shapes.specs.Flood.{AreNamedIn, IsSpread, KeepsEnds, KeepsStart, Spreads};
 ghost use Rattle.delaunay_shapes.specs.InShape.{AreVerticesInShape, undirected_of};
 ghost use Rattle.delaunay_shapes.specs.ShapeSearch.{EnclosesVertex, IsFloodFor};
 
-use crate::distance_metric::DistanceMetric;
+use crate::DistanceMetric;
 use crate::flood::EdgeFlood;
 use crate::positions::spot_of;
 use crate::shape_search::ShapeSearch;
-use delaunay_location::delaunay_core::math::PlaneTests;
-use delaunay_location::delaunay_core::point::HasPosition;
-use delaunay_location::half_edge_dcel::{
-    Dcel, FixedDirectedEdgeHandle, FixedVertexHandle, MeshViews,
-};
+use delaunay_core::math::PlaneTests;
+use delaunay_core::point::HasPosition;
+use half_edge_dcel::{Dcel, MeshViews};
+use half_edge_links::{FixedDirectedEdgeHandle, FixedVertexHandle};
 use std::alloc::{AllocError, Global};
 
 // Whether the start of an edge names it.
@@ -51,9 +50,9 @@ impl<
         ensures { OnOk result (KeepsStart (EnclosesVertex V.place M.shape self.now)
             self.now.dcel.mesh found.old.items found.new.items edge) }
     {
-        let placed = &self.placed;
-        if is_named(placed.dcel, edge) {
-            let vertex = placed.dcel.directed_edge(edge).from();
+        let embedding = &self.embedding;
+        if is_named(embedding.dcel, edge) {
+            let vertex = embedding.dcel.directed_edge(edge).from();
             if self.metric.is_point_inside(spot_of(vertex)) {
                 found.push(vertex.fix())?;
             }
@@ -72,7 +71,7 @@ impl<
         ensures { OnOk result (KeepsEnds (EnclosesVertex V.place M.shape self.now)
             self.now.dcel.mesh found.old.items found.new.items edge) }
     {
-        let dcel = self.placed.dcel;
+        let dcel = self.embedding.dcel;
         let edge = dcel.undirected_edge(edge.as_undirected()).as_directed();
         self.keep_start(edge.fix(), found)?;
         self.keep_start(edge.rev().fix(), found)
@@ -90,7 +89,7 @@ impl<
     {
         let mut found = Vec::new(alloc);
         for index in 0..flood.found.len() {
-            let edge = self.placed.dcel.directed_edge(flood.found[index]);
+            let edge = self.embedding.dcel.directed_edge(flood.found[index]);
             self.keep_ends(edge.fix(), &mut found)?;
         }
         Ok(found)
@@ -116,7 +115,7 @@ impl<
         let mut vertices = self.named_inside(flood, alloc)?;
         self.spread_starts(flood)?;
         'edges: while index < flood.found.len() {
-            let edge = self.placed.dcel.directed_edge(flood.found[index]).fix();
+            let edge = self.embedding.dcel.directed_edge(flood.found[index]).fix();
             self.ask_beside(edge, flood)?;
             self.keep_ends(edge, &mut vertices)?;
             index += 1;
@@ -135,7 +134,7 @@ impl<
         ensures { IfOk result (λ v. AreVerticesInShape (M.shape self.now.metric)
             (map V.place self.now.dcel.vertices) v.items) }
     {
-        let mut flood = EdgeFlood::new(self.placed.dcel.num_undirected_edges(), alloc);
+        let mut flood = EdgeFlood::new(self.embedding.dcel.num_undirected_edges(), alloc);
         self.ask_starts(hint, &mut flood, alloc)?;
         let vertices = self.spread_to_vertices(&mut flood, alloc)?;
         Ok(vertices)

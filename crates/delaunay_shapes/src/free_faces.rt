@@ -1,7 +1,7 @@
 //! The faces that a caller holds to be free.
 ghost use Rattle.std.specs.Prelude.{◌≡◌, ℕ, Bool};
 
-use delaunay_location::half_edge_dcel::FixedFaceHandle;
+use half_edge_links::FixedFaceHandle;
 
 /// Which inner faces are free.
 ///

@@ -2,9 +2,8 @@
 ghost use Rattle.std.specs.Prelude.{◌<◌, length, All};
 ghost use Rattle.std.specs.Iterator.{YieldsFirstBy, item_count};
 
-use delaunay_location::half_edge_dcel::{
-    Dcel, FixedDirectedEdgeHandle, FixedVertexHandle, MeshViews, UndirectedEdgeHandle, VertexHandle,
-};
+use half_edge_dcel::{Dcel, MeshViews, UndirectedEdgeHandle, VertexHandle};
+use half_edge_links::{FixedDirectedEdgeHandle, FixedVertexHandle};
 
 /// The edges with a point in a shape, of which some are left: each once, in no promised order.
 /// `next` takes no memory, and goes on giving `None` after the last.

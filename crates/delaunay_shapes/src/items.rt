@@ -1,21 +1,19 @@
 //! Whether a segment passes free faces at what it meets.
 ghost use Rattle.std.specs.Prelude.{◌≡◌, ◌≢◌, ◌↔◌, ◌<◌, List, length, IsTrue};
-ghost use Rattle.delaunay_location.specs.half_edge_links.Mesh.{origin, rev};
-ghost use Rattle.delaunay_location.specs.plane.Line.{Item, across};
-ghost use Rattle.delaunay_location.specs.plane.Side.{on};
-ghost use Rattle.delaunay_location.specs.Items.{item_in, mesh_of};
-ghost use Rattle.delaunay_location.specs.Walk.{AreLeft, IsReady};
-ghost use Rattle.delaunay_shapes.specs.Beside.{IsFreeBeside};
-ghost use Rattle.delaunay_shapes.specs.Passing.{Passes, PassesEach};
+ghost use Rattle.plane.specs.{across, Item, on};
+ghost use Rattle.half_edge_links.specs.{origin, rev};
+ghost use Rattle.delaunay_location.specs.{AreLeft, IsReady, item_in, mesh_of};
+ghost use Rattle.delaunay_shapes.specs.{Beside.IsFreeBeside, Passing.Passes, Passing.PassesEach};
 
+use crate::FreeFaces;
 use crate::edges::{is_free_along, is_free_beside};
-use crate::free_faces::FreeFaces;
-use delaunay_location::delaunay_core::line_side_info::LineSideInfo;
-use delaunay_location::delaunay_core::math::PlaneTests;
-use delaunay_location::delaunay_core::point::{HasPosition, Point2};
-use delaunay_location::delaunay_legalization::Placed;
-use delaunay_location::half_edge_dcel::{Dcel, DirectedEdgeHandle, FixedDirectedEdgeHandle};
+use delaunay_core::line_side_info::LineSideInfo;
+use delaunay_core::math::PlaneTests;
+use delaunay_core::point::{HasPosition, Point2};
+use delaunay_legalization::Embedding;
 use delaunay_location::{Intersection, LineIntersectionIterator};
+use half_edge_dcel::{Dcel, DirectedEdgeHandle};
+use half_edge_links::FixedDirectedEdgeHandle;
 use std::marker::Model;
 
 /// A segment over the mesh of a triangulation with free faces, and tests that cover its ends and
@@ -31,9 +29,8 @@ pub(crate) struct Sight<'a, V: HasPosition, DE, UE, F, G: FreeFaces, P: PlaneTes
 
 impl<'a, V: HasPosition, DE, UE, F, G: FreeFaces, P: PlaneTests<V::Scalar>> Model
     for Sight<'a, V, DE, UE, F, G, P> {
-    ghost use Rattle.delaunay_location.specs.delaunay_core.Place.{place_of};
-    ghost use Rattle.delaunay_location.specs.Walk.{IsOverMesh};
-    ghost use Rattle.delaunay_shapes.specs.Passing.{Looking};
+    ghost use Rattle.delaunay_core.specs.{place_of};
+    ghost use Rattle.{delaunay_location.specs.IsOverMesh, delaunay_shapes.specs.Passing.Looking};
 
     ghost Value = { Looking V DE UE F G P };
 
@@ -77,12 +74,12 @@ impl<'a, V: HasPosition, DE, UE, F, G: FreeFaces, P: PlaneTests<V::Scalar>> Sigh
     {
         let twin = edge.rev().fix();
         let edge = edge.fix();
-        let placed = Placed {
+        let embedding = Embedding {
             dcel: self.dcel,
             tests: self.tests,
         };
-        self.is_free_unless_on(twin, placed.side_along(twin, self.from))
-            && self.is_free_unless_on(edge, placed.side_along(edge, self.to))
+        self.is_free_unless_on(twin, embedding.side_along(twin, self.from))
+            && self.is_free_unless_on(edge, embedding.side_along(edge, self.to))
     }
 
     // Whether those that it has beside an item that it meets are: one of the two beside an edge

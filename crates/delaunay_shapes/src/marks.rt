@@ -2,8 +2,8 @@
 //! one behind the other. So memory and time go by those marked, and 4 bytes for each 512 numbers.
 ghost use Rattle.std.specs.Prelude.{◌≡◌, ℕ, ◌+◌, ◌<◌, ◌≤◌, false, true, cond, nat_eq, length};
 ghost use Rattle.std.specs.Prelude.{replicate, slice_index_or, slice_set, IfOk, OnOk};
-ghost use Rattle.delaunay_location.specs.delaunay_legalization.Bits.{has_bit};
-ghost use Rattle.delaunay_shapes.specs.Marks.{has_mark, count_others, IsDirectory};
+ghost use Rattle.delaunay_legalization.specs.{has_bit};
+ghost use Rattle.delaunay_shapes.specs.Marks.{count_others, has_mark, IsDirectory};
 
 use std::alloc::{AllocError, Global};
 use std::marker::Model;
@@ -117,7 +117,7 @@ pub struct Marks {
 
 impl Model for Marks {
     ghost use Rattle.std.specs.Prelude.{List, Bool};
-    ghost use Rattle.delaunay_shapes.specs.Marks.{has_mark, tests_below, IsDirectory};
+    ghost use Rattle.delaunay_shapes.specs.Marks.{has_mark, IsDirectory, tests_below};
 
     ghost Value = { List Bool };
 

@@ -1,10 +1,9 @@
 //! Positions of vertices by their handles.
 ghost use Rattle.std.specs.Prelude.{◌≡◌, map};
-ghost use Rattle.delaunay_location.specs.delaunay_core.Place.{place_of};
-ghost use Rattle.delaunay_shapes.specs.Known.{point_at};
+ghost use Rattle.{delaunay_core.specs.place_of, delaunay_shapes.specs.Known.point_at};
 
-use delaunay_location::delaunay_core::point::{HasPosition, Point2};
-use delaunay_location::half_edge_dcel::VertexHandle;
+use delaunay_core::point::{HasPosition, Point2};
+use half_edge_dcel::VertexHandle;
 
 pub(crate) fn spot_of<V: HasPosition, DE, UE, F>(
     vertex: VertexHandle<'_, V, DE, UE, F>,

@@ -1,22 +1,16 @@
 //! Closed rectangles.
 ghost use Rattle.std.specs.Prelude.{◌≡◌, ◌↔◌, ◌⊎◌, ◌∷◌, [], ℤ, pos, ◌<ℤ◌, ◌≤ℤ◌, ⊤, All, IsTrue};
-ghost use Rattle.delaunay_location.specs.plane.Fraction.{whole as fraction};
-ghost use Rattle.delaunay_location.specs.plane.Shape.{InClosedRectangle};
-ghost use Rattle.delaunay_location.specs.plane.Side.{left, right, side};
-ghost use Rattle.delaunay_location.specs.plane.Tests.{InRange};
-ghost use Rattle.delaunay_location.specs.plane_theorems.Delaunay.EdgeTests.{AreCornersOn};
-ghost use Rattle.delaunay_location.specs.plane_theorems.Delaunay.EdgeTests.{HasPointIn};
-ghost use Rattle.delaunay_location.specs.plane_theorems.Delaunay.EdgeTests.{MeetsRectangle};
-ghost use Rattle.delaunay_location.specs.plane_theorems.Delaunay.EdgeTests.{RangeMeets};
-ghost use Rattle.delaunay_location.specs.delaunay_core.Place.{place_of};
-ghost use Rattle.delaunay_shapes.specs.Distance.{IsLeastDistance, clamped, farthest};
+ghost use Rattle.plane.specs.{InClosedRectangle, InRange, left, right, side, whole as fraction};
+ghost use Rattle.plane_theorems.specs.{AreCornersOn, HasPointIn, MeetsRectangle};
+ghost use Rattle.{delaunay_core.specs.place_of, plane_theorems.specs.Delaunay.EdgeTests.RangeMeets};
+ghost use Rattle.delaunay_shapes.specs.Distance.{clamped, farthest, IsLeastDistance};
 ghost use Rattle.delaunay_shapes.specs.Distance.{rectangle_distance};
-ghost use Rattle.delaunay_shapes.specs.Tests.{IsReversed, corners, meets_rectangle};
+ghost use Rattle.delaunay_shapes.specs.Tests.{corners, IsReversed, meets_rectangle};
 
-use crate::distance_metric::DistanceMetric;
-use delaunay_location::delaunay_core::line_side_info::LineSideInfo;
-use delaunay_location::delaunay_core::math::PlaneTests;
-use delaunay_location::delaunay_core::point::{Point2, SpadeNum};
+use crate::DistanceMetric;
+use delaunay_core::line_side_info::LineSideInfo;
+use delaunay_core::math::PlaneTests;
+use delaunay_core::point::{Point2, SpadeNum};
 use std::alloc::AllocError;
 
 /// A closed rectangle: the points from `lower` to `upper` in both coordinates. One whose corners

@@ -1,20 +1,17 @@
 //! The edges and vertices in a shape, by a flood from its start.
 ghost use Rattle.std.specs.Prelude.{map, All, IfOk};
-ghost use Rattle.delaunay_location.specs.delaunay_core.Place.{place_of};
-ghost use Rattle.delaunay_location.specs.delaunay_legalization.Shape.{IsTriangulated};
-ghost use Rattle.delaunay_location.specs.delaunay_legalization.State.{state_of};
-ghost use Rattle.delaunay_shapes.specs.Left.{GivesEdgesIn, GivesVerticesIn, edges_left};
-ghost use Rattle.delaunay_shapes.specs.Left.{vertices_left};
-ghost use Rattle.delaunay_shapes.specs.Start.{HasStartAt};
+ghost use Rattle.delaunay_core.specs.{place_of};
+ghost use Rattle.delaunay_legalization.specs.{IsTriangulated, state_of};
+ghost use Rattle.delaunay_shapes.specs.Left.{edges_left, GivesEdgesIn, GivesVerticesIn};
+ghost use Rattle.delaunay_shapes.specs.{Left.vertices_left, Start.HasStartAt};
 
-use crate::distance_metric::DistanceMetric;
-use crate::filter::vertices_by_filter;
-use crate::in_shape::{EdgesInShapeIterator, VerticesInShapeIterator};
 use crate::shape_search::ShapeSearch;
-use delaunay_location::delaunay_core::math::PlaneTests;
-use delaunay_location::delaunay_core::point::{HasPosition, Point2};
-use delaunay_location::delaunay_legalization::Placed;
-use delaunay_location::half_edge_dcel::{Dcel, FixedVertexHandle};
+use crate::{DistanceMetric, EdgesInShapeIterator, VerticesInShapeIterator, vertices_by_filter};
+use delaunay_core::math::PlaneTests;
+use delaunay_core::point::{HasPosition, Point2};
+use delaunay_legalization::Embedding;
+use half_edge_dcel::Dcel;
+use half_edge_links::FixedVertexHandle;
 use std::alloc::{AllocError, Global};
 
 /// The edges with a point in a shape, each once. The shape is a closed circle, and `start` its
@@ -50,7 +47,7 @@ pub fn edges_in_shape<
         (edges_left it)) }
 {
     let search = ShapeSearch {
-        placed: Placed { dcel, tests },
+        embedding: Embedding { dcel, tests },
         metric,
         start,
     };
@@ -98,7 +95,7 @@ pub fn vertices_in_shape<
         return vertices_by_filter(dcel, metric, tests, alloc);
     }
     let search = ShapeSearch {
-        placed: Placed { dcel, tests },
+        embedding: Embedding { dcel, tests },
         metric,
         start,
     };

@@ -1,44 +1,41 @@
 //! Whether a segment is a line of sight.
 ghost use Rattle.std.specs.Prelude.{◌↔◌, map, All, IsTrue};
-ghost use Rattle.delaunay_location.specs.plane.Fraction.{whole as fraction};
-ghost use Rattle.delaunay_location.specs.plane.Tests.{InRange};
-ghost use Rattle.plane_theorems.specs.Sight.Sight.{IsInSight};
-ghost use Rattle.delaunay_location.specs.delaunay_core.Place.{place_of};
-ghost use Rattle.delaunay_location.specs.delaunay_legalization.State.{state_of, triangulation_of};
-ghost use Rattle.delaunay_shapes.specs.Beside.{by_place};
-ghost use Rattle.delaunay_shapes.specs.Passing.{GoesFree};
+ghost use Rattle.plane_theorems.specs.{IsInSight};
+ghost use Rattle.{delaunay_core.specs.place_of, plane.specs.InRange, plane.specs.whole as fraction};
+ghost use Rattle.delaunay_legalization.specs.{state_of, triangulation_of};
+ghost use Rattle.delaunay_shapes.specs.{Beside.by_place, Passing.GoesFree};
 
-use crate::free_faces::FreeFaces;
+use crate::FreeFaces;
 use crate::items::Sight;
 use crate::places::is_in_free;
-use delaunay_location::delaunay_core::math::PlaneTests;
-use delaunay_location::delaunay_core::point::{HasPosition, Point2};
-use delaunay_location::delaunay_legalization::Placed;
-use delaunay_location::half_edge_dcel::FixedVertexHandle;
+use delaunay_core::math::PlaneTests;
+use delaunay_core::point::{HasPosition, Point2};
+use delaunay_legalization::Embedding;
 use delaunay_location::{HasMesh, LineViews};
+use half_edge_links::FixedVertexHandle;
 
 // Whether a segment passes free faces at each item that it meets. The search for its start begins
 // at the vertex `hint`.
 fn goes_free<'a, V: HasPosition, DE, UE, F, G: FreeFaces, P: PlaneTests<V::Scalar>>(
-    placed: &Placed<'a, V, DE, UE, F, P>,
+    embedding: &Embedding<'a, V, DE, UE, F, P>,
     from: Point2<V::Scalar>,
     to: Point2<V::Scalar>,
     hint: FixedVertexHandle,
     free: &'a G,
 ) -> bool
-    requires from_covered { P.covered placed.now.tests (place_of V.Scalar.whole from) }
-    requires to_covered { P.covered placed.now.tests (place_of V.Scalar.whole to) }
-    ensures { GoesFree (triangulation_of V.place (state_of placed.now.dcel))
+    requires from_covered { P.covered embedding.now.tests (place_of V.Scalar.whole from) }
+    requires to_covered { P.covered embedding.now.tests (place_of V.Scalar.whole to) }
+    ensures { GoesFree (triangulation_of V.place (state_of embedding.now.dcel))
         (by_place (G.free free.now)) (fraction (place_of V.Scalar.whole from))
         (fraction (place_of V.Scalar.whole to)) result }
 {
-    let mut line = placed.line_between(from, to, hint);
+    let mut line = embedding.line_between(from, to, hint);
     let sight = Sight {
         dcel: line.dcel,
         free,
         from,
         to,
-        tests: placed.tests,
+        tests: embedding.tests,
     };
     sight.passes_each(&mut line)
 }
@@ -72,12 +69,12 @@ pub fn is_in_sight<
     let start = triangulation.search_start(from, tests);
     let end = triangulation.search_start(to, tests);
     let dcel = triangulation.mesh();
-    let placed = Placed { dcel, tests };
-    if !is_in_free(&placed, from, start, free) {
+    let embedding = Embedding { dcel, tests };
+    if !is_in_free(&embedding, from, start, free) {
         return false;
     }
-    if !is_in_free(&placed, to, end, free) {
+    if !is_in_free(&embedding, to, end, free) {
         return false;
     }
-    goes_free(&placed, from, to, start, free)
+    goes_free(&embedding, from, to, start, free)
 }

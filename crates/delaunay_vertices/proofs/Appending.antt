@@ -5,12 +5,9 @@ use Rattle.std.proofs.Common.{ℕ, List, length, map, sym, ap, subst, Result, Ok
 use Rattle.std.specs.Prelude.{pos, All, IfOk, OnOk}
 use Rattle.std.proofs.lemmas.List.{length-map, get_or-map, map-append}
 use Rattle.std.proofs.lemmas.List.Elements.{All-from_get_or, All-push}
-use Rattle.delaunay_legalization.specs.plane.Fraction.{Point}
-use Rattle.delaunay_legalization.specs.plane.Plain.{DifferInPosition, Appends, Inserts}
-use Rattle.delaunay_legalization.specs.Parts.{IsApart}
-use Rattle.delaunay_legalization.specs.Constraints.{points_and_constraints_by}
-use Rattle.delaunay_legalization.specs.State.{State}
-use Rattle.delaunay_vertices.specs.Constraints.{SplitsConstraints}
+use Rattle.plane.specs.{Appends, DifferInPosition, Inserts, Point}
+use Rattle.delaunay_legalization.specs.{IsApart, points_and_constraints_by, State.State}
+use Rattle.delaunay_vertices.specs.{SplitsConstraints}
 
 module _ {V D U F : Type 0} (at : V → Point) (constraints : List U → List ℕ)
     (old new : State V D U F) (v : V) (apart : IsApart (map at old.vertices) (at v)) where

@@ -4,19 +4,14 @@ use Rattle.std.proofs.Common.{◌≡◌, ◌≢◌, ◌↔◌, ◌<◌, ◌∙�
 use Rattle.std.proofs.Common.{ℕ, List, length, map, sym, ap, subst, arith, inl, inr}
 use Rattle.std.specs.Prelude.{Bool, IsTrue}
 use Rattle.std.proofs.lemmas.List.{length-map}
-use Rattle.delaunay_legalization.specs.half_edge_dcel.Contents.{Contents}
-use Rattle.delaunay_legalization.specs.half_edge_links.Mesh.{Mesh, AreSoundLinks, IsValidMesh}
-use Rattle.delaunay_legalization.specs.half_edge_links.Mesh.{origin, rev}
-use Rattle.delaunay_legalization.specs.half_edge_links.Peel.{turn, spoke}
-use Rattle.delaunay_legalization.specs.half_edge_links.Round.{neighbour}
-use Rattle.delaunay_legalization.proofs.half_edge_links_lemmas.Lists.Rev.{rev_within}
-use Rattle.delaunay_legalization.specs.plane.Fraction.{Point, whole, WithinSegment}
-use Rattle.delaunay_legalization.specs.plane_theorems.Tiling.Local.{LocalMesh}
-use Rattle.delaunay_legalization.specs.Drawn.{faces_of, outer_of}
-use Rattle.delaunay_legalization.specs.Known.{point_at}
-use Rattle.delaunay_vertices.specs.Star.{HasSpoke, IsBetweenAt, IsFourStar, IsInnerStar}
+use Rattle.plane.specs.{Point, whole, WithinSegment}
+use Rattle.half_edge_links.specs.{AreSoundLinks, IsValidMesh, Mesh, neighbour, origin, rev, spoke}
+use Rattle.{half_edge_links.proofs.rev_within, plane_theorems.specs.LocalMesh}
+use Rattle.half_edge_dcel.specs.{Contents}
+use Rattle.delaunay_legalization.specs.{faces_of, outer_of, point_at}
+use Rattle.delaunay_vertices.specs.{HasSpoke, IsInnerStar, Star.IsBetweenAt, Star.IsFourStar}
+use Rattle.{delaunay_vertices.proofs.InnerHoles.between_first_or_next, half_edge_links.specs.turn}
 use Rattle.delaunay_vertices.proofs.InnerStars.{ends_differ, star_from}
-use Rattle.delaunay_vertices.proofs.InnerHoles.{between_first_or_next}
 
 -- edges of different vertices start at different positions
 starts_apart : (points : List Point) (m : Mesh) → AreSoundLinks m
@@ -45,10 +40,10 @@ module _ {V D U F P : Type 0} {place : V → Point} {IsSite : P → Point → Ty
   m = c.mesh
 
   valid : IsValidMesh m
-  valid = has.placed.kept.valid
+  valid = has.embedding.kept.valid
 
   count : length m.out_edges ≡ length points
-  count = sym has.placed.kept.fits.vertices_fit ∙ sym (length-map c.vertices place)
+  count = sym has.embedding.kept.fits.vertices_fit ∙ sym (length-map c.vertices place)
 
   is : opposite ≡ turn m (turn m h)
   is = is_opposite ∙ ap (turn m) is_second

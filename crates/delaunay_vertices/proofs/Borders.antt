@@ -7,14 +7,10 @@ use Rattle.std.specs.Global.{Vec}
 use Rattle.std.specs.Prelude.{Contains, vec_capacity, vec_len}
 use Rattle.std.proofs.Math.Numerals.{add-one}
 use Rattle.std.proofs.lemmas.Bool.{cases_eq}
-use Rattle.delaunay_legalization.specs.half_edge_links.Mesh.{Mesh, IsValidMesh, origin, out_edge}
-use Rattle.delaunay_legalization.specs.half_edge_links.Mesh.{rev}
-use Rattle.delaunay_legalization.specs.half_edge_links.Peel.{turn, spoke}
-use Rattle.delaunay_legalization.specs.half_edge_links.Round.{IsRound, neighbour}
-use Rattle.delaunay_legalization.specs.plane.Pairs.{Joins}
-use Rattle.delaunay_legalization.proofs.plane_theorems.Tiling.Totals.{Contains-head}
-use Rattle.delaunay_legalization.proofs.Entries.{not_some}
-use Rattle.delaunay_vertices.specs.Pairs.{HasBorder}
+use Rattle.half_edge_links.specs.{IsRound, IsValidMesh, Mesh, neighbour, origin, out_edge, rev}
+use Rattle.{half_edge_links.specs.spoke, half_edge_links.specs.turn, plane.specs.Joins}
+use Rattle.{delaunay_legalization.proofs.Entries.not_some, plane_theorems.proofs.Contains-head}
+use Rattle.delaunay_vertices.specs.{HasBorder}
 use Rattle.delaunay_vertices.proofs.DataStays.{pair_put, pairs_kept}
 
 -- the ends of each of the first i edges and of the one after it are in the list

@@ -4,14 +4,11 @@
 use Rattle.std.proofs.Common.{◌≡◌, ◌+◌, ◌<◌, ◌≤◌, ◌∙◌}
 use Rattle.std.proofs.Common.{ℕ, length, refl, sym, ap, arith, inl, inr}
 use Rattle.std.proofs.lemmas.Bool.{cases_lt}
-use Rattle.delaunay_legalization.proofs.half_edge_links_lemmas.Lists.Rev.{rev-rev, rev_within}
-use Rattle.delaunay_legalization.specs.half_edge_dcel.Contents.{Contents, IsMeshWithData}
-use Rattle.delaunay_legalization.specs.half_edge_links.Mesh.{Mesh, IsValidMesh, origin, rev}
-use Rattle.delaunay_legalization.specs.half_edge_links.Peel.{turn}
-use Rattle.delaunay_legalization.specs.half_edge_links.Round.{IsRound}
-use Rattle.delaunay_legalization.proofs.half_edge_dcel_lemmas.Loops.{round_fits}
-use Rattle.delaunay_legalization.proofs.Rounds.{round_at}
-use Rattle.delaunay_vertices.specs.Pairs.{HasNoEdgeBetween}
+use Rattle.half_edge_links.specs.{IsRound, IsValidMesh, Mesh, origin, rev, turn}
+use Rattle.half_edge_links.proofs.{rev-rev, rev_within}
+use Rattle.half_edge_dcel.specs.{Contents, IsMeshWithData}
+use Rattle.delaunay_legalization.proofs.{round_at}
+use Rattle.{delaunay_vertices.specs.Pairs.HasNoEdgeBetween, half_edge_dcel.proofs.Loops.round_fits}
 use Rattle.delaunay_vertices.proofs.Searching.{IsSearching, search_goes_on}
 
 -- edge e ends at vertex u

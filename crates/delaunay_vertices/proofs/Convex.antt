@@ -2,14 +2,10 @@
 -- Lemmas: convex_read, corner_tested.
 use Rattle.std.proofs.Common.{◌≡◌, ◌↔◌, ℕ, map}
 use Rattle.std.specs.Prelude.{Bool, IsTrue}
-use Rattle.delaunay_legalization.specs.half_edge_dcel.Contents.{Contents}
-use Rattle.delaunay_legalization.specs.half_edge_links.Mesh.{next, origin, rev}
-use Rattle.delaunay_legalization.specs.half_edge_links.Peel.{turn}
-use Rattle.delaunay_legalization.specs.plane.Fraction.{Point, whole}
-use Rattle.delaunay_legalization.specs.plane.Side.{TurnsLeft}
-use Rattle.delaunay_legalization.specs.Known.{point_at}
-use Rattle.delaunay_vertices.specs.Hull.{IsCornerAt}
-use Rattle.delaunay_vertices.specs.Star.{HasSpoke, IsConvexAt}
+use Rattle.plane.specs.{Point, TurnsLeft, whole}
+use Rattle.half_edge_links.specs.{next, origin, rev, turn}
+use Rattle.{delaunay_legalization.specs.point_at, half_edge_dcel.specs.Contents}
+use Rattle.delaunay_vertices.specs.{HasSpoke, IsConvexAt, IsCornerAt}
 
 module _ {V D U F P : Type 0} {place : V → Point} {IsSite : P → Point → Type 0} {t : P}
     {c : Contents V D U F} {first : ℕ} (has : HasSpoke place IsSite c t first) where

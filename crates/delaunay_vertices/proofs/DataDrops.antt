@@ -3,29 +3,19 @@
 use Rattle.std.proofs.Common.{◌≡◌, ◌≢◌, ◌⊎◌, ◌-◌, ◌<◌, [], ◌∙◌}
 use Rattle.std.proofs.Common.{ℕ, List, length, Some, sym, ap, subst, inl, inr, arith}
 use Rattle.std.specs.Prelude.{slice_get, Contains}
-use Rattle.delaunay_legalization.specs.half_edge_links.Mesh.{origin, rev}
-use Rattle.delaunay_legalization.specs.half_edge_links.Triangles.{Triangle, triangles}
-use Rattle.delaunay_legalization.specs.half_edge_dcel.Contents.{Contents, IsMeshWithData}
-use Rattle.delaunay_legalization.specs.half_edge_dcel.Removal.{FullEdge, FullFace, full_edges}
-use Rattle.delaunay_legalization.specs.half_edge_dcel.Removal.{full_faces, renumbered_edge}
-use Rattle.delaunay_legalization.specs.half_edge_dcel.Removal.{renumbered_face, DropsVertex}
-use Rattle.delaunay_legalization.specs.half_edge_dcel.Removal.{LeavesMesh}
-use Rattle.delaunay_legalization.proofs.half_edge_dcel_lemmas.Hubs.{count_faces}
-use Rattle.delaunay_legalization.specs.Drawn.{faces_of}
-use Rattle.delaunay_legalization.proofs.FaceChanges.{contains_map}
-use Rattle.delaunay_legalization.proofs.WorkLists.{contains_map_from}
-use Rattle.delaunay_legalization.specs.plane.Fraction.{Point}
-use Rattle.delaunay_legalization.specs.Shape.{IsTriangulated}
-use Rattle.delaunay_legalization.specs.State.{state_of}
-use Rattle.delaunay_vertices.specs.Star.{IsolatesVertex}
-use Rattle.delaunay_vertices.specs.RemovalData.{HasValueAt, StandsBeside, RenumbersEdges}
-use Rattle.delaunay_vertices.specs.RemovalData.{KeepsDataBeside}
-use Rattle.delaunay_vertices.specs.RemovalData.{HasDataOfEdge, HasDataOfFace}
-use Rattle.delaunay_vertices.proofs.Drops.{same_vertices, same_outer}
-use Rattle.delaunay_vertices.proofs.DataReads.{edge_of, edge_read, face_of, face_read, ends_off}
+use Rattle.half_edge_links.specs.{origin, rev, Triangle, triangles}
+use Rattle.half_edge_dcel.specs.{Contents, DropsVertex, full_edges, full_faces, FullEdge, FullFace}
+use Rattle.half_edge_dcel.specs.{IsMeshWithData, LeavesMesh, renumbered_edge, renumbered_face}
+use Rattle.half_edge_dcel.proofs.Hubs.{count_faces}
+use Rattle.delaunay_legalization.specs.{faces_of, IsTriangulated, state_of}
+use Rattle.delaunay_legalization.proofs.{contains_map_from, FaceChanges.contains_map}
+use Rattle.delaunay_vertices.specs.{HasDataOfEdge, HasDataOfFace, HasValueAt, IsolatesVertex}
+use Rattle.delaunay_vertices.specs.{KeepsDataBeside, RenumbersEdges, StandsBeside}
+use Rattle.delaunay_vertices.proofs.DataReads.{edge_of, edge_read, ends_off, face_of, face_read}
 use Rattle.delaunay_vertices.proofs.DataReads.{same_edge_data, same_face_data}
-use Rattle.delaunay_vertices.proofs.FacesAfterRemoval.{made_on_line}
 use Rattle.delaunay_vertices.proofs.DataStays.{edges_come, edges_stand, joined_comes, joined_stand}
+use Rattle.delaunay_vertices.proofs.Drops.{same_outer, same_vertices}
+use Rattle.{delaunay_vertices.proofs.FacesAfterRemoval.made_on_line, plane.specs.Point}
 
 -- ---- what stood while the vertex lost its edges has its data when the vertex has gone
 module _ {V D U F : Type 0} {pairs : List (ℕ × ℕ)} (old mid new : Contents V D U F)

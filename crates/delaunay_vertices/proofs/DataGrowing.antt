@@ -11,41 +11,23 @@ use Rattle.std.proofs.lemmas.Grind.{common_steps}
 use Rattle.std.proofs.lemmas.Int.{ints}
 use Rattle.std.proofs.lemmas.List.{length-map, length-set, get_or-map}
 use Rattle.std.proofs.lemmas.Option.{slice_get_within, slice_get-get_or, get_or_from_slice_get}
-use Rattle.delaunay_legalization.specs.half_edge_links.Mesh.{Mesh, origin, next, prev, face}
-use Rattle.delaunay_legalization.specs.half_edge_links.Mesh.{face_edge, rev, AreSoundLinks}
-use Rattle.delaunay_legalization.specs.half_edge_links.Mesh.{IsValidMesh}
-use Rattle.delaunay_legalization.specs.half_edge_links.Outline.{Ends, ends, AddsTriangle}
-use Rattle.delaunay_legalization.specs.half_edge_links.Outline.{HalfSplitsTriangles}
-use Rattle.delaunay_legalization.specs.half_edge_links.Triangles.{Triangle, triangle_at, triangles}
-use Rattle.delaunay_legalization.specs.half_edge_links.Triangles.{InsertsTriangles, SplitsTriangles}
-use Rattle.delaunay_legalization.proofs.half_edge_links_lemmas.Sound.Ends.{length-ends_twice}
-use Rattle.delaunay_legalization.proofs.half_edge_links_lemmas.Sound.Ends.{get_or-ends}
-use Rattle.delaunay_legalization.proofs.half_edge_links_lemmas.Lists.Rev.{rev-rev, rev_within}
-use Rattle.delaunay_legalization.proofs.half_edge_links_lemmas.Sound.Triangles as T
-use Rattle.delaunay_legalization.specs.half_edge_dcel.Contents.{Contents, FitsMesh, IsMeshWithData}
-use Rattle.delaunay_legalization.specs.half_edge_dcel.Contents.{Edge, edges, edges_of, edge_with}
-use Rattle.delaunay_legalization.specs.half_edge_dcel.GrownData.{AddsData, AddsEdgeData}
-use Rattle.delaunay_legalization.specs.half_edge_dcel.GrownData.{MovesData}
-use Rattle.delaunay_legalization.specs.half_edge_dcel.Growth.{Grows, MovesTwoItems, AddsEdges}
-use Rattle.delaunay_legalization.specs.half_edge_dcel.Growth.{SplitsEdge, with_ends}
-use Rattle.delaunay_legalization.specs.plane.Fraction.{Point, Fraction, whole, IsPositive}
-use Rattle.delaunay_legalization.specs.plane.Fraction.{IsNotNegative, WithinSegment, InTriangle}
-use Rattle.delaunay_legalization.specs.plane.Fraction.{InsideTriangle}
-use Rattle.delaunay_legalization.specs.plane.Pairs.{place}
-use Rattle.delaunay_legalization.proofs.plane.Means.{TwoWeights, ThreeWeights, two_weights}
-use Rattle.delaunay_legalization.proofs.plane.Means.{three_weights, mean_of_three}
-use Rattle.delaunay_legalization.proofs.plane.Solver.{◌⊕◌, ◌⊗◌, num, ring_in}
-use Rattle.delaunay_legalization.proofs.plane.Steps.{weak}
-use Rattle.delaunay_legalization.proofs.plane.Triangles.{turned_in}
-use Rattle.delaunay_legalization.proofs.plane_theorems.Tiling.Edges.{turned_within}
-use Rattle.delaunay_legalization.specs.Stays.{GoSameWay}
-use Rattle.delaunay_legalization.proofs.EdgePairs.{rev_of_even}
-use Rattle.delaunay_legalization.proofs.MeshStays.{halved, half_same}
-use Rattle.delaunay_legalization.proofs.MeshStays.{slice_get-set_other}
-use Rattle.delaunay_vertices.specs.Data.{KeepsEdge, KeepsFace, GrowsAround, IsInCorners}
-use Rattle.delaunay_legalization.specs.Parts.{IsWithinEdge, IsInsideFaceOf}
-use Rattle.delaunay_legalization.specs.State.{State, state_of}
-use Rattle.delaunay_legalization.proofs.plane.Indexes.{one_below}
+use Rattle.plane.specs.{Fraction, InsideTriangle, InTriangle, IsNotNegative, IsPositive, place}
+use Rattle.plane.specs.{Point, whole, WithinSegment}
+use Rattle.plane.proofs.{◌⊕◌, ◌⊗◌, num, one_below, ring_in, three_weights, two_weights, TwoWeights}
+use Rattle.plane.proofs.{Means.mean_of_three, Means.ThreeWeights, Triangles.turned_in, weak}
+use Rattle.half_edge_links.specs.{AddsTriangle, AreSoundLinks, Ends, ends, face, face_edge}
+use Rattle.half_edge_links.specs.{HalfSplitsTriangles, InsertsTriangles, IsValidMesh, Mesh, next}
+use Rattle.half_edge_links.specs.{origin, prev, rev, SplitsTriangles, Triangle, triangle_at}
+use Rattle.half_edge_links.specs.{triangles}
+use Rattle.half_edge_links.proofs.{get_or-ends, length-ends_twice, rev-rev, rev_within}
+use Rattle.half_edge_dcel.specs.{AddsData, AddsEdges, Contents, Edge, edge_with, edges, edges_of}
+use Rattle.half_edge_dcel.specs.{FitsMesh, Grows, IsMeshWithData, SplitsEdge, with_ends}
+use Rattle.half_edge_dcel.specs.{GrownData.AddsEdgeData, GrownData.MovesData, Growth.MovesTwoItems}
+use Rattle.delaunay_legalization.specs.{GoSameDirection, IsInsideFaceOf, IsWithinEdge, state_of}
+use Rattle.{delaunay_legalization.specs.State.State, plane_theorems.proofs.turned_within}
+use Rattle.delaunay_legalization.proofs.{half_same, halved, rev_of_even, slice_get-set_other}
+use Rattle.delaunay_vertices.specs.{Data.IsInCorners, Data.KeepsEdge, Data.KeepsFace, GrowsAround}
+use Rattle.half_edge_links.proofs.Sound.Triangles as T
 
 -- ---- entries of lists
 get_before : {X : Type 0} (xs ys : List X) (k : ℕ) → k < length xs
@@ -258,17 +240,17 @@ module _ {V D U F : Type 0} (old new : Contents V D U F) (valid : IsValidMesh ol
           × (slice_get new.undirected (h / 2) ≡ Some here.0.value)
       is = parts_of_edge (ends new.mesh) new.undirected (h / 2) here.0 (stays here.0 here.1)
 
-      even : GoSameWay old.mesh (2 * (h / 2)) new.mesh (2 * (h / 2))
+      even : GoSameDirection old.mesh (2 * (h / 2)) new.mesh (2 * (h / 2))
       even =
           let a = ends_are old.mesh valid.sound (h / 2) (ends_of here.0) was.0 in
           let b = ends_are new.mesh now.valid.sound (h / 2) (ends_of here.0) is.0 in
           (b.0 ∙ sym a.0, b.1 ∙ sym a.1)
 
-      ends_kept : (2 * (h / 2) ≡ h) ⊎ (2 * (h / 2) ≡ rev h) → GoSameWay old.mesh h new.mesh h
-      ends_kept (inl q) = subst (λ (x : ℕ). GoSameWay old.mesh x new.mesh x) q even
+      ends_kept : (2 * (h / 2) ≡ h) ⊎ (2 * (h / 2) ≡ rev h) → GoSameDirection old.mesh h new.mesh h
+      ends_kept (inl q) = subst (λ (x : ℕ). GoSameDirection old.mesh x new.mesh x) q even
       ends_kept (inr q) =
-          let r : GoSameWay old.mesh (rev h) new.mesh (rev h) =
-          subst (λ (x : ℕ). GoSameWay old.mesh x new.mesh x) q even in
+          let r : GoSameDirection old.mesh (rev h) new.mesh (rev h) =
+          subst (λ (x : ℕ). GoSameDirection old.mesh x new.mesh x) q even in
           (subst (λ (x : ℕ). origin new.mesh x ≡ origin old.mesh x) (rev-rev h) r.1, r.0)
 
   face_in_list : (f : ℕ) (t : Triangle) → slice_get (triangles old.mesh) f ≡ Some t

@@ -6,28 +6,18 @@ use Rattle.std.proofs.Common.{ℕ, List, length, map, get_or, sym, ap, subst, So
 use Rattle.std.specs.Prelude.{slice_get}
 use Rattle.std.proofs.lemmas.List.{length-map}
 use Rattle.std.proofs.lemmas.Option.{slice_get_within, slice_get-get_or}
-use Rattle.delaunay_legalization.specs.half_edge_links.Mesh.{origin, rev}
-use Rattle.delaunay_legalization.specs.half_edge_links.Triangles.{Triangle, triangles}
-use Rattle.delaunay_legalization.specs.half_edge_dcel.Contents.{Contents}
-use Rattle.delaunay_legalization.specs.plane.Fraction.{Point, Fraction, InTriangle}
-use Rattle.delaunay_legalization.specs.plane.Pairs.{place, Joins}
-use Rattle.delaunay_legalization.specs.plane.Tiling.{IsEdge}
-use Rattle.delaunay_legalization.specs.plane_theorems.Edits.Change.{IsFaceOf}
-use Rattle.delaunay_legalization.specs.Drawn.{drawn, faces_of, edges_of}
-use Rattle.delaunay_legalization.specs.Stays.{GoSameWay, HaveSameCorners}
-use Rattle.delaunay_legalization.specs.Stays.{KeepsIndexes}
-use Rattle.delaunay_legalization.proofs.MeshStays.{face_there, turned_back}
-use Rattle.delaunay_legalization.proofs.MeshLegal.{own_indexes}
-use Rattle.delaunay_vertices.proofs.NewVertex.{place_stays, place_last, is_vertex, not_within}
+use Rattle.plane.specs.{Fraction, InTriangle, IsEdge, Joins, place, Point}
+use Rattle.half_edge_links.specs.{origin, rev, Triangle, triangles}
+use Rattle.plane_theorems.specs.{IsFaceOf}
+use Rattle.delaunay_legalization.specs.{drawn, edges_of, faces_of, GoSameDirection, HaveSameCorners}
+use Rattle.delaunay_legalization.specs.{IsTriangulated, KeepsIndexes, State.State, state_of}
+use Rattle.delaunay_legalization.proofs.{edge_joins, face_there, laid_out_tiles, own_indexes}
+use Rattle.delaunay_legalization.proofs.{Entries.some_entry, MeshStays.turned_back}
+use Rattle.{delaunay_legalization.proofs.MeshParts.no_side, half_edge_dcel.specs.Contents}
+use Rattle.delaunay_vertices.specs.{GainsVertex, GrowsAround, KeepsData}
+use Rattle.delaunay_vertices.specs.Data.{IsInCorners, KeepsEdge}
+use Rattle.delaunay_vertices.proofs.NewVertex.{is_vertex, not_within, place_last, place_stays}
 use Rattle.delaunay_vertices.proofs.NewVertex.{source_in, target_in}
-use Rattle.delaunay_vertices.specs.Data.{KeepsData, KeepsEdge, GrowsAround, IsInCorners}
-use Rattle.delaunay_vertices.specs.Growth.{GainsVertex}
-use Rattle.delaunay_legalization.specs.Shape.{IsTriangulated}
-use Rattle.delaunay_legalization.specs.State.{State, state_of}
-use Rattle.delaunay_legalization.proofs.EdgePairs.{edge_joins}
-use Rattle.delaunay_legalization.proofs.Entries.{some_entry}
-use Rattle.delaunay_legalization.proofs.MeshParts.{no_side}
-use Rattle.delaunay_legalization.proofs.Shapes.{laid_out_tiles}
 
 -- the mesh and all data stay
 data_same : {V D U F : Type 0} (at : V → Point) (old new : State V D U F) → IsTriangulated at old
@@ -52,9 +42,10 @@ data_same at old new kept same = record {
     count = kept.fits.directed_fit
 
     one : (g h : ℕ) → g < length old.directed → h < length new.directed
-        → GoSameWay old.mesh g new.mesh h → h ≡ g
+        → GoSameDirection old.mesh g new.mesh h → h ≡ g
     one g h v w x = indexes.edges g h (subst (λ n. g < n) count v) (subst (λ n. h < n)
-        (ap (λ s. length s.directed) same ∙ count) w) (subst (λ m. GoSameWay old.mesh g m h) mesh x)
+        (ap (λ s. length s.directed) same ∙ count) w) (subst (λ m. GoSameDirection old.mesh g m h)
+        mesh x)
 
 module _ {V D U F : Type 0} (at : V → Point) (v : V) (old mid new : State V D U F)
     (was : IsTriangulated at old) (now : IsTriangulated at new) (vertices : new.vertices
@@ -68,7 +59,7 @@ module _ {V D U F : Type 0} (at : V → Point) (v : V) (old mid new : State V D 
   after = map at new.vertices
 
   data_edges : (g h : ℕ) → g < length old.directed → h < length new.directed
-      → GoSameWay old.mesh g new.mesh h → KeepsEdge old mid g × (h ≡ g)
+      → GoSameDirection old.mesh g new.mesh h → KeepsEdge old mid g × (h ≡ g)
   data_edges g h w x way = elim (grows.edges g w) [
     | inl k ↦ (k, indexes.edges g h (still k) there (way.0 ∙ sym k.ends.0, way.1 ∙ sym k.ends.1))
     | inr inside ↦ absurd (not_within at v old new was now vertices (origin old.mesh g)

@@ -2,15 +2,12 @@
 -- Lemmas: others_keep_data, legalized_keeps_others.
 use Rattle.std.proofs.Common.{◌≡◌, ◌≢◌, ℕ, ◌-◌, ◌/◌, ◌<◌, length, Some, sym, ap, ◌∙◌, subst}
 use Rattle.std.specs.Prelude.{slice_get}
-use Rattle.delaunay_legalization.specs.half_edge_links.Mesh.{origin, rev}
-use Rattle.delaunay_legalization.specs.half_edge_links.Triangles.{Triangle, triangles}
-use Rattle.delaunay_legalization.specs.half_edge_dcel.Contents.{Contents}
-use Rattle.delaunay_legalization.specs.plane.Fraction.{Point}
-use Rattle.delaunay_legalization.specs.Stays.{HaveSameCorners, KeepsIndexes}
-use Rattle.delaunay_legalization.specs.Shape.{IsTriangulated}
-use Rattle.delaunay_legalization.specs.State.{State, state_of}
-use Rattle.delaunay_vertices.specs.RemovalData.{KeepsDataBeside, KeepsDataOfOthers, GoesWayOf}
-use Rattle.delaunay_vertices.specs.RemovalData.{HasDataOfEdge, HasDataOfFace, renumbered_corners}
+use Rattle.half_edge_links.specs.{origin, rev, Triangle, triangles}
+use Rattle.{half_edge_dcel.specs.Contents, plane.specs.Point}
+use Rattle.delaunay_legalization.specs.{HaveSameCorners, IsTriangulated, KeepsIndexes, state_of}
+use Rattle.{delaunay_legalization.specs.State.State, delaunay_vertices.specs.KeepsDataOfOthers}
+use Rattle.delaunay_vertices.specs.{HasDataOfEdge, HasDataOfFace, KeepsDataBeside}
+use Rattle.delaunay_vertices.specs.RemovalData.{GoesWayOf, renumbered_corners}
 
 module _ {V D U F : Type 0} (old mid new : State V D U F) (v : ℕ)
     (beside : KeepsDataBeside old mid v) (between : length mid.directed

@@ -8,25 +8,16 @@ use Rattle.std.proofs.lemmas.Bool.{cases_eq}
 use Rattle.std.proofs.lemmas.Grind.{common_steps}
 use Rattle.std.proofs.lemmas.List.{length-map}
 use Rattle.std.proofs.lemmas.Option.{slice_get-get_or, slice_get_within}
-use Rattle.delaunay_legalization.specs.half_edge_links.Mesh.{AreSoundLinks, origin, rev}
-use Rattle.delaunay_legalization.specs.half_edge_links.Outline.{Ends, ends}
-use Rattle.delaunay_legalization.specs.half_edge_links.Renames.{moved}
-use Rattle.delaunay_legalization.specs.half_edge_links.Triangles.{Triangle, triangles, triangle_at}
-use Rattle.delaunay_legalization.proofs.half_edge_links_lemmas.Removing.TakenLists.{ends_at}
-use Rattle.delaunay_legalization.proofs.half_edge_links_lemmas.Removing.TakenLists.{count_ends}
-use Rattle.delaunay_legalization.specs.half_edge_dcel.Contents.{Contents, IsMeshWithData}
-use Rattle.delaunay_legalization.specs.half_edge_dcel.Removal.{FullEdge, FullFace, full_edges}
-use Rattle.delaunay_legalization.specs.half_edge_dcel.Removal.{full_faces, renumbered_edge}
-use Rattle.delaunay_legalization.specs.half_edge_dcel.Removal.{renumbered_face}
-use Rattle.delaunay_legalization.proofs.half_edge_dcel_lemmas.Hubs.{count_faces}
-use Rattle.delaunay_legalization.proofs.half_edge_dcel_lemmas.TakenOut.{length-full_edges}
-use Rattle.delaunay_legalization.proofs.half_edge_dcel_lemmas.TakenOut.{get_or-full_edges}
-use Rattle.delaunay_legalization.proofs.half_edge_dcel_lemmas.TakenOut.{get_or-full_faces}
-use Rattle.delaunay_legalization.proofs.half_edge_dcel_lemmas.TwoEdges.{item_at}
-use Rattle.delaunay_legalization.specs.State.{state_of}
-use Rattle.delaunay_vertices.specs.RemovalData.{HasDataOfEdge, HasDataOfFace}
-use Rattle.delaunay_legalization.proofs.EdgePairs.{rev_of_even, rev_of_odd}
-use Rattle.delaunay_legalization.proofs.EdgePairs.{half_of_even}
+use Rattle.half_edge_links.specs.{AreSoundLinks, Ends, ends, moved, origin, rev, Triangle}
+use Rattle.half_edge_links.specs.{triangle_at, triangles}
+use Rattle.half_edge_links.proofs.{count_ends, ends_at}
+use Rattle.half_edge_dcel.specs.{Contents, full_edges, full_faces, FullEdge, FullFace}
+use Rattle.half_edge_dcel.specs.{IsMeshWithData, renumbered_edge, renumbered_face}
+use Rattle.half_edge_dcel.proofs.{Hubs.count_faces, TwoEdges.item_at}
+use Rattle.half_edge_dcel.proofs.TakenOut.{get_or-full_edges, get_or-full_faces, length-full_edges}
+use Rattle.delaunay_legalization.specs.{state_of}
+use Rattle.delaunay_legalization.proofs.{EdgePairs.rev_of_odd, half_of_even, rev_of_even}
+use Rattle.delaunay_vertices.specs.{HasDataOfEdge, HasDataOfFace}
 
 -- undirected edge k, with all its data
 pub record IsEdgeAt {V D U F : Type 0} (c : Contents V D U F) (k : ℕ)

@@ -11,25 +11,14 @@ use Rattle.std.specs.List.Sorted.{IsPermutation}
 use Rattle.std.proofs.lemmas.List.Elements.{Contains-append_left, Contains-append_right}
 use Rattle.std.proofs.lemmas.List.Elements.{Contains-append_cases}
 use Rattle.std.proofs.lemmas.List.Sorted.{Contains-permutation, IsPermutation-sym}
-use Rattle.delaunay_legalization.specs.half_edge_links.Mesh.{origin}
-use Rattle.delaunay_legalization.specs.half_edge_links.Outline.{Ends}
-use Rattle.delaunay_legalization.specs.half_edge_links.Round.{neighbour}
-use Rattle.delaunay_legalization.specs.half_edge_links.Triangles.{Triangle}
-use Rattle.delaunay_legalization.specs.half_edge_dcel.Contents.{Contents, IsMeshWithData}
-use Rattle.delaunay_legalization.specs.half_edge_dcel.Growth.{joins}
-use Rattle.delaunay_legalization.specs.half_edge_dcel.Removal.{FullEdge, FullFace, Connects}
-use Rattle.delaunay_legalization.specs.half_edge_dcel.Removal.{HasCorners, full_edges, full_faces}
-use Rattle.delaunay_legalization.specs.half_edge_dcel.Removal.{spokes_to, faces_between, LosesEdges}
-use Rattle.delaunay_legalization.specs.half_edge_dcel.Removal.{JoinsNeighbours, LosesStrip}
-use Rattle.delaunay_legalization.specs.half_edge_dcel.Removal.{FillsHole}
-use Rattle.delaunay_legalization.proofs.plane_theorems.Tiling.Totals.{Contains-none, Contains-head}
-use Rattle.delaunay_legalization.proofs.plane_theorems.Tiling.Totals.{Contains-later}
-use Rattle.delaunay_legalization.proofs.plane_theorems.Tiling.Totals.{Contains-cases}
-use Rattle.delaunay_legalization.specs.Drawn.{faces_of}
-use Rattle.delaunay_vertices.specs.RemovalData.{HasValueAt, StandsBeside}
-use Rattle.delaunay_vertices.specs.Pairs.{KeepsPairs}
-use Rattle.delaunay_vertices.specs.Star.{TurnsAway}
-use Rattle.delaunay_vertices.proofs.FacesAfterRemoval.{made_none, made_on, made_strip, made_hole}
+use Rattle.half_edge_links.specs.{Ends, neighbour, origin, Triangle}
+use Rattle.plane_theorems.proofs.{Contains-cases, Contains-head, Contains-later, Contains-none}
+use Rattle.half_edge_dcel.specs.{Connects, Contents, faces_between, FillsHole, full_edges}
+use Rattle.half_edge_dcel.specs.{full_faces, FullEdge, FullFace, HasCorners, IsMeshWithData, joins}
+use Rattle.half_edge_dcel.specs.{LosesEdges, LosesStrip, Removal.JoinsNeighbours, spokes_to}
+use Rattle.delaunay_legalization.specs.{faces_of}
+use Rattle.delaunay_vertices.specs.{HasValueAt, KeepsPairs, StandsBeside, TurnsAway}
+use Rattle.delaunay_vertices.proofs.FacesAfterRemoval.{made_hole, made_none, made_on, made_strip}
 
 -- nothing changes
 pub all_stands : {V D U F : Type 0} (c : Contents V D U F) (v : ℕ) (pairs : List (ℕ × ℕ))

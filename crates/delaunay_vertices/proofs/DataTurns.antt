@@ -6,40 +6,20 @@ use Rattle.std.proofs.Common.{arith}
 use Rattle.std.specs.Prelude.{Contains}
 use Rattle.std.proofs.lemmas.Bool.{cases_eq}
 use Rattle.std.proofs.lemmas.List.{length-map, length-set, get_or-set_same, get_or-set_other}
-use Rattle.delaunay_legalization.specs.half_edge_links.Flip.{IsFlippable, flipped}
-use Rattle.delaunay_legalization.specs.half_edge_links.Mesh.{Mesh, AreSoundLinks, IsInner, origin}
-use Rattle.delaunay_legalization.specs.half_edge_links.Mesh.{prev, face, rev}
-use Rattle.delaunay_legalization.specs.half_edge_links.Outline.{Ends, ends, along}
-use Rattle.delaunay_legalization.specs.half_edge_links.Peel.{turn}
-use Rattle.delaunay_legalization.specs.half_edge_links.Round.{neighbour}
-use Rattle.delaunay_legalization.specs.half_edge_links.Triangles.{Triangle, triangles, triangle_at}
-use Rattle.delaunay_legalization.specs.half_edge_links.Triangles.{FlipsTriangles}
-use Rattle.delaunay_legalization.proofs.half_edge_links_lemmas.Sound.EndsKept.{ends_flipped_is}
-use Rattle.delaunay_legalization.proofs.half_edge_links_lemmas.Lists.Rev.{rev-rev, rev_within}
-use Rattle.delaunay_legalization.proofs.half_edge_links_lemmas.Removing.TakenLists.{count_ends}
-use Rattle.delaunay_legalization.specs.half_edge_dcel.Contents.{Contents, IsMeshWithData}
-use Rattle.delaunay_legalization.specs.half_edge_dcel.Growth.{joins}
-use Rattle.delaunay_legalization.specs.half_edge_dcel.Removal.{FullEdge, FullFace, Connects}
-use Rattle.delaunay_legalization.specs.half_edge_dcel.Removal.{full_edges, full_edges_of}
-use Rattle.delaunay_legalization.specs.half_edge_dcel.Removal.{full_faces, full_faces_of}
-use Rattle.delaunay_legalization.proofs.half_edge_dcel_lemmas.TakenEdges.{between, listed_face}
-use Rattle.delaunay_legalization.proofs.half_edge_dcel_lemmas.TakenEdges.{named_corners}
-use Rattle.delaunay_legalization.proofs.half_edge_dcel_lemmas.TakenOut.{length-full_edges}
-use Rattle.delaunay_legalization.proofs.half_edge_dcel_lemmas.TwoEdges.{item_at}
-use Rattle.delaunay_legalization.proofs.half_edge_dcel_lemmas.Touching.{with_other_ends}
-use Rattle.delaunay_legalization.proofs.half_edge_dcel_lemmas.Touching.{with_other_corners}
-use Rattle.delaunay_legalization.proofs.half_edge_dcel_lemmas.Touching.{full_edges-set}
-use Rattle.delaunay_legalization.proofs.half_edge_dcel_lemmas.Touching.{full_faces-set}
-use Rattle.delaunay_legalization.specs.plane.Fraction.{Point}
-use Rattle.delaunay_legalization.specs.Drawn.{faces_of}
-use Rattle.delaunay_legalization.proofs.MeshStays.{halved}
-use Rattle.delaunay_vertices.specs.RemovalData.{HasValueAt, StandsBeside}
-use Rattle.delaunay_vertices.specs.Pairs.{MakesFaces}
-use Rattle.delaunay_vertices.specs.Star.{MayTurnAway}
-use Rattle.delaunay_vertices.proofs.DataStays.{no_end, no_corner}
-use Rattle.delaunay_vertices.proofs.FacesAfterRemoval.{made_turn}
-use Rattle.delaunay_legalization.proofs.Rounds.{round_at}
-use Rattle.delaunay_vertices.proofs.Turns.{may_turn}
+use Rattle.half_edge_links.specs.{along, AreSoundLinks, Ends, ends, face, flipped, FlipsTriangles}
+use Rattle.half_edge_links.specs.{IsFlippable, IsInner, Mesh, neighbour, origin, prev, rev}
+use Rattle.half_edge_links.specs.{Triangle, triangle_at, triangles, turn}
+use Rattle.half_edge_links.proofs.{count_ends, rev-rev, rev_within, Sound.EndsKept.ends_flipped_is}
+use Rattle.half_edge_dcel.specs.{Connects, Contents, full_edges, full_edges_of, full_faces}
+use Rattle.half_edge_dcel.specs.{full_faces_of, FullEdge, FullFace, IsMeshWithData, joins}
+use Rattle.half_edge_dcel.proofs.TakenEdges.{between, listed_face, named_corners}
+use Rattle.half_edge_dcel.proofs.{TakenOut.length-full_edges, Touching.with_other_ends}
+use Rattle.half_edge_dcel.proofs.Touching.{full_edges-set, full_faces-set, with_other_corners}
+use Rattle.{delaunay_legalization.specs.faces_of, half_edge_dcel.proofs.TwoEdges.item_at}
+use Rattle.delaunay_legalization.proofs.{halved, round_at}
+use Rattle.delaunay_vertices.specs.{HasValueAt, MayTurnAway, Pairs.MakesFaces, StandsBeside}
+use Rattle.delaunay_vertices.proofs.{DataStays.no_corner, DataStays.no_end, Turns.may_turn}
+use Rattle.{delaunay_vertices.proofs.FacesAfterRemoval.made_turn, plane.specs.Point}
 
 -- an item that is not written stays
 pub unwritten : {X : Type 0} (xs : List X) (i j : ℕ) (x y : X) → j ≢ i → j < length xs

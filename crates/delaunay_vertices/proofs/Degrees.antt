@@ -4,11 +4,8 @@
 use Rattle.std.proofs.Common.{◌≡◌, ◌+◌, ◌<◌, ◌≤◌, ℕ, length, ap, sym, ◌∙◌, subst, inl, inr, arith}
 use Rattle.std.specs.Prelude.{Option, None, Some, IsSome}
 use Rattle.std.proofs.lemmas.Bool.{cases_lt}
-use Rattle.delaunay_legalization.specs.half_edge_links.Mesh.{Mesh, AreSoundLinks, origin, out_edge}
-use Rattle.delaunay_legalization.specs.half_edge_links.Peel.{spoke}
-use Rattle.delaunay_legalization.specs.half_edge_links.Round.{IsRound}
-use Rattle.delaunay_legalization.proofs.Entries.{one_value}
-use Rattle.delaunay_legalization.proofs.Rounds.{round_of}
+use Rattle.half_edge_links.specs.{AreSoundLinks, IsRound, Mesh, origin, out_edge, spoke}
+use Rattle.delaunay_legalization.proofs.{one_value, round_of}
 use Rattle.delaunay_vertices.specs.Pairs.{HasRoomAt, IsRoundOf}
 
 -- each round of a vertex has as many edges as this one

@@ -4,20 +4,12 @@ use Rattle.std.proofs.Common.{◌≡◌, ◌<◌, [], ◌∙◌}
 use Rattle.std.proofs.Common.{ℕ, List, length, map, Some, sym, ap, subst, inl, inr, arith}
 use Rattle.std.specs.Prelude.{All, slice_get, swap_remove}
 use Rattle.std.proofs.lemmas.Option.{slice_get_within}
-use Rattle.delaunay_legalization.specs.half_edge_dcel.Contents.{Contents, IsMeshWithData}
-use Rattle.delaunay_legalization.specs.half_edge_dcel.Removal.{DropsVertex}
-use Rattle.delaunay_legalization.specs.plane.Fraction.{Point}
-use Rattle.delaunay_legalization.specs.plane.Plain.{TakesOut}
-use Rattle.delaunay_legalization.specs.plane.Tests.{InRange}
-use Rattle.delaunay_legalization.specs.plane_theorems.Tiling.Local.{LocalMesh}
-use Rattle.delaunay_legalization.specs.Drawn.{faces_of, outer_of}
-use Rattle.delaunay_legalization.proofs.MeshRemovals.{vertex_goes}
-use Rattle.delaunay_legalization.proofs.MeshRemovals.{vertex_goes_to_line}
-use Rattle.delaunay_legalization.proofs.MeshRemovals.{plain_removes}
-use Rattle.delaunay_legalization.specs.State.{state_of}
-use Rattle.delaunay_legalization.specs.Shape.{IsTriangulated}
-use Rattle.delaunay_legalization.proofs.ElementCounts.{faces_counted}
-use Rattle.delaunay_vertices.specs.Star.{IsolatesVertex}
+use Rattle.plane.specs.{InRange, Point, TakesOut}
+use Rattle.half_edge_dcel.specs.{Contents, DropsVertex, IsMeshWithData}
+use Rattle.delaunay_legalization.specs.{faces_of, IsTriangulated, outer_of, state_of}
+use Rattle.delaunay_legalization.proofs.{faces_counted, MeshRemovals.vertex_goes_to_line}
+use Rattle.delaunay_legalization.proofs.MeshRemovals.{plain_removes, vertex_goes}
+use Rattle.{delaunay_vertices.specs.IsolatesVertex, plane_theorems.specs.LocalMesh}
 use Rattle.delaunay_vertices.proofs.Removing.{all_left, kept_by_shape}
 
 module _ {V D U F : Type 0} {points : List Point} {pairs : List (ℕ × ℕ)}

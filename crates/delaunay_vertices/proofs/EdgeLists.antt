@@ -8,15 +8,11 @@ use Rattle.std.proofs.lemmas.Bool.{cases_eq}
 use Rattle.std.proofs.lemmas.List.{length-set}
 use Rattle.std.proofs.lemmas.List.Elements.{All-get_or}
 use Rattle.std.proofs.lemmas.Option.{slice_get_within, get_or_from_slice_get}
-use Rattle.delaunay_legalization.specs.half_edge_links.Outline.{Ends, along}
-use Rattle.delaunay_legalization.specs.half_edge_dcel.Contents.{Edge, edges_of, edge_with}
-use Rattle.delaunay_legalization.specs.half_edge_dcel.Growth.{AddsEdges, SplitsEdge, with_ends}
-use Rattle.delaunay_legalization.specs.plane.Pairs.{IsSamePair}
-use Rattle.delaunay_legalization.proofs.MeshStays.{slice_get-set_other}
-use Rattle.delaunay_vertices.specs.Edges.{AddsOnly, SplitsAt}
-use Rattle.delaunay_legalization.proofs.Entries.{one_value}
-use Rattle.delaunay_vertices.proofs.DataGrowing.{some_before, with_ends_other, parts_of_edge}
-use Rattle.delaunay_legalization.proofs.MarkedPairs.{set_entry}
+use Rattle.{half_edge_links.specs.along, half_edge_links.specs.Ends, plane.specs.IsSamePair}
+use Rattle.half_edge_dcel.specs.{AddsEdges, Edge, edge_with, edges_of, SplitsEdge, with_ends}
+use Rattle.delaunay_legalization.proofs.{MarkedPairs.set_entry, one_value, slice_get-set_other}
+use Rattle.delaunay_vertices.specs.{AddsOnly, SplitsAt}
+use Rattle.delaunay_vertices.proofs.DataGrowing.{parts_of_edge, some_before, with_ends_other}
 
 -- two values that are the same where they are there
 -- an entry of two lists joined is in one of them

@@ -4,27 +4,17 @@
 use Rattle.std.proofs.Common.{◌≡◌, ◌+◌, ◌*◌, ◌<◌, ◌≤◌, [], ◌∙◌}
 use Rattle.std.proofs.Common.{ℕ, length, map, ap, sym, subst, inl, inr, arith}
 use Rattle.std.proofs.lemmas.List.{length-map}
-use Rattle.delaunay_legalization.specs.half_edge_links.Mesh.{origin, rev, face}
-use Rattle.delaunay_legalization.specs.half_edge_links.Grow.{IsHalfSplittable}
-use Rattle.delaunay_legalization.specs.half_edge_links.Room.{HasRoomFor}
-use Rattle.delaunay_legalization.specs.half_edge_links.Triangles.{triangle_at, triangles}
-use Rattle.delaunay_legalization.proofs.half_edge_links_lemmas.Lists.Rev.{rev-rev, rev_within}
-use Rattle.delaunay_legalization.specs.half_edge_dcel.Contents.{Contents, HasRoom, IsMeshWithData}
-use Rattle.delaunay_legalization.specs.plane.Fraction.{Point, whole, WithinSegment}
-use Rattle.delaunay_legalization.specs.plane.Pairs.{place}
-use Rattle.delaunay_legalization.specs.plane.Location.{IsPast}
-use Rattle.delaunay_legalization.specs.plane.Tiling.{IsTiling, HasFace}
-use Rattle.delaunay_legalization.specs.plane_theorems.Tiling.Local.{IsMesh, alone}
-use Rattle.delaunay_legalization.proofs.plane_theorems.Tiling.Edges.{turned_within}
-use Rattle.delaunay_legalization.proofs.plane_theorems.Tiling.Places.{none_beyond}
-use Rattle.delaunay_legalization.proofs.plane_theorems.Tiling.Tiles.{by_signs, point_at}
-use Rattle.delaunay_legalization.specs.Drawn.{drawn, faces_of, outer_of, corners_of}
-use Rattle.delaunay_legalization.specs.Parts.{IsMeshEdge, IsWithinEdge}
-use Rattle.delaunay_legalization.specs.Shape.{IsTriangulated}
-use Rattle.delaunay_legalization.specs.State.{state_of}
-use Rattle.delaunay_vertices.proofs.Growing.{sides_at_most, edges_and_faces}
-use Rattle.delaunay_legalization.proofs.MeshParts.{mesh_edge}
-use Rattle.delaunay_legalization.proofs.Shapes.{laid_out_tiles}
+use Rattle.plane.specs.{HasFace, IsPast, IsTiling, place, Point, whole, WithinSegment}
+use Rattle.half_edge_links.specs.{face, HasRoomFor, IsHalfSplittable, origin, rev, triangle_at}
+use Rattle.half_edge_links.specs.{triangles}
+use Rattle.half_edge_links.proofs.{rev-rev, rev_within}
+use Rattle.plane_theorems.specs.{alone, IsMesh}
+use Rattle.plane_theorems.proofs.{by_signs, point_at, Tiling.Places.none_beyond, turned_within}
+use Rattle.half_edge_dcel.specs.{Contents, HasRoom, IsMeshWithData}
+use Rattle.delaunay_legalization.specs.{corners_of, drawn, faces_of, IsMeshEdge, IsTriangulated}
+use Rattle.delaunay_legalization.specs.{IsWithinEdge, outer_of, state_of}
+use Rattle.delaunay_legalization.proofs.{laid_out_tiles, mesh_edge}
+use Rattle.delaunay_vertices.proofs.Growing.{edges_and_faces, sides_at_most}
 
 -- a number that is not 0 is positive
 pub positive : (n : ℕ) → ¬ (n ≡ 0) → 0 < n

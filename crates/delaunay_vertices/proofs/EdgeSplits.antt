@@ -7,27 +7,17 @@ use Rattle.std.proofs.Common.{refl, sym, ap, ◌∙◌, subst, Some, inl, inr, a
 use Rattle.std.specs.Prelude.{Contains, IsTrue, slice_get}
 use Rattle.std.proofs.lemmas.List.{length-set}
 use Rattle.std.proofs.lemmas.Option.{slice_get_within}
-use Rattle.delaunay_legalization.specs.half_edge_links.Mesh.{origin, next, rev}
-use Rattle.delaunay_legalization.specs.half_edge_links.Outline.{Ends, along, ends}
-use Rattle.delaunay_legalization.proofs.half_edge_links_lemmas.Sound.Ends.{length-ends_twice}
-use Rattle.delaunay_legalization.proofs.half_edge_links_lemmas.Lists.Rev.{rev-rev}
-use Rattle.delaunay_legalization.specs.half_edge_dcel.Contents.{Contents, Edge, edges, edges_of}
-use Rattle.delaunay_legalization.specs.half_edge_dcel.Contents.{FitsMesh, IsMeshWithData}
-use Rattle.delaunay_legalization.specs.half_edge_dcel.Growth.{AddsEdges, SplitsEdge, with_ends}
-use Rattle.delaunay_legalization.specs.half_edge_dcel.Growth.{joins}
-use Rattle.delaunay_legalization.specs.plane.Fraction.{Point}
-use Rattle.delaunay_legalization.specs.plane.Pairs.{IsSamePair}
-use Rattle.delaunay_legalization.proofs.MeshStays.{halved, slice_get-set_other}
-use Rattle.delaunay_legalization.specs.Constraints.{marked_edges, not_both}
-use Rattle.delaunay_legalization.specs.Marking.{HasEdgeData}
-use Rattle.delaunay_legalization.specs.Shape.{IsTriangulated}
-use Rattle.delaunay_legalization.specs.State.{state_of}
-use Rattle.delaunay_legalization.proofs.Constraints.{is_constraint_edge, fixed_edge_is}
-use Rattle.delaunay_vertices.specs.Data.{GrowsAround}
-use Rattle.delaunay_vertices.specs.Edges.{SplitsAt}
-use Rattle.delaunay_vertices.specs.Growth.{GainsVertex}
-use Rattle.delaunay_vertices.proofs.EdgeLists.{splits_at, splits_in_place, along_ends}
-use Rattle.delaunay_vertices.proofs.MarkedEdges.{own_ends, own_edge}
+use Rattle.half_edge_links.specs.{along, Ends, ends, next, origin, rev}
+use Rattle.half_edge_links.proofs.{length-ends_twice, rev-rev}
+use Rattle.half_edge_dcel.specs.{AddsEdges, Contents, Edge, edges, edges_of, FitsMesh}
+use Rattle.half_edge_dcel.specs.{IsMeshWithData, joins, SplitsEdge, with_ends}
+use Rattle.delaunay_legalization.specs.{HasEdgeData, IsTriangulated, marked_edges, not_both}
+use Rattle.{delaunay_legalization.specs.state_of, plane.specs.IsSamePair, plane.specs.Point}
+use Rattle.delaunay_legalization.proofs.{fixed_edge_is, halved, slice_get-set_other}
+use Rattle.delaunay_legalization.proofs.Constraints.{is_constraint_edge}
+use Rattle.delaunay_vertices.specs.{GainsVertex, GrowsAround, SplitsAt}
+use Rattle.delaunay_vertices.proofs.EdgeLists.{along_ends, splits_at, splits_in_place}
+use Rattle.delaunay_vertices.proofs.MarkedEdges.{own_edge, own_ends}
 
 length-edges_of : {U : Type 0} (es : List Ends) (us : List U) → length es ≡ length us →
     length (edges_of es us) ≡ length us

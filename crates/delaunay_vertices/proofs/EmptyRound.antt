@@ -7,26 +7,15 @@ use Rattle.std.proofs.Common.{arith}
 use Rattle.std.specs.Prelude.{Contains, slice_get}
 use Rattle.std.proofs.lemmas.List.{length-map, map-append}
 use Rattle.std.proofs.lemmas.Option.{slice_get-get_or}
-use Rattle.delaunay_legalization.specs.half_edge_links.Triangles.{Triangle, triangles}
-use Rattle.delaunay_legalization.specs.plane.Fraction.{Point, whole, InTriangle}
-use Rattle.delaunay_legalization.specs.plane.Circle.{InsideCircle}
-use Rattle.delaunay_legalization.specs.plane.Pairs.{place}
-use Rattle.delaunay_legalization.specs.plane.Tiling.{Face}
-use Rattle.delaunay_legalization.proofs.plane.Triangles.{turned_in}
-use Rattle.delaunay_legalization.specs.plane_theorems.Tiling.Local.{IsMesh}
-use Rattle.delaunay_legalization.specs.plane_theorems.Edits.Change.{IsFaceOf}
-use Rattle.delaunay_legalization.proofs.plane_theorems.Edits.LocalMesh.Changes.{turn_of_all}
-use Rattle.delaunay_legalization.specs.Drawn.{corners_of, faces_of, outer_of}
-use Rattle.delaunay_legalization.proofs.FaceChanges.{turned_faces}
-use Rattle.delaunay_legalization.proofs.MeshStays.{face_there}
-use Rattle.delaunay_legalization.proofs.WorkLists.{contains_map_from}
-use Rattle.delaunay_legalization.specs.Shape.{IsTriangulated}
-use Rattle.delaunay_legalization.specs.Star.{MakesFacesAt}
-use Rattle.delaunay_legalization.specs.State.{State}
-use Rattle.delaunay_legalization.specs.plane_theorems.Edits.EmptyRound.{IsEmptyRound}
-use Rattle.delaunay_vertices.specs.Growth.{GainsVertex}
-use Rattle.delaunay_vertices.proofs.MadeFaces.{made_at_count}
-use Rattle.delaunay_legalization.proofs.plane_theorems.Edits.Legalization.NewPoint.{put_in_is_empty}
+use Rattle.plane.specs.{Face, InsideCircle, InTriangle, place, Point, whole}
+use Rattle.plane.proofs.Triangles.{turned_in}
+use Rattle.half_edge_links.specs.{Triangle, triangles}
+use Rattle.plane_theorems.specs.{IsEmptyRound, IsFaceOf, IsMesh}
+use Rattle.plane_theorems.proofs.{Edits.Legalization.NewPoint.put_in_is_empty, turn_of_all}
+use Rattle.delaunay_legalization.specs.{corners_of, faces_of, IsTriangulated, MakesFacesAt}
+use Rattle.{delaunay_legalization.specs.outer_of, delaunay_vertices.proofs.MadeFaces.made_at_count}
+use Rattle.{delaunay_legalization.specs.State.State, delaunay_vertices.specs.GainsVertex}
+use Rattle.delaunay_legalization.proofs.{contains_map_from, face_there, turned_faces}
 
 module _ {V D U F : Type 0} (at : V → Point) (v : V) (old new : State V D U F) (vertex : ℕ)
     (takes : GainsVertex at v old new vertex) where

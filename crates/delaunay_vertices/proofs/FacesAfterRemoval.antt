@@ -8,32 +8,19 @@ use Rattle.std.specs.Prelude.{Contains}
 use Rattle.std.specs.List.{AllZip}
 use Rattle.std.proofs.lemmas.List.Elements.{Contains-append_left}
 use Rattle.std.proofs.lemmas.List.Sorted.{Contains-permutation, IsPermutation-sym}
-use Rattle.delaunay_legalization.specs.half_edge_links.Mesh.{Mesh, IsValidMesh, face}
-use Rattle.delaunay_legalization.specs.half_edge_links.Peel.{turn}
-use Rattle.delaunay_legalization.specs.half_edge_links.Round.{IsRound, neighbour}
-use Rattle.delaunay_legalization.specs.half_edge_links.Triangles.{Triangle, triangles}
-use Rattle.delaunay_legalization.specs.half_edge_links.Triangles.{FlipsTriangles}
-use Rattle.delaunay_legalization.specs.half_edge_dcel.Contents.{Contents, IsMeshWithData}
-use Rattle.delaunay_legalization.specs.half_edge_dcel.Removal.{FullFace, HasCorners, full_faces}
-use Rattle.delaunay_legalization.specs.half_edge_dcel.Removal.{faces_between, LosesStrip, FillsHole}
-use Rattle.delaunay_legalization.specs.plane.Fraction.{Point}
-use Rattle.delaunay_legalization.specs.plane.Pairs.{Joins}
-use Rattle.delaunay_legalization.specs.plane.Tiling.{Face, face as corners}
-use Rattle.delaunay_legalization.specs.plane_theorems.Tiling.Local.{LocalMesh}
-use Rattle.delaunay_legalization.proofs.plane_theorems.Tiling.Totals.{Contains-none, Contains-head}
-use Rattle.delaunay_legalization.proofs.plane_theorems.Tiling.Totals.{Contains-later}
-use Rattle.delaunay_legalization.proofs.plane_theorems.Tiling.Totals.{Contains-cases}
-use Rattle.delaunay_legalization.specs.plane_theorems.Edits.Change.{IsFaceOf, FacesChange}
-use Rattle.delaunay_legalization.proofs.plane_theorems.Edits.LocalMesh.Changes.{face_from}
-use Rattle.delaunay_legalization.proofs.plane_theorems.Edits.LocalMesh.Changes.{turn_of_all}
-use Rattle.delaunay_legalization.specs.Drawn.{corners_of, faces_of, outer_of}
-use Rattle.delaunay_legalization.proofs.FaceChanges.{contains_map}
-use Rattle.delaunay_legalization.proofs.FaceSums.{faces_lost, hole_filled}
-use Rattle.delaunay_legalization.proofs.MeshDrops.{whole_faces}
-use Rattle.delaunay_legalization.proofs.MeshStarFlips.{spoke_turned}
-use Rattle.delaunay_legalization.proofs.MeshStars.{spoke_face}
-use Rattle.delaunay_legalization.proofs.ElementCounts.{faces_counted}
-use Rattle.delaunay_vertices.specs.Pairs.{IsStarSide, KeepsPairs, MakesFaces}
+use Rattle.plane.specs.{Face, face as corners, Joins, Point}
+use Rattle.half_edge_links.specs.{face, FlipsTriangles, IsRound, IsValidMesh, Mesh, neighbour}
+use Rattle.half_edge_links.specs.{Triangle, triangles, turn}
+use Rattle.plane_theorems.specs.{FacesChange, IsFaceOf, LocalMesh}
+use Rattle.plane_theorems.proofs.{Contains-cases, Contains-head, Contains-later, Contains-none}
+use Rattle.plane_theorems.proofs.{face_from, turn_of_all}
+use Rattle.half_edge_dcel.specs.{Contents, faces_between, FillsHole, full_faces, FullFace}
+use Rattle.half_edge_dcel.specs.{HasCorners, IsMeshWithData, LosesStrip}
+use Rattle.delaunay_legalization.specs.{corners_of, faces_of, outer_of}
+use Rattle.delaunay_legalization.proofs.{faces_counted, FaceSums.faces_lost, FaceSums.hole_filled}
+use Rattle.delaunay_legalization.proofs.{FaceChanges.contains_map, MeshStarFlips.spoke_turned}
+use Rattle.delaunay_legalization.proofs.{MeshDrops.whole_faces, MeshStars.spoke_face}
+use Rattle.delaunay_vertices.specs.{KeepsPairs, Pairs.IsStarSide, Pairs.MakesFaces}
 
 -- nothing changes
 pub made_none : (v : ℕ) (pairs : List (ℕ × ℕ)) (faces : List Face) → MakesFaces v pairs faces faces

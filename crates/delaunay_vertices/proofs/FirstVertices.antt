@@ -3,18 +3,12 @@
 use Rattle.std.proofs.Common.{◌≡◌, ◌+◌, ◌<◌, ◌≤◌, [], ◌∷◌, ◌++◌, ◌∙◌}
 use Rattle.std.proofs.Common.{ℕ, List, length, map, refl, sym, ap, arith, length-append}
 use Rattle.std.proofs.lemmas.List.{length-map, map-append}
-use Rattle.delaunay_legalization.specs.half_edge_dcel.Contents.{Contents, IsMeshWithData}
-use Rattle.delaunay_legalization.specs.half_edge_dcel.GrownData.{AddsEdgeData}
-use Rattle.delaunay_legalization.specs.half_edge_links.Mesh.{with_vertex}
-use Rattle.delaunay_legalization.specs.half_edge_dcel.Shapes.{JoinsFirst}
-use Rattle.delaunay_legalization.specs.plane.Fraction.{Point}
-use Rattle.delaunay_legalization.specs.Drawn.{faces_of, outer_of}
-use Rattle.delaunay_legalization.proofs.MeshLegal.{line_has_none, own_indexes}
-use Rattle.delaunay_legalization.specs.Legalized.{Legalizes}
-use Rattle.delaunay_legalization.specs.Parts.{IsApart}
-use Rattle.delaunay_legalization.specs.State.{state_of}
-use Rattle.delaunay_vertices.specs.Growth.{CanTake, GainsVertex}
-use Rattle.delaunay_vertices.proofs.DataGrowing.{grows_from_one}
+use Rattle.half_edge_dcel.specs.{Contents, GrownData.AddsEdgeData, IsMeshWithData}
+use Rattle.half_edge_dcel.specs.Shapes.{JoinsFirst}
+use Rattle.delaunay_legalization.specs.{faces_of, IsApart, Legalizes, outer_of, state_of}
+use Rattle.delaunay_legalization.proofs.{line_has_none, own_indexes}
+use Rattle.{delaunay_vertices.specs.CanTake, delaunay_vertices.specs.GainsVertex, plane.specs.Point}
+use Rattle.{delaunay_vertices.proofs.DataGrowing.grows_from_one, half_edge_links.specs.with_vertex}
 use Rattle.delaunay_vertices.proofs.Growing.{edges_and_faces, few_on_line, first_shape, gains}
 use Rattle.delaunay_vertices.proofs.Growing.{second_shape, sides_at_most}
 use Rattle.delaunay_vertices.proofs.MadeFaces.{made_first, made_none}

@@ -8,22 +8,15 @@ use Rattle.std.proofs.lemmas.Bool.{cases_eq}
 use Rattle.std.proofs.lemmas.List.{length-set, get_or-set_same}
 use Rattle.std.proofs.lemmas.Option.{slice_get_within, get_or_from_slice_get}
 use Rattle.std.proofs.Math.Numerals.{add-one}
-use Rattle.delaunay_legalization.specs.half_edge_dcel.Contents.{Contents, IsMeshWithData}
-use Rattle.delaunay_legalization.specs.half_edge_links.Mesh.{origin, out_edge, rev}
-use Rattle.delaunay_legalization.specs.half_edge_links.Peel.{turn, spoke}
-use Rattle.delaunay_legalization.specs.half_edge_links.Round.{IsRound}
-use Rattle.delaunay_legalization.proofs.half_edge_links_lemmas.Lists.Rev.{rev_within}
-use Rattle.delaunay_legalization.proofs.plane_theorems.Tiling.Totals.{Contains-none}
-use Rattle.delaunay_legalization.specs.Legal.{pair_at}
-use Rattle.delaunay_legalization.proofs.MeshStays.{slice_get-set_other}
-use Rattle.delaunay_legalization.proofs.WorkLists.{contains_map}
-use Rattle.delaunay_legalization.specs.Constraints.{marked_edges, constraint_pairs}
-use Rattle.delaunay_legalization.specs.Marking.{HasEdgeData}
-use Rattle.delaunay_legalization.proofs.Constraints.{is_constraint_edge}
-use Rattle.delaunay_vertices.proofs.Degrees.{starts_none}
-use Rattle.delaunay_vertices.specs.Freeing.{IsUnmarked, FreesEdgesAt}
-use Rattle.delaunay_legalization.proofs.EdgePairs.{rev_of_even, half_of_even}
+use Rattle.half_edge_links.specs.{IsRound, origin, out_edge, rev, spoke, turn}
+use Rattle.half_edge_links.proofs.{rev_within}
+use Rattle.half_edge_dcel.specs.{Contents, IsMeshWithData}
+use Rattle.delaunay_legalization.specs.{constraint_pairs, HasEdgeData, marked_edges, pair_at}
+use Rattle.delaunay_legalization.proofs.{contains_map, half_of_even, rev_of_even}
+use Rattle.delaunay_legalization.proofs.{Constraints.is_constraint_edge, slice_get-set_other}
+use Rattle.{delaunay_vertices.specs.Freeing.IsUnmarked, plane_theorems.proofs.Contains-none}
 use Rattle.delaunay_vertices.proofs.DataReads.{even_or_odd, half_of_odd}
+use Rattle.{delaunay_vertices.proofs.Degrees.starts_none, delaunay_vertices.specs.FreesEdgesAt}
 
 -- the first i edges from edge first on have no mark
 pub record IsFreeing {V D U F : Type 0} (marks : U → Bool) (old : Contents V D U F) (first : ℕ)

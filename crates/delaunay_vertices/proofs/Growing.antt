@@ -8,41 +8,23 @@ use Rattle.std.specs.Prelude.{All, pos, ℤ, ◌+ℤ◌}
 use Rattle.std.proofs.lemmas.Int.{ints}
 use Rattle.std.proofs.lemmas.List.{length-map, map-append}
 use Rattle.std.proofs.lemmas.List.Elements.{All-push}
-use Rattle.delaunay_legalization.specs.half_edge_links.Mesh.{Mesh, AreSoundLinks, IsValidMesh}
-use Rattle.delaunay_legalization.specs.half_edge_links.Mesh.{with_vertex}
-use Rattle.delaunay_legalization.specs.half_edge_links.Triangles.{triangle_at, triangles}
-use Rattle.delaunay_legalization.specs.half_edge_links.Outline.{OuterChanges, ExtendsOuter}
-use Rattle.delaunay_legalization.specs.half_edge_links.Outline.{SplitsOuter, IsThis}
-use Rattle.delaunay_legalization.specs.half_edge_dcel.Contents.{Contents, IsMeshWithData}
-use Rattle.delaunay_legalization.proofs.half_edge_dcel_lemmas.Outlines.{outer_changes, empty_list}
-use Rattle.delaunay_legalization.specs.plane.Fraction.{Point, Fraction, whole}
-use Rattle.delaunay_legalization.specs.plane.Pairs.{IsIndex, place}
-use Rattle.delaunay_legalization.specs.plane.Location.{IsPast}
-use Rattle.delaunay_legalization.specs.plane.Tests.{InRange}
-use Rattle.delaunay_legalization.specs.plane.Tiling.{Face}
-use Rattle.delaunay_legalization.specs.plane_theorems.Tiling.Local.{IsMesh, LocalMesh, LineMesh}
-use Rattle.delaunay_legalization.specs.plane_theorems.Tiling.Local.{alone}
-use Rattle.delaunay_legalization.specs.plane_theorems.Tiling.Local.{total, around, along}
-use Rattle.delaunay_legalization.proofs.plane_theorems.Tiling.Counts.{hull_edges_count}
-use Rattle.delaunay_legalization.proofs.plane_theorems.Tiling.Counts.{line_edges_count}
-use Rattle.delaunay_legalization.proofs.plane_theorems.Tiling.Rising.{total_ones}
-use Rattle.delaunay_legalization.proofs.plane_theorems.Tiling.Totals.{Contains-head, total-sum}
-use Rattle.delaunay_legalization.proofs.plane_theorems.Tiling.Counting.{corners_differ}
-use Rattle.delaunay_legalization.proofs.plane_theorems.Tiling.Tiles.{by_signs}
-use Rattle.delaunay_legalization.proofs.plane_theorems.Tiling.Tiles as P
-use Rattle.delaunay_legalization.proofs.plane_theorems.Tiling.LineMeshes.{one_vertex}
-use Rattle.delaunay_legalization.specs.Drawn.{faces_of, edges_of, outer_of}
-use Rattle.delaunay_legalization.specs.Drawn.{corners_of}
+use Rattle.plane.specs.{Face, Fraction, InRange, IsIndex, IsPast, place, Point, whole}
+use Rattle.half_edge_links.specs.{AreSoundLinks, IsThis, IsValidMesh, Mesh, OuterChanges}
+use Rattle.half_edge_links.specs.{SplitsOuter, triangle_at, triangles, with_vertex}
+use Rattle.half_edge_links.specs.Outline.{ExtendsOuter}
+use Rattle.plane_theorems.specs.{alone, along, around, IsMesh, LineMesh, LocalMesh, total}
+use Rattle.plane_theorems.proofs.{by_signs, Contains-head, corners_differ, hull_edges_count}
+use Rattle.plane_theorems.proofs.{line_edges_count, Tiling.Totals.total-sum}
+use Rattle.plane_theorems.proofs.{Tiling.LineMeshes.one_vertex, Tiling.Rising.total_ones}
+use Rattle.half_edge_dcel.specs.{Contents, IsMeshWithData}
+use Rattle.half_edge_dcel.proofs.Outlines.{empty_list, outer_changes}
+use Rattle.delaunay_legalization.specs.{corners_of, edges_of, faces_of, IsApart, IsTriangulated}
+use Rattle.delaunay_legalization.specs.{IsWithinEdge, MakesFacesAt, outer_of, state_of}
+use Rattle.delaunay_legalization.proofs.{edges_counted, faces_counted, own_edges}
 use Rattle.delaunay_legalization.proofs.MeshLines.{line_extended, line_split_at}
-use Rattle.delaunay_legalization.proofs.OwnEdges.{own_edges}
-use Rattle.delaunay_legalization.proofs.ElementCounts.{edges_counted, faces_counted}
-use Rattle.delaunay_legalization.specs.State.{state_of}
-use Rattle.delaunay_legalization.specs.Shape.{IsTriangulated}
-use Rattle.delaunay_legalization.specs.Parts.{IsApart, IsWithinEdge}
-use Rattle.delaunay_legalization.specs.Star.{MakesFacesAt}
-use Rattle.delaunay_vertices.specs.Data.{GrowsAround}
-use Rattle.delaunay_vertices.specs.Growth.{CanTake, GainsVertex}
+use Rattle.delaunay_vertices.specs.{CanTake, GainsVertex, GrowsAround}
 use Rattle.delaunay_vertices.proofs.MadeFaces.{made_at_count}
+use Rattle.plane_theorems.proofs.Tiling.Tiles as P
 
 -- ---- counts
 module _ {V D U F : Type 0} (c : Contents V D U F) (w : IsMeshWithData c) where

@@ -4,26 +4,18 @@
 use Rattle.std.proofs.Common.{◌≡◌, ◌≢◌, ◌⊎◌, ◌-◌, ◌<◌, [], ◌∷◌, ◌∙◌}
 use Rattle.std.proofs.Common.{ℕ, List, length, refl, ap, subst, arith, inl, inr}
 use Rattle.std.specs.Global.{Vec}
-use Rattle.delaunay_legalization.specs.half_edge_links.Mesh.{Mesh, AreSoundLinks, origin, prev}
-use Rattle.delaunay_legalization.specs.half_edge_links.Peel.{turn, IsStrip}
-use Rattle.delaunay_legalization.specs.half_edge_links.Round.{neighbour}
-use Rattle.delaunay_legalization.specs.half_edge_dcel.Contents.{Contents, IsMeshWithData}
-use Rattle.delaunay_legalization.specs.half_edge_dcel.Removal.{AreSidesOf, LosesStrip, first_spoke}
-use Rattle.delaunay_legalization.specs.plane.Fraction.{Point}
-use Rattle.delaunay_legalization.specs.plane.Pairs.{place}
-use Rattle.delaunay_legalization.specs.plane.Side.{side, on, TurnsLeft}
-use Rattle.delaunay_legalization.specs.plane_theorems.Edits.RemovalHull.{NoneTurnsLeft}
-use Rattle.delaunay_legalization.specs.Drawn.{faces_of}
-use Rattle.delaunay_legalization.proofs.Borders.{opposite_of_strip}
-use Rattle.delaunay_legalization.proofs.MeshVertexLeaves.{leaves_corner}
-use Rattle.delaunay_legalization.proofs.MeshVertexLeaves.{leaves_to_line}
-use Rattle.delaunay_legalization.proofs.MeshVertexLeaves.{leaves_flat, flat_turned}
-use Rattle.delaunay_legalization.proofs.StarTurns.{TurnsOff, strip_left, same_start}
-use Rattle.delaunay_vertices.specs.Star.{IsolatesVertex, TurnsAway}
-use Rattle.delaunay_vertices.specs.Hull.{AreSides, IsCornerAt, IsHullFan, HasNoFlippableEdge}
-use Rattle.delaunay_vertices.proofs.DataStays.{strip_stands, stands_on, stands_put}
-use Rattle.delaunay_vertices.proofs.HullSides.{corner_read}
-use Rattle.delaunay_vertices.proofs.HullStars.{strip_of, has_two, none_turns, left_of, right_of}
+use Rattle.plane.specs.{on, place, Point, side, TurnsLeft}
+use Rattle.half_edge_links.specs.{AreSoundLinks, IsStrip, Mesh, neighbour, origin, prev, turn}
+use Rattle.half_edge_dcel.specs.{AreSidesOf, Contents, IsMeshWithData, LosesStrip}
+use Rattle.{delaunay_legalization.specs.faces_of, half_edge_dcel.specs.Removal.first_spoke}
+use Rattle.delaunay_legalization.proofs.{same_start, StarTurns.strip_left, StarTurns.TurnsOff}
+use Rattle.delaunay_legalization.proofs.{Borders.opposite_of_strip, MeshVertexLeaves.leaves_to_line}
+use Rattle.delaunay_legalization.proofs.MeshVertexLeaves.{flat_turned, leaves_corner, leaves_flat}
+use Rattle.delaunay_vertices.specs.{HasNoFlippableEdge, IsCornerAt, IsHullFan, IsolatesVertex}
+use Rattle.{delaunay_vertices.specs.TurnsAway, plane_theorems.specs.NoneTurnsLeft}
+use Rattle.delaunay_vertices.proofs.DataStays.{stands_on, stands_put, strip_stands}
+use Rattle.{delaunay_vertices.proofs.HullSides.corner_read, delaunay_vertices.specs.Hull.AreSides}
+use Rattle.delaunay_vertices.proofs.HullStars.{has_two, left_of, none_turns, right_of, strip_of}
 
 -- a list is empty or not
 empty_or_not : {X : Type 0} (xs : List X) → (xs ≡ []) ⊎ (xs ≢ [])

@@ -2,11 +2,8 @@
 -- Lemmas: faces_inner.
 use Rattle.std.proofs.Common.{◌≡◌, ℕ, zero, suc, ◌+◌, ◌<◌, sym, ap, ◌∙◌, arith, inl, inr}
 use Rattle.std.proofs.lemmas.Bool.{cases_lt}
-use Rattle.delaunay_legalization.specs.half_edge_links.Mesh.{Mesh, AreSoundLinks, prev, face, rev}
-use Rattle.delaunay_legalization.specs.half_edge_links.Peel.{spoke}
-use Rattle.delaunay_legalization.specs.half_edge_links.Round.{IsRound}
-use Rattle.delaunay_legalization.proofs.half_edge_links_lemmas.Lists.Rev.{rev-rev}
-use Rattle.delaunay_vertices.specs.Star.{HasInnerFaces}
+use Rattle.half_edge_links.specs.{AreSoundLinks, face, IsRound, Mesh, prev, rev, spoke}
+use Rattle.{delaunay_vertices.specs.Star.HasInnerFaces, half_edge_links.proofs.rev-rev}
 
 -- where none has it, the faces round the vertex are inner ones
 pub faces_inner : (m : Mesh) (v first count : ℕ) → AreSoundLinks m → IsRound m v first count

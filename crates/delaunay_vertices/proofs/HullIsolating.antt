@@ -1,14 +1,10 @@
 -- A vertex on the hull that is no corner, and has no edge to turn: a flat side with two faces.
 -- Lemmas: flat_left.
 use Rattle.std.proofs.Common.{◌≡◌, ℕ, ◌-◌, List, map, subst, arith}
-use Rattle.delaunay_legalization.specs.half_edge_links.Round.{neighbour}
-use Rattle.delaunay_legalization.specs.half_edge_dcel.Contents.{Contents}
-use Rattle.delaunay_legalization.specs.plane.Fraction.{Point}
-use Rattle.delaunay_legalization.specs.plane.Pairs.{place as at}
-use Rattle.delaunay_legalization.specs.plane.Side.{side, on}
-use Rattle.delaunay_vertices.specs.Hull.{IsCornerAt, IsHullFan, ShrinksFan}
-use Rattle.delaunay_vertices.proofs.HullStars.{flat_has_three}
-use Rattle.delaunay_vertices.proofs.HullSides.{corner_read}
+use Rattle.plane.specs.{on, place as at, Point, side}
+use Rattle.{half_edge_dcel.specs.Contents, half_edge_links.specs.neighbour}
+use Rattle.delaunay_vertices.specs.{Hull.ShrinksFan, IsCornerAt, IsHullFan}
+use Rattle.delaunay_vertices.proofs.{HullSides.corner_read, HullStars.flat_has_three}
 
 -- it has three edges, and is on the line of the ends of the first and the last
 pub flat_left : {V D U F : Type 0} {turned : List (ℕ × ℕ)} {place : V → Point}

@@ -5,22 +5,15 @@ use Rattle.std.proofs.Common.{◌≡◌, ◌-◌, ◌*◌, ◌/◌, ◌<◌, ◌
 use Rattle.std.proofs.Common.{ℕ, suc, List, length, map, sym, ap, subst, arith, inl, inr}
 use Rattle.std.specs.Global.{Vec}
 use Rattle.std.proofs.lemmas.Bool.{cases_eq, cases_lt}
-use Rattle.delaunay_legalization.specs.half_edge_links.Mesh.{origin, face}
-use Rattle.delaunay_legalization.specs.half_edge_links.Peel.{turn, spoke}
-use Rattle.delaunay_legalization.specs.half_edge_links.Triangles.{FlipsTriangles}
-use Rattle.delaunay_legalization.specs.half_edge_dcel.Contents.{Contents}
-use Rattle.delaunay_legalization.specs.half_edge_links.Round.{IsRound}
-use Rattle.delaunay_legalization.specs.plane.Fraction.{Point}
-use Rattle.delaunay_legalization.proofs.MeshStarFlips.{spoke_flippable}
-use Rattle.delaunay_legalization.proofs.MeshStarFlips.{twin_flippable}
-use Rattle.delaunay_legalization.proofs.StarTurns.{turns_away, same_start}
-use Rattle.delaunay_legalization.proofs.Rounds.{round_of}
-use Rattle.delaunay_vertices.specs.Star.{IsConvexAt, IsSpokeThat, IsTurnable, MayTurnAway}
-use Rattle.delaunay_vertices.specs.Star.{TurnsAway}
-use Rattle.delaunay_vertices.specs.Hull.{IsHullFan, HasNoFlippableEdge, ShrinksFan}
-use Rattle.delaunay_vertices.specs.Pairs.{HasRoomAt}
-use Rattle.delaunay_vertices.proofs.HullStars.{has_two, left_of, right_of, strip_of}
-use Rattle.delaunay_vertices.proofs.HullStars.{hull_may_turn, hull_star_less}
+use Rattle.plane.specs.{Point}
+use Rattle.half_edge_links.specs.{face, FlipsTriangles, IsRound, origin, spoke, turn}
+use Rattle.delaunay_legalization.proofs.{round_of, same_start, StarTurns.turns_away}
+use Rattle.delaunay_legalization.proofs.MeshStarFlips.{spoke_flippable, twin_flippable}
+use Rattle.delaunay_vertices.specs.{HasNoFlippableEdge, IsConvexAt, IsHullFan, IsSpokeThat}
+use Rattle.delaunay_vertices.specs.{Hull.ShrinksFan, MayTurnAway, Pairs.HasRoomAt, TurnsAway}
+use Rattle.{delaunay_vertices.specs.Star.IsTurnable, half_edge_dcel.specs.Contents}
+use Rattle.delaunay_vertices.proofs.HullStars.{has_two, hull_may_turn, hull_star_less, left_of}
+use Rattle.delaunay_vertices.proofs.HullStars.{right_of, strip_of}
 use Rattle.delaunay_vertices.proofs.Turning.{HasTurned, turning_goes_on}
 
 -- a vertex on the hull lost edges by turns, and still has so many, from edge first on, and edge

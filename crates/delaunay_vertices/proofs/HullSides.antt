@@ -7,13 +7,9 @@ use Rattle.std.specs.Prelude.{slice_index, vec_capacity, vec_len}
 use Rattle.std.proofs.lemmas.Bool.{cases_lt}
 use Rattle.std.proofs.lemmas.List.{length-append, get_or_append_left, get_or_push}
 use Rattle.std.proofs.Math.Numerals.{add-one}
-use Rattle.delaunay_legalization.specs.half_edge_links.Mesh.{Mesh, IsValidMesh, origin, next, rev}
-use Rattle.delaunay_legalization.specs.half_edge_links.Peel.{turn, spoke}
-use Rattle.delaunay_legalization.specs.half_edge_links.Round.{neighbour}
-use Rattle.delaunay_legalization.specs.plane.Fraction.{Point}
-use Rattle.delaunay_legalization.specs.plane.Pairs.{place}
-use Rattle.delaunay_legalization.specs.plane.Side.{TurnsLeft}
-use Rattle.delaunay_vertices.specs.Hull.{AreSides, IsCornerAt, IsHullFan}
+use Rattle.plane.specs.{place, Point, TurnsLeft}
+use Rattle.half_edge_links.specs.{IsValidMesh, Mesh, neighbour, next, origin, rev, spoke, turn}
+use Rattle.delaunay_vertices.specs.{Hull.AreSides, IsCornerAt, IsHullFan}
 use Rattle.delaunay_vertices.proofs.HullStars.{strip_of}
 
 -- after so many steps from edge first on the walk is at an edge, and the sides before it are listed

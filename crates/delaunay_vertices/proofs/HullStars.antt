@@ -6,32 +6,21 @@ use Rattle.std.proofs.Common.{ℕ, zero, suc, List, length, map, refl, sym, ap, 
 use Rattle.std.proofs.Common.{inl, inr}
 use Rattle.std.specs.Prelude.{Contains}
 use Rattle.std.proofs.lemmas.Bool.{cases_lt}
-use Rattle.delaunay_legalization.specs.half_edge_links.Mesh.{Mesh, IsValidMesh, origin, face, rev}
-use Rattle.delaunay_legalization.specs.half_edge_links.Outline.{KeepsOuter, IsOuterEdge}
-use Rattle.delaunay_legalization.specs.half_edge_links.Peel.{spoke, IsStrip}
-use Rattle.delaunay_legalization.specs.half_edge_links.Round.{IsRound, neighbour}
-use Rattle.delaunay_legalization.specs.half_edge_links.Triangles.{FlipsTriangles}
-use Rattle.delaunay_legalization.proofs.half_edge_links_lemmas.Lists.Rev.{rev-rev, rev_within}
-use Rattle.delaunay_legalization.specs.half_edge_dcel.Contents.{Contents, IsMeshWithData}
-use Rattle.delaunay_legalization.specs.plane.Fraction.{Point}
-use Rattle.delaunay_legalization.specs.plane.Pairs.{place}
-use Rattle.delaunay_legalization.specs.plane.Side.{side, on, TurnsLeft}
-use Rattle.delaunay_legalization.specs.plane_theorems.Tiling.Local.{LocalMesh}
-use Rattle.delaunay_legalization.proofs.plane_theorems.Tiling.Covering.{no_outer_back}
-use Rattle.delaunay_legalization.proofs.plane_theorems.Tiling.Tiles.{point_at, by_signs}
-use Rattle.delaunay_legalization.specs.plane_theorems.Edits.RemovalHull as P
-use Rattle.delaunay_legalization.specs.plane_theorems.Edits.StarFlips.{IsStarFlip}
-use Rattle.delaunay_legalization.proofs.plane_theorems.Edits.Removal.HullVertex.{corner_or_flat}
-use Rattle.delaunay_legalization.proofs.plane_theorems.Edits.Removal.HullVertex.{corner_star_flips}
-use Rattle.delaunay_legalization.proofs.plane_theorems.Edits.Removal.HullVertex.{flat_star_flips}
-use Rattle.delaunay_legalization.specs.Drawn.{faces_of, outer_of}
-use Rattle.delaunay_legalization.proofs.MeshStars.{hull_star, hull_strip}
-use Rattle.delaunay_legalization.proofs.MeshStars.{neighbours_apart}
-use Rattle.delaunay_legalization.proofs.MeshStarFlips.{star_flip, star_flip_local}
-use Rattle.delaunay_legalization.proofs.MeshStarFlips.{one_hull_neighbour_less}
-use Rattle.delaunay_vertices.specs.Star.{IsConvexAt, MayTurnAway}
-use Rattle.delaunay_vertices.specs.Hull.{IsHullFan, HasNoFlippableEdge}
-use Rattle.delaunay_legalization.proofs.Rounds.{round_at}
+use Rattle.plane.specs.{on, place, Point, side, TurnsLeft}
+use Rattle.half_edge_links.specs.{face, FlipsTriangles, IsOuterEdge, IsRound, IsStrip, IsValidMesh}
+use Rattle.half_edge_links.specs.{KeepsOuter, Mesh, neighbour, origin, rev, spoke}
+use Rattle.half_edge_links.proofs.{rev-rev, rev_within}
+use Rattle.plane_theorems.specs.{IsStarFlip, LocalMesh}
+use Rattle.plane_theorems.proofs.{by_signs, Edits.Removal.HullVertex.flat_star_flips, point_at}
+use Rattle.plane_theorems.proofs.Edits.Removal.HullVertex.{corner_or_flat, corner_star_flips}
+use Rattle.plane_theorems.proofs.Tiling.Covering.{no_outer_back}
+use Rattle.half_edge_dcel.specs.{Contents, IsMeshWithData}
+use Rattle.delaunay_legalization.specs.{faces_of, outer_of}
+use Rattle.delaunay_legalization.proofs.{MeshStarFlips.star_flip_local, round_at}
+use Rattle.delaunay_legalization.proofs.MeshStarFlips.{one_hull_neighbour_less, star_flip}
+use Rattle.delaunay_legalization.proofs.MeshStars.{hull_star, hull_strip, neighbours_apart}
+use Rattle.delaunay_vertices.specs.{HasNoFlippableEdge, IsConvexAt, IsHullFan, MayTurnAway}
+use Rattle.plane_theorems.specs.Edits.RemovalHull as P
 
 -- ---- what the edges of a vertex on the hull know
 module _ {points : List Point} {m : Mesh} (valid : IsValidMesh m) {v first count : ℕ}

@@ -4,26 +4,18 @@
 use Rattle.std.proofs.Common.{◌≡◌, ◌⊎◌, ◌+◌, ◌<◌, [], ◌∷◌, ◌∙◌}
 use Rattle.std.proofs.Common.{ℕ, zero, suc, List, map, refl, sym, ap, subst, arith, inl, inr}
 use Rattle.std.specs.Global.{Vec}
-use Rattle.delaunay_legalization.specs.half_edge_links.Mesh.{Mesh, AreSoundLinks, origin, next}
-use Rattle.delaunay_legalization.specs.half_edge_links.Mesh.{prev}
-use Rattle.delaunay_legalization.specs.half_edge_links.Mesh.{face, rev}
-use Rattle.delaunay_legalization.specs.half_edge_links.Peel.{turn, spoke, IsWheel}
-use Rattle.delaunay_legalization.specs.half_edge_links.Round.{IsRound, neighbour}
-use Rattle.delaunay_legalization.specs.half_edge_dcel.Contents.{Contents, IsMeshWithData}
-use Rattle.delaunay_legalization.specs.half_edge_dcel.Hole.{IsBorder, FillsWithFan}
-use Rattle.delaunay_legalization.specs.half_edge_dcel.Removal.{FillsHole}
-use Rattle.delaunay_legalization.proofs.half_edge_dcel_lemmas.HoleFilled.{fan_of_three}
-use Rattle.delaunay_legalization.specs.plane.Fraction.{Point, WithinSegment}
-use Rattle.delaunay_legalization.specs.plane.Pairs.{place}
-use Rattle.delaunay_legalization.proofs.plane_theorems.Tiling.Edges.{turned_within}
-use Rattle.delaunay_legalization.specs.Drawn.{faces_of, outer_of}
-use Rattle.delaunay_legalization.proofs.Borders.{border_of_wheel}
-use Rattle.delaunay_legalization.proofs.MeshVertexLeaves.{leaves_three, leaves_four}
-use Rattle.delaunay_legalization.proofs.StarTurns.{wheel_of_three, wheel_left}
-use Rattle.delaunay_vertices.specs.RemovalData.{StandsBeside}
-use Rattle.delaunay_vertices.specs.Pairs.{KeepsPairs}
-use Rattle.delaunay_vertices.specs.Star.{IsBetweenAt, IsInnerStar, IsMeshWithout, IsolatesVertex}
-use Rattle.delaunay_vertices.specs.Star.{LosesStar, StandsBetween, TurnsAway}
+use Rattle.plane.specs.{place, Point, WithinSegment}
+use Rattle.half_edge_links.specs.{AreSoundLinks, face, IsRound, IsWheel, Mesh, neighbour, next}
+use Rattle.half_edge_links.specs.{origin, prev, rev, spoke, turn}
+use Rattle.plane_theorems.proofs.{turned_within}
+use Rattle.half_edge_dcel.specs.{Contents, FillsHole, IsBorder, IsMeshWithData}
+use Rattle.{half_edge_dcel.proofs.HoleFilled.fan_of_three, half_edge_dcel.specs.Hole.FillsWithFan}
+use Rattle.delaunay_legalization.specs.{faces_of, outer_of}
+use Rattle.{delaunay_legalization.proofs.Borders.border_of_wheel, delaunay_vertices.specs.TurnsAway}
+use Rattle.delaunay_legalization.proofs.MeshVertexLeaves.{leaves_four, leaves_three}
+use Rattle.delaunay_legalization.proofs.StarTurns.{wheel_left, wheel_of_three}
+use Rattle.delaunay_vertices.specs.{IsInnerStar, IsolatesVertex, KeepsPairs, StandsBeside}
+use Rattle.delaunay_vertices.specs.Star.{IsBetweenAt, IsMeshWithout, LosesStar, StandsBetween}
 use Rattle.delaunay_vertices.proofs.DataStays.{hole_stands, stands_on, stands_put}
 use Rattle.delaunay_vertices.proofs.InnerStars.{spokes_inner, turns}
 

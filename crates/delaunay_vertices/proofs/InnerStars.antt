@@ -5,32 +5,20 @@
 use Rattle.std.proofs.Common.{◌≡◌, ◌≢◌, ◌+◌, ◌-◌, ◌*◌, ◌/◌, ◌<◌, ◌≤◌, ◌∙◌}
 use Rattle.std.proofs.Common.{ℕ, zero, suc, List, length, map, refl, sym, ap, subst, arith}
 use Rattle.std.proofs.Common.{inl, inr}
-use Rattle.delaunay_legalization.specs.half_edge_links.Mesh.{Mesh, IsValidMesh, origin, face, rev}
-use Rattle.delaunay_legalization.specs.half_edge_links.Flip.{flipped}
-use Rattle.delaunay_legalization.specs.half_edge_links.Outline.{KeepsOuter}
-use Rattle.delaunay_legalization.specs.half_edge_links.Peel.{turn, spoke}
-use Rattle.delaunay_legalization.specs.half_edge_links.Round.{IsRound, neighbour}
-use Rattle.delaunay_legalization.specs.half_edge_links.Triangles.{FlipsTriangles}
-use Rattle.delaunay_legalization.specs.half_edge_dcel.Contents.{Contents, IsMeshWithData}
-use Rattle.delaunay_legalization.specs.plane.Fraction.{Point, Fraction}
-use Rattle.delaunay_legalization.specs.plane.Pairs.{place}
-use Rattle.delaunay_legalization.specs.plane.Side.{TurnsLeft, left, right, opposite}
-use Rattle.delaunay_legalization.proofs.plane.Sides.{side_turned, side_swapped}
-use Rattle.delaunay_legalization.specs.plane_theorems.Tiling.Local.{LocalMesh}
-use Rattle.delaunay_legalization.specs.plane_theorems.Edits.Removal.{IsStar}
-use Rattle.delaunay_legalization.specs.plane_theorems.Edits.StarFlips.{IsStarFlip}
-use Rattle.delaunay_legalization.proofs.plane_theorems.Edits.LocalMesh.Kept.{turning_of}
-use Rattle.delaunay_legalization.specs.Drawn.{faces_of, outer_of}
-use Rattle.delaunay_legalization.proofs.MeshStars.{inner_star}
-use Rattle.delaunay_legalization.proofs.MeshStarFlips.{spoke_flippable}
-use Rattle.delaunay_legalization.proofs.MeshStarFlips.{twin_flippable, star_flip}
-use Rattle.delaunay_legalization.proofs.MeshStarFlips.{star_flip_local}
-use Rattle.delaunay_legalization.proofs.MeshStarFlips.{one_neighbour_less}
-use Rattle.delaunay_legalization.proofs.MeshVertexLeaves.{inner_choice}
-use Rattle.delaunay_legalization.proofs.StarTurns.{TurnsOff, turns_away, same_start}
-use Rattle.delaunay_vertices.specs.Star.{IsConvexAt, HasInnerFaces, IsInnerStar, IsReduced}
-use Rattle.delaunay_vertices.specs.Star.{MayTurnAway}
-use Rattle.delaunay_legalization.proofs.Rounds.{round_of, round_at}
+use Rattle.plane.specs.{Fraction, left, opposite, place, Point, right, TurnsLeft}
+use Rattle.{plane.proofs.Sides.side_turned, plane_theorems.proofs.turning_of}
+use Rattle.half_edge_links.specs.{face, flipped, FlipsTriangles, IsRound, IsValidMesh, KeepsOuter}
+use Rattle.half_edge_links.specs.{Mesh, neighbour, origin, rev, spoke, turn}
+use Rattle.plane_theorems.specs.{IsStar, IsStarFlip, LocalMesh}
+use Rattle.half_edge_dcel.specs.{Contents, IsMeshWithData}
+use Rattle.delaunay_legalization.specs.{faces_of, outer_of}
+use Rattle.delaunay_legalization.proofs.{MeshStars.inner_star, round_at, round_of, same_start}
+use Rattle.delaunay_legalization.proofs.MeshStarFlips.{one_neighbour_less, spoke_flippable}
+use Rattle.delaunay_legalization.proofs.MeshStarFlips.{star_flip, star_flip_local, twin_flippable}
+use Rattle.{delaunay_legalization.proofs.MeshVertexLeaves.inner_choice, plane.proofs.side_swapped}
+use Rattle.delaunay_legalization.proofs.StarTurns.{turns_away, TurnsOff}
+use Rattle.delaunay_vertices.specs.{IsConvexAt, IsInnerStar, MayTurnAway}
+use Rattle.delaunay_vertices.specs.Star.{HasInnerFaces, IsReduced}
 
 -- a turn to the left goes to the right on the way back
 pub no_way_back : (v a b : Fraction) → TurnsLeft v a b → TurnsLeft v b a → ⊥

@@ -3,32 +3,22 @@
 use Rattle.std.proofs.Common.{◌≡◌, ◌/◌, ◌<◌, ◌≤◌, [], ◌∷◌, ◌++◌, ◌∙◌}
 use Rattle.std.proofs.Common.{ℕ, List, length, map, sym, ap, subst, inl, inr, arith}
 use Rattle.std.proofs.lemmas.List.{length-map}
-use Rattle.delaunay_legalization.specs.half_edge_links.Mesh.{Mesh, AreSoundLinks, IsValidMesh}
-use Rattle.delaunay_legalization.specs.half_edge_links.Mesh.{IsInnerEdge, origin, next, face_edge}
-use Rattle.delaunay_legalization.specs.half_edge_links.Mesh.{rev}
-use Rattle.delaunay_legalization.specs.half_edge_dcel.Contents.{Contents, edges}
-use Rattle.delaunay_legalization.specs.half_edge_links.Flip.{IsFlippable}
-use Rattle.delaunay_legalization.specs.half_edge_links.Grow.{IsHalfSplittable}
-use Rattle.delaunay_legalization.specs.half_edge_dcel.GrownData.{AddsData, MovesData}
-use Rattle.delaunay_legalization.specs.half_edge_dcel.Growth.{AddsEdges, SplitsEdge}
-use Rattle.delaunay_legalization.specs.half_edge_dcel.Shapes.{InsertsInFace, SplitsBesideOuter}
-use Rattle.delaunay_legalization.specs.half_edge_links.Triangles.{triangle_at, triangles}
-use Rattle.delaunay_legalization.specs.half_edge_links.Triangles.{InsertsTriangles, SplitsTriangles}
-use Rattle.delaunay_legalization.specs.half_edge_links.Outline.{Ends, KeepsOuter, ReplacesOuter}
-use Rattle.delaunay_legalization.specs.half_edge_links.Outline.{HalfSplitsTriangles}
-use Rattle.delaunay_legalization.specs.plane.Fraction.{Point, whole, WithinSegment}
-use Rattle.delaunay_legalization.specs.plane.Pairs.{place}
-use Rattle.delaunay_legalization.specs.plane_theorems.Tiling.Local.{IsMesh, LocalMesh}
-use Rattle.delaunay_legalization.proofs.plane_theorems.Tiling.Edges.{turned_within}
-use Rattle.delaunay_legalization.specs.Drawn.{faces_of, outer_of, corners_of}
-use Rattle.delaunay_legalization.proofs.MeshEdits.{insertion_inside}
+use Rattle.plane.specs.{place, Point, whole, WithinSegment}
+use Rattle.half_edge_links.specs.{AreSoundLinks, Ends, face_edge, HalfSplitsTriangles}
+use Rattle.half_edge_links.specs.{InsertsTriangles, IsFlippable, IsHalfSplittable, IsInnerEdge}
+use Rattle.half_edge_links.specs.{IsValidMesh, KeepsOuter, Mesh, next, origin, ReplacesOuter, rev}
+use Rattle.half_edge_links.specs.{SplitsTriangles, triangle_at, triangles}
+use Rattle.plane_theorems.specs.{IsMesh, LocalMesh}
+use Rattle.plane_theorems.proofs.{turned_within}
+use Rattle.half_edge_dcel.specs.{AddsData, AddsEdges, Contents, edges, SplitsEdge}
+use Rattle.half_edge_dcel.specs.Shapes.{InsertsInFace, SplitsBesideOuter}
+use Rattle.delaunay_legalization.specs.{corners_of, faces_of, IsInsideFaceOf, IsWithinEdge}
+use Rattle.delaunay_legalization.specs.{outer_of, state_of}
+use Rattle.delaunay_legalization.proofs.MeshEdits.{insertion_inside, insertion_within_outer}
 use Rattle.delaunay_legalization.proofs.MeshEdits.{insertion_within_side}
-use Rattle.delaunay_legalization.proofs.MeshEdits.{insertion_within_outer}
-use Rattle.delaunay_legalization.specs.Parts.{IsInsideFaceOf, IsWithinEdge}
-use Rattle.delaunay_legalization.specs.State.{state_of}
-use Rattle.delaunay_vertices.specs.Growth.{CanSplit, CanTake, GainsVertex}
+use Rattle.delaunay_vertices.specs.{CanTake, GainsVertex, Growth.CanSplit}
 use Rattle.delaunay_vertices.proofs.DataGrowing.{grows_inside, grows_within_hull}
-use Rattle.delaunay_vertices.proofs.Growing.{gains}
+use Rattle.{delaunay_vertices.proofs.Growing.gains, half_edge_dcel.specs.GrownData.MovesData}
 use Rattle.delaunay_vertices.proofs.MadeFaces.{made_inside, made_within_outer}
 
 -- a mesh with an edge of an inner face is not a line

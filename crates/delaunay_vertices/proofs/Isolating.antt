@@ -1,10 +1,9 @@
 -- An inner vertex that is left with four edges, strictly between two of their ends.
 -- Lemmas: four_left, four_named.
 use Rattle.std.proofs.Common.{◌≡◌, ◌≢◌, ℕ, List, map, sym, ◌∙◌, subst, inl, inr}
-use Rattle.delaunay_legalization.specs.half_edge_links.Mesh.{origin}
-use Rattle.delaunay_legalization.specs.half_edge_dcel.Contents.{Contents}
-use Rattle.delaunay_legalization.specs.plane.Fraction.{Point}
-use Rattle.delaunay_vertices.specs.Star.{IsFourStar, IsInnerStar, ShrinksStar, StandsBetween}
+use Rattle.half_edge_links.specs.{origin}
+use Rattle.{delaunay_vertices.specs.IsInnerStar, half_edge_dcel.specs.Contents, plane.specs.Point}
+use Rattle.delaunay_vertices.specs.Star.{IsFourStar, ShrinksStar, StandsBetween}
 
 module _ {V D U F : Type 0} {pairs : List (ℕ × ℕ)} {place : V → Point} {old mid : Contents V D U F}
     {v first count : ℕ} (shrinks : ShrinksStar place old mid v first count pairs) where

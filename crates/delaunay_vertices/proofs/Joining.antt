@@ -9,49 +9,27 @@ use Rattle.std.proofs.Common.{length-append}
 use Rattle.std.specs.Prelude.{All, Contains, IsTrue}
 use Rattle.std.proofs.lemmas.List.{length-map, map-append}
 use Rattle.std.proofs.lemmas.List.Elements.{All-push}
-use Rattle.delaunay_legalization.specs.half_edge_links.Mesh.{Mesh, AreSoundLinks, IsSoundEdge}
-use Rattle.delaunay_legalization.specs.half_edge_links.Mesh.{origin, next, prev, face, rev}
-use Rattle.delaunay_legalization.specs.half_edge_links.Outline.{Ends, IsOuterEdge, AddsTriangle}
-use Rattle.delaunay_legalization.specs.half_edge_links.Outline.{ReplacesOuter}
-use Rattle.delaunay_legalization.specs.half_edge_links.Grow.{IsClosable, Closes, closed}
-use Rattle.delaunay_legalization.specs.half_edge_dcel.GrownData.{AddsData}
-use Rattle.delaunay_legalization.specs.half_edge_dcel.Growth.{AddsEdges}
-use Rattle.delaunay_legalization.specs.half_edge_links.Room.{HasRoomFor}
-use Rattle.delaunay_legalization.specs.half_edge_dcel.Shapes.{AddsFaceTo, ClosesTriangle}
-use Rattle.delaunay_legalization.proofs.half_edge_links_lemmas.Growing.Close.{closes}
-use Rattle.delaunay_legalization.proofs.half_edge_links_lemmas.Lists.Rev.{rev_within}
-use Rattle.delaunay_legalization.specs.half_edge_dcel.Contents.{Contents, HasRoom, IsMeshWithData}
-use Rattle.delaunay_legalization.specs.half_edge_dcel.Contents.{edges}
-use Rattle.delaunay_legalization.proofs.half_edge_dcel_lemmas.Fits.{length-grown}
-use Rattle.delaunay_legalization.specs.plane.Fraction.{Point, whole}
-use Rattle.delaunay_legalization.specs.plane.Pairs.{place}
-use Rattle.delaunay_legalization.specs.plane.Side.{TurnsLeft}
-use Rattle.delaunay_legalization.proofs.plane.Steps.{left_not_zero}
-use Rattle.delaunay_legalization.proofs.plane.Sides.{if_left}
-use Rattle.delaunay_legalization.proofs.plane.BracketIdentities.{bracket-last, bracket-outer}
-use Rattle.delaunay_legalization.specs.plane_theorems.Tiling.Local.{IsMesh, LocalMesh}
-use Rattle.delaunay_legalization.proofs.plane_theorems.Tiling.Counting.{at}
-use Rattle.delaunay_legalization.proofs.plane_theorems.Tiling.Tiles.{point_at}
-use Rattle.delaunay_legalization.proofs.plane_theorems.Tiling.Appended.{kept_point, last_point}
-use Rattle.delaunay_legalization.specs.plane_theorems.Edits.Extension.{IsExtending}
-use Rattle.delaunay_legalization.proofs.plane_theorems.Edits.LocalMesh.Changes.{IsOnce}
-use Rattle.delaunay_legalization.proofs.plane_theorems.Edits.Insertion.Growing.{extension_begins}
-use Rattle.delaunay_legalization.proofs.plane_theorems.Edits.Insertion.OnLine.{over_line_ends}
-use Rattle.delaunay_legalization.specs.Drawn.{faces_of, outer_of}
-use Rattle.delaunay_legalization.proofs.OuterEdges.{listed}
-use Rattle.delaunay_legalization.proofs.OuterChanges.{outer_replaced}
-use Rattle.delaunay_legalization.proofs.MeshEdits.{added_faces}
-use Rattle.delaunay_legalization.proofs.MeshExtension.{ends_below}
-use Rattle.delaunay_legalization.proofs.MeshExtension.{mesh_extension_goes_on}
+use Rattle.plane.specs.{place, Point, TurnsLeft, whole}
+use Rattle.plane.proofs.{bracket-last, bracket-outer, if_left, left_not_zero}
+use Rattle.half_edge_links.specs.{AddsTriangle, AreSoundLinks, closed, Closes, Ends, face}
+use Rattle.half_edge_links.specs.{HasRoomFor, IsClosable, IsOuterEdge, IsSoundEdge, Mesh, next}
+use Rattle.half_edge_links.specs.{origin, prev, ReplacesOuter, rev}
+use Rattle.half_edge_links.proofs.{rev_within}
+use Rattle.plane_theorems.specs.{IsExtending, IsMesh, LocalMesh}
+use Rattle.plane_theorems.proofs.{at, IsOnce, kept_point, point_at}
+use Rattle.plane_theorems.proofs.Edits.Insertion.Growing.{extension_begins}
+use Rattle.plane_theorems.proofs.{Edits.Insertion.OnLine.over_line_ends, Tiling.Appended.last_point}
+use Rattle.half_edge_dcel.specs.{AddsData, AddsEdges, Contents, edges, HasRoom, IsMeshWithData}
+use Rattle.half_edge_dcel.specs.Shapes.{AddsFaceTo, ClosesTriangle}
+use Rattle.{half_edge_dcel.proofs.Fits.length-grown, half_edge_links.proofs.Growing.Close.closes}
+use Rattle.delaunay_legalization.specs.{faces_of, IsTriangulated, outer_of, state_of}
+use Rattle.delaunay_legalization.proofs.{both_ways, listed, MeshExtension.mesh_extension_goes_on}
+use Rattle.delaunay_legalization.proofs.{MeshEdits.added_faces, OuterChanges.outer_replaced}
+use Rattle.delaunay_legalization.proofs.MeshExtension.{ends_below, mesh_extension_ends}
 use Rattle.delaunay_legalization.proofs.MeshExtension.{mesh_extension_goes_back}
-use Rattle.delaunay_legalization.proofs.MeshExtension.{mesh_extension_ends}
-use Rattle.delaunay_vertices.specs.Data.{GrowsAround}
-use Rattle.delaunay_vertices.specs.Edges.{AddsOnly}
-use Rattle.delaunay_legalization.specs.State.{state_of}
-use Rattle.delaunay_legalization.specs.Shape.{IsTriangulated}
-use Rattle.delaunay_legalization.proofs.Questions.{both_ways}
+use Rattle.delaunay_vertices.specs.{AddsOnly, GrowsAround}
 use Rattle.delaunay_vertices.proofs.DataGrowing.{grows_by_face, grows_on}
-use Rattle.delaunay_vertices.proofs.EdgeLists.{adds_only, adds_on}
+use Rattle.delaunay_vertices.proofs.EdgeLists.{adds_on, adds_only}
 use Rattle.delaunay_vertices.proofs.Growing.{edges_and_faces, sides_at_most}
 use Rattle.delaunay_vertices.proofs.LineEnds.{none_seen_after, none_seen_before}
 

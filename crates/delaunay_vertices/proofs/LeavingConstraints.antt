@@ -6,20 +6,14 @@ use Rattle.std.specs.Prelude.{Bool, true, false, nat_eq, if◌then◌else◌, Co
 use Rattle.std.proofs.lemmas.Bool.{cases_eq}
 use Rattle.std.proofs.lemmas.Bool.Decides.{nat_tests}
 use Rattle.std.proofs.lemmas.Option.{slice_get_within}
-use Rattle.delaunay_legalization.specs.half_edge_dcel.Contents.{Contents, IsMeshWithData}
-use Rattle.delaunay_legalization.specs.half_edge_links.Mesh.{origin}
-use Rattle.delaunay_legalization.specs.half_edge_dcel.Removal.{FullEdge, full_edges}
-use Rattle.delaunay_legalization.specs.half_edge_dcel.Removal.{renumbered_edge}
-use Rattle.delaunay_legalization.specs.half_edge_links.Renames.{moved}
-use Rattle.delaunay_legalization.proofs.half_edge_links_lemmas.Removing.OpenSound.{moved_hit}
-use Rattle.delaunay_legalization.proofs.half_edge_links_lemmas.Removing.OpenSound.{moved_miss}
-use Rattle.delaunay_legalization.specs.plane.Pairs.{Joins, IsSamePair}
-use Rattle.delaunay_legalization.specs.Constraints.{marked_edges, constraint_pairs}
-use Rattle.delaunay_legalization.proofs.MarkedPairs.{JoinsByMark, mark_joins, joined_by_mark}
-use Rattle.delaunay_legalization.proofs.Questions.{both_ways}
-use Rattle.delaunay_vertices.specs.RemovalData.{RenumbersEdges}
-use Rattle.delaunay_legalization.proofs.EdgePairs.{rev_of_even, half_of_even}
-use Rattle.delaunay_vertices.proofs.DataReads.{IsEdgeAt, edge_of, edge_read}
+use Rattle.half_edge_links.specs.{moved, origin}
+use Rattle.half_edge_links.proofs.Removing.OpenSound.{moved_hit, moved_miss}
+use Rattle.half_edge_dcel.specs.{Contents, full_edges, FullEdge, IsMeshWithData, renumbered_edge}
+use Rattle.delaunay_legalization.specs.{constraint_pairs, marked_edges}
+use Rattle.delaunay_legalization.proofs.{both_ways, half_of_even, joined_by_mark, JoinsByMark}
+use Rattle.delaunay_legalization.proofs.{mark_joins, rev_of_even}
+use Rattle.{delaunay_vertices.specs.RenumbersEdges, plane.specs.IsSamePair, plane.specs.Joins}
+use Rattle.delaunay_vertices.proofs.DataReads.{edge_of, edge_read, IsEdgeAt}
 
 -- ---- the indexes
 abbrev old_index : ℕ → ℕ → ℕ → ℕ

@@ -5,28 +5,17 @@ use Rattle.std.proofs.Common.{◌≡◌, ◌≢◌, ◌⊎◌, ◌-◌, ◌<◌,
 use Rattle.std.proofs.Common.{ℕ, List, length, map, sym, ap, subst, inl, inr, arith}
 use Rattle.std.specs.Prelude.{Bool, Contains}
 use Rattle.std.proofs.lemmas.List.{length-map}
-use Rattle.delaunay_legalization.specs.half_edge_links.Renames.{moved}
-use Rattle.delaunay_legalization.specs.half_edge_links.Triangles.{Triangle, triangles}
-use Rattle.delaunay_legalization.specs.half_edge_dcel.Contents.{Contents, IsMeshWithData}
-use Rattle.delaunay_legalization.specs.half_edge_dcel.Removal.{FullFace, full_faces}
-use Rattle.delaunay_legalization.specs.half_edge_dcel.Removal.{renumbered_face, DropsVertex}
-use Rattle.delaunay_legalization.specs.half_edge_dcel.Removal.{LeavesMesh}
-use Rattle.delaunay_legalization.specs.plane.Fraction.{Point}
-use Rattle.delaunay_legalization.specs.plane.Tiling.{Face}
-use Rattle.delaunay_legalization.proofs.plane_theorems.Tiling.Totals.{Contains-none}
-use Rattle.delaunay_legalization.specs.plane_theorems.Edits.Change.{IsFaceOf}
-use Rattle.delaunay_legalization.proofs.plane_theorems.Edits.LocalMesh.Changes.{turn_of_all}
-use Rattle.delaunay_legalization.specs.Drawn.{corners_of, faces_of, outer_of}
-use Rattle.delaunay_legalization.proofs.FaceChanges.{turned_faces}
-use Rattle.delaunay_legalization.proofs.MeshDrops.{whole_faces}
-use Rattle.delaunay_legalization.proofs.WorkLists.{contains_map_from}
-use Rattle.delaunay_legalization.specs.Shape.{IsTriangulated}
-use Rattle.delaunay_legalization.specs.State.{state_of}
-use Rattle.delaunay_vertices.specs.Freeing.{FreesEdgesAt}
-use Rattle.delaunay_vertices.specs.Pairs.{IsHoleSide, IsStarSide, LeavesFaces, former_index}
-use Rattle.delaunay_vertices.specs.Star.{IsMeshWithout, IsolatesVertex}
-use Rattle.delaunay_vertices.proofs.LeavingConstraints.{there_and_back}
+use Rattle.{plane.specs.Face, plane.specs.Point, plane_theorems.specs.IsFaceOf}
+use Rattle.half_edge_links.specs.{moved, Triangle, triangles}
+use Rattle.plane_theorems.proofs.{Contains-none, turn_of_all}
+use Rattle.half_edge_dcel.specs.{Contents, DropsVertex, full_faces, FullFace, IsMeshWithData}
+use Rattle.half_edge_dcel.specs.{LeavesMesh, renumbered_face}
+use Rattle.delaunay_legalization.specs.{corners_of, faces_of, IsTriangulated, outer_of, state_of}
+use Rattle.delaunay_legalization.proofs.{contains_map_from, MeshDrops.whole_faces, turned_faces}
+use Rattle.delaunay_vertices.specs.{former_index, FreesEdgesAt, IsolatesVertex, Star.IsMeshWithout}
+use Rattle.delaunay_vertices.specs.Pairs.{IsHoleSide, IsStarSide, LeavesFaces}
 use Rattle.delaunay_vertices.proofs.FacesAfterRemoval.{full_listed, no_face_listed}
+use Rattle.delaunay_vertices.proofs.LeavingConstraints.{there_and_back}
 
 -- a face where no vertex is one of it
 without_corners : (v : ℕ) (points : List Point) (faces : List Face) (outer : List (ℕ × ℕ))

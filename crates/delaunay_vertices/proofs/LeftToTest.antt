@@ -6,26 +6,18 @@ use Rattle.std.proofs.Common.{inr, arith}
 use Rattle.std.specs.Prelude.{slice_get, Some}
 use Rattle.std.proofs.lemmas.List.{map-append}
 use Rattle.std.proofs.lemmas.Option.{slice_get_within}
-use Rattle.delaunay_legalization.specs.half_edge_links.Mesh.{origin, rev}
-use Rattle.delaunay_legalization.specs.half_edge_dcel.Contents.{Contents, edges}
-use Rattle.delaunay_legalization.specs.plane.Fraction.{Point}
-use Rattle.delaunay_legalization.specs.plane.Pairs.{Joins, IsSamePair}
-use Rattle.delaunay_legalization.specs.plane.Tiling.{IsEdge}
-use Rattle.delaunay_legalization.specs.plane_theorems.Edits.Change.{IsFaceOf}
-use Rattle.delaunay_legalization.specs.Drawn.{drawn, faces_of, edges_of, outer_of}
-use Rattle.delaunay_legalization.proofs.EdgePairs.{edge_joins}
-use Rattle.delaunay_legalization.proofs.MeshStars.{edge_of_face}
-use Rattle.delaunay_legalization.specs.Constraints.{marked_edges, constraints_by}
-use Rattle.delaunay_legalization.specs.Shape.{IsTriangulated, IsDelaunayTriangulation}
-use Rattle.delaunay_legalization.specs.Star.{MakesFacesAt, AllPassBeside}
-use Rattle.delaunay_legalization.specs.State.{state_of}
-use Rattle.delaunay_legalization.proofs.Stars.{made_at_leaves}
-use Rattle.delaunay_vertices.specs.Constraints.{SplitsConstraints}
-use Rattle.delaunay_vertices.specs.Growth.{GainsVertex}
-use Rattle.delaunay_vertices.proofs.MarkedEdges.{JoinsWithMark, own_ends, joins_with_mark}
+use Rattle.plane.specs.{IsEdge, IsSamePair, Joins, Point}
+use Rattle.{half_edge_links.specs.origin, half_edge_links.specs.rev, plane_theorems.specs.IsFaceOf}
+use Rattle.plane_theorems.proofs.{joins_or_not}
+use Rattle.half_edge_dcel.specs.{Contents, edges}
+use Rattle.delaunay_legalization.specs.{constraints_by, drawn, edges_of, faces_of}
+use Rattle.delaunay_legalization.specs.{IsDelaunayTriangulation, IsTriangulated, MakesFacesAt}
+use Rattle.delaunay_legalization.specs.{marked_edges, outer_of, Star.AllPassBeside, state_of}
+use Rattle.delaunay_legalization.proofs.{edge_joins, edge_of_face, Stars.made_at_leaves}
+use Rattle.delaunay_vertices.specs.{GainsVertex, SplitsConstraints}
+use Rattle.delaunay_vertices.proofs.MarkedEdges.{joins_with_mark, JoinsWithMark, own_ends}
 use Rattle.delaunay_vertices.proofs.NewVertex.{not_within, source_in, target_in}
 use Rattle.delaunay_vertices.proofs.SplitConstraints.{whole_mesh}
-use Rattle.delaunay_legalization.proofs.plane_theorems.Edits.Legalization.Flipping.{joins_or_not}
 
 module _ {V D U F : Type 0} (at : V → Point) (marks : U → Bool) (constraints : List U → List ℕ)
     (marked : (ds : List U) → constraints ds ≡ marked_edges marks ds) where

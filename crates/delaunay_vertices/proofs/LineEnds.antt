@@ -5,42 +5,21 @@ use Rattle.std.proofs.Common.{◌≡◌, ◌≢◌, ◌⊎◌, ◌<◌, [], ◌�
 use Rattle.std.proofs.Common.{ℕ, List, length, refl, sym, ap, subst, inl, inr, arith}
 use Rattle.std.specs.Prelude.{ℤ, pos, ◌<ℤ◌, ◌≤ℤ◌, Contains}
 use Rattle.std.proofs.lemmas.Bool.{cases_eq}
-use Rattle.delaunay_legalization.specs.half_edge_links.Mesh.{Mesh, IsValidMesh, IsSoundEdge, origin}
-use Rattle.delaunay_legalization.specs.half_edge_links.Mesh.{next, prev, face, rev}
-use Rattle.delaunay_legalization.specs.half_edge_links.Outline.{IsOuterEdge}
-use Rattle.delaunay_legalization.proofs.half_edge_links_lemmas.Lists.Rev.{rev-rev, rev_within}
-use Rattle.delaunay_legalization.specs.plane.Fraction.{Point}
-use Rattle.delaunay_legalization.specs.plane.Pairs.{place}
-use Rattle.delaunay_legalization.specs.plane.Side.{TurnsLeft}
-use Rattle.delaunay_legalization.specs.plane.Tiling.{Face}
-use Rattle.delaunay_legalization.specs.plane.Tiling as T
-use Rattle.delaunay_legalization.proofs.plane.IntegerOrder.{lt_or_ge_ℤ}
-use Rattle.delaunay_legalization.proofs.plane.Steps.{left_not_zero}
-use Rattle.delaunay_legalization.proofs.plane.Sides.{if_left}
-use Rattle.delaunay_legalization.proofs.plane.Bracket.{bracket}
-use Rattle.delaunay_legalization.proofs.plane.BracketIdentities.{bracket-swap, bracket-last}
-use Rattle.delaunay_legalization.proofs.plane.BracketIdentities.{bracket-outer}
-use Rattle.delaunay_legalization.proofs.plane.Collinear.{place_on, place_of_start, place_of_end}
-use Rattle.delaunay_legalization.proofs.plane.LineOrder.{IsBetween, within_places}
-use Rattle.delaunay_legalization.specs.plane_theorems.Tiling.Local.{LineMesh}
-use Rattle.delaunay_legalization.proofs.plane_theorems.Tiling.Counting.{at, same_place}
-use Rattle.delaunay_legalization.proofs.plane_theorems.Tiling.Line.{Adjoin, SignLine, next_turned}
-use Rattle.delaunay_legalization.proofs.plane_theorems.Tiling.LineMeshes.{line_by_signs, same_line}
-use Rattle.delaunay_legalization.proofs.plane_theorems.Tiling.Tiles.{point_at}
-use Rattle.delaunay_legalization.proofs.plane_theorems.Tiling.Appended.{kept_point}
-use Rattle.delaunay_legalization.proofs.plane_theorems.Tiling.Totals.{Contains-head, Contains-later}
-use Rattle.delaunay_legalization.specs.plane_theorems.Edits.Change.{IsFaceOf}
-use Rattle.delaunay_legalization.specs.plane_theorems.Edits.Extension.{fan, steps, last_of}
-use Rattle.delaunay_legalization.specs.plane_theorems.Edits.Extension.{IsSeenRun}
-use Rattle.delaunay_legalization.specs.plane_theorems.Edits.Extension.{IsExtending}
-use Rattle.delaunay_legalization.proofs.plane_theorems.Edits.LocalMesh.Changes.{face_from}
-use Rattle.delaunay_legalization.proofs.plane_theorems.Edits.Insertion.Extension.{fan_from}
-use Rattle.delaunay_legalization.proofs.plane_theorems.Edits.Insertion.Growing.{run_signs, in_two}
-use Rattle.delaunay_legalization.specs.Drawn.{faces_of, outer_of}
-use Rattle.delaunay_legalization.proofs.OuterEdges.{listed, real, one_edge}
-use Rattle.delaunay_legalization.proofs.MeshEdits.{face_before}
-use Rattle.delaunay_legalization.proofs.plane.Signs.{opposites_not_both_positive, at_most_both_ways}
-use Rattle.delaunay_legalization.proofs.half_edge_links_lemmas.Removing.Conditions.{alone_at}
+use Rattle.plane.specs.{Face, place, Point, TurnsLeft}
+use Rattle.plane.proofs.{at_most_both_ways, bracket, bracket-last, bracket-outer, bracket-swap}
+use Rattle.plane.proofs.{if_left, IsBetween, left_not_zero, lt_or_ge_ℤ, opposites_not_both_positive}
+use Rattle.plane.proofs.{place_of_end, place_of_start, place_on, within_places}
+use Rattle.half_edge_links.specs.{face, IsOuterEdge, IsSoundEdge, IsValidMesh, Mesh, next, origin}
+use Rattle.half_edge_links.specs.{prev, rev}
+use Rattle.half_edge_links.proofs.{alone_at, rev-rev, rev_within}
+use Rattle.plane_theorems.specs.{fan, IsExtending, IsFaceOf, IsSeenRun, last_of, LineMesh, steps}
+use Rattle.plane_theorems.proofs.{Adjoin, at, Contains-head, Contains-later, face_from, kept_point}
+use Rattle.plane_theorems.proofs.{line_by_signs, next_turned, point_at, same_place, SignLine}
+use Rattle.plane_theorems.proofs.{Edits.Insertion.Extension.fan_from, Tiling.LineMeshes.same_line}
+use Rattle.plane_theorems.proofs.Edits.Insertion.Growing.{in_two, run_signs}
+use Rattle.delaunay_legalization.specs.{faces_of, outer_of}
+use Rattle.delaunay_legalization.proofs.{face_before, listed, OuterEdges.one_edge, real}
+use Rattle.plane.specs.Tiling as T
 
 -- ---- a vertex of a line has at most two neighbours
 module _ (n : ℕ) (p : ℕ → Point) (outer : List (ℕ × ℕ)) (m : SignLine n p outer) (w a : ℕ)

@@ -5,28 +5,16 @@
 use Rattle.std.proofs.Common.{◌≡◌, ◌⊎◌, ◌<◌, ◌≤◌, [], ◌∷◌}
 use Rattle.std.proofs.Common.{ℕ, List, length, map, refl, sym, ap, subst, inl, inr, arith}
 use Rattle.std.specs.Prelude.{Contains}
-use Rattle.delaunay_legalization.specs.half_edge_links.Mesh.{Mesh, IsValidMesh, IsInnerEdge}
-use Rattle.delaunay_legalization.specs.half_edge_links.Mesh.{face_edge, with_vertex}
-use Rattle.delaunay_legalization.specs.half_edge_links.Flip.{IsFlippable}
-use Rattle.delaunay_legalization.specs.half_edge_links.Triangles.{triangles, InsertsTriangles}
-use Rattle.delaunay_legalization.specs.half_edge_links.Triangles.{SplitsTriangles}
-use Rattle.delaunay_legalization.specs.half_edge_links.Outline.{HalfSplitsTriangles}
-use Rattle.delaunay_legalization.specs.plane.Fraction.{Point}
-use Rattle.delaunay_legalization.specs.plane.Tiling.{Face}
-use Rattle.delaunay_legalization.specs.plane_theorems.Tiling.Local.{IsMesh}
-use Rattle.delaunay_legalization.proofs.plane_theorems.Tiling.Totals.{Contains-none, Contains-cases}
-use Rattle.delaunay_legalization.specs.plane_theorems.Edits.Change.{IsFaceOf, FacesChange}
-use Rattle.delaunay_legalization.specs.plane_theorems.Edits.Extension.{IsExtending, IsSeenRun, fan}
-use Rattle.delaunay_legalization.proofs.plane_theorems.Edits.LocalMesh.Changes.{face_from}
-use Rattle.delaunay_legalization.proofs.plane_theorems.Edits.LocalMesh.Changes.{turn_of_all}
-use Rattle.delaunay_legalization.specs.Drawn.{corners_of, faces_of, outer_of}
-use Rattle.delaunay_legalization.proofs.FaceChanges.{turned_faces}
-use Rattle.delaunay_legalization.proofs.MeshEdits.{inserted_faces, split_faces}
-use Rattle.delaunay_legalization.proofs.MeshEdits.{half_split_faces, face_before}
-use Rattle.delaunay_legalization.proofs.MeshEdits.{face_behind}
-use Rattle.delaunay_legalization.specs.Star.{IsOneOf, MakesFacesAt}
-use Rattle.delaunay_legalization.proofs.plane_theorems.Edits.Legalization.NewPoint.{none_in_empty}
-use Rattle.delaunay_legalization.proofs.Stars.{face_corners}
+use Rattle.half_edge_links.specs.{face_edge, HalfSplitsTriangles, InsertsTriangles, IsFlippable}
+use Rattle.half_edge_links.specs.{IsInnerEdge, IsValidMesh, Mesh, SplitsTriangles, triangles}
+use Rattle.plane_theorems.specs.{FacesChange, fan, IsExtending, IsFaceOf, IsMesh, IsSeenRun}
+use Rattle.plane_theorems.proofs.{Contains-cases, Contains-none, face_from, none_in_empty}
+use Rattle.plane_theorems.proofs.{turn_of_all}
+use Rattle.delaunay_legalization.specs.{corners_of, faces_of, MakesFacesAt, outer_of}
+use Rattle.{delaunay_legalization.specs.Star.IsOneOf, half_edge_links.specs.with_vertex}
+use Rattle.delaunay_legalization.proofs.{face_before, MeshEdits.split_faces, turned_faces}
+use Rattle.delaunay_legalization.proofs.MeshEdits.{face_behind, half_split_faces, inserted_faces}
+use Rattle.{delaunay_legalization.proofs.Stars.face_corners, plane.specs.Face, plane.specs.Point}
 
 -- ---- faces with one corner in common
 -- j k was a side of a face, or an outer edge

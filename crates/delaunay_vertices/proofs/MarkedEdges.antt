@@ -4,16 +4,12 @@ use Rattle.std.proofs.Common.{◌≡◌, ◌*◌, ◌<◌, ◌∙◌}
 use Rattle.std.proofs.Common.{ℕ, Bool, true, List, length, sym, ap, subst, Some, arith}
 use Rattle.std.specs.Prelude.{slice_get}
 use Rattle.std.proofs.lemmas.Option.{slice_get_within}
-use Rattle.delaunay_legalization.specs.half_edge_links.Mesh.{origin, rev}
-use Rattle.delaunay_legalization.specs.half_edge_links.Outline.{ends}
-use Rattle.delaunay_legalization.proofs.half_edge_links_lemmas.Sound.Ends.{length-ends_twice}
-use Rattle.delaunay_legalization.specs.half_edge_dcel.Contents.{Contents, Edge, edges}
-use Rattle.delaunay_legalization.specs.half_edge_dcel.Contents.{IsMeshWithData}
-use Rattle.delaunay_legalization.specs.plane.Pairs.{Joins, IsSamePair}
-use Rattle.delaunay_legalization.specs.Constraints.{marked_edges, constraint_pairs}
-use Rattle.delaunay_legalization.proofs.MarkedPairs.{JoinsByMark, joined_by_mark, mark_joins}
-use Rattle.delaunay_vertices.proofs.DataGrowing.{some_edge, parts_of_edge, ends_are}
-use Rattle.delaunay_legalization.proofs.Entries.{one_value}
+use Rattle.half_edge_links.specs.{ends, origin, rev}
+use Rattle.{half_edge_links.proofs.length-ends_twice, plane.specs.IsSamePair, plane.specs.Joins}
+use Rattle.half_edge_dcel.specs.{Contents, Edge, edges, IsMeshWithData}
+use Rattle.delaunay_legalization.specs.{constraint_pairs, marked_edges}
+use Rattle.delaunay_legalization.proofs.{joined_by_mark, JoinsByMark, mark_joins, one_value}
+use Rattle.delaunay_vertices.proofs.DataGrowing.{ends_are, parts_of_edge, some_edge}
 
 -- edge k of the list joins a and b, and has the mark
 pub record JoinsWithMark {U : Type 0} (marks : U → Bool) (es : List (Edge U))

@@ -4,17 +4,12 @@
 use Rattle.std.proofs.Common.{◌≡◌, ◌<◌, [], ◌∷◌, ◌++◌, ◌∙◌}
 use Rattle.std.proofs.Common.{ℕ, List, length, map, sym, ap, subst, arith}
 use Rattle.std.proofs.lemmas.List.{length-map, map-append, length-append}
-use Rattle.delaunay_legalization.specs.half_edge_links.Mesh.{origin, rev}
-use Rattle.delaunay_legalization.proofs.half_edge_links_lemmas.Lists.Rev.{rev_within}
-use Rattle.delaunay_legalization.specs.plane.Fraction.{Point, Fraction, whole, WithinSegment}
-use Rattle.delaunay_legalization.specs.plane.Pairs.{place}
-use Rattle.delaunay_legalization.specs.plane.Tiling.{IsEdge}
-use Rattle.delaunay_legalization.proofs.plane_theorems.Tiling.Appended.{kept_point, last_point}
-use Rattle.delaunay_legalization.proofs.plane_theorems.Tiling.Locations.{no_edges_cross}
-use Rattle.delaunay_legalization.specs.Drawn.{drawn, faces_of, edges_of, outer_of}
-use Rattle.delaunay_legalization.proofs.OwnEdges.{own_edges}
-use Rattle.delaunay_legalization.specs.Shape.{IsTriangulated}
-use Rattle.delaunay_legalization.specs.State.{State}
+use Rattle.plane.specs.{Fraction, IsEdge, place, Point, whole, WithinSegment}
+use Rattle.half_edge_links.specs.{origin, rev}
+use Rattle.half_edge_links.proofs.{rev_within}
+use Rattle.plane_theorems.proofs.{kept_point, no_edges_cross, Tiling.Appended.last_point}
+use Rattle.delaunay_legalization.specs.{drawn, edges_of, faces_of, IsTriangulated, outer_of}
+use Rattle.{delaunay_legalization.proofs.own_edges, delaunay_legalization.specs.State.State}
 
 module _ {V D U F : Type 0} (at : V → Point) (v : V) (old new : State V D U F) (was : IsTriangulated
     at old) (now : IsTriangulated at new) (vertices : new.vertices ≡ old.vertices ++ v ∷ []) where

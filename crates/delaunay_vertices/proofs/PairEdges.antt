@@ -6,25 +6,16 @@ use Rattle.std.proofs.Common.{ℕ, List, length, get_or, refl, sym, ap, subst, i
 use Rattle.std.specs.Prelude.{Contains}
 use Rattle.std.proofs.lemmas.Bool.{cases_eq}
 use Rattle.std.proofs.lemmas.List.Elements.{Contains-append_cases}
-use Rattle.delaunay_legalization.proofs.half_edge_links_lemmas.Lists.Rev.{rev-rev, rev_within}
-use Rattle.delaunay_legalization.specs.half_edge_links.Mesh.{Mesh, AreSoundLinks, IsValidMesh}
-use Rattle.delaunay_legalization.specs.half_edge_links.Mesh.{origin, rev}
-use Rattle.delaunay_legalization.proofs.plane.Indexes.{turned_join}
-use Rattle.delaunay_legalization.specs.plane.Fraction.{Point}
-use Rattle.delaunay_legalization.specs.plane.Pairs.{Joins}
-use Rattle.delaunay_legalization.specs.plane_theorems.Tiling.Local.{IsMesh}
-use Rattle.delaunay_legalization.proofs.plane_theorems.Tiling.Totals.{get_or_any}
-use Rattle.delaunay_legalization.specs.plane_theorems.Edits.Legal.{AllPassBut}
-use Rattle.delaunay_legalization.specs.Drawn.{faces_of, outer_of}
-use Rattle.delaunay_legalization.specs.Legal.{AreEdges, pair_at, pairs_at}
-use Rattle.delaunay_legalization.proofs.EdgePairs.{half_of_even}
-use Rattle.delaunay_legalization.proofs.MeshLegal.{IsListedEdge, joins_directed}
-use Rattle.delaunay_legalization.proofs.MeshLegal.{listed_edge, own_indexes}
-use Rattle.delaunay_legalization.proofs.MeshStars.{edge_of_face}
-use Rattle.delaunay_legalization.proofs.MeshStays.{half_same}
-use Rattle.delaunay_legalization.proofs.WorkLists.{contains_map, contains_map_from}
-use Rattle.delaunay_legalization.specs.Among.{FailOnlyOf}
-use Rattle.delaunay_vertices.specs.Pairs.{FailOnlyAt, HasEdgeOf, HasEdgesOf, pair_left, pairs_left}
+use Rattle.{plane.specs.Joins, plane.specs.Point, plane_theorems.proofs.get_or_any}
+use Rattle.{plane.proofs.turned_join, plane_theorems.specs.AllPassBut, plane_theorems.specs.IsMesh}
+use Rattle.half_edge_links.specs.{AreSoundLinks, IsValidMesh, Mesh, origin, rev}
+use Rattle.half_edge_links.proofs.{rev-rev, rev_within}
+use Rattle.delaunay_legalization.specs.{AreEdges, faces_of, FailOnlyOf, outer_of, pair_at, pairs_at}
+use Rattle.delaunay_legalization.proofs.{contains_map, contains_map_from, edge_of_face}
+use Rattle.delaunay_legalization.proofs.{half_of_even, half_same, IsListedEdge, joins_directed}
+use Rattle.delaunay_legalization.proofs.{listed_edge, own_indexes}
+use Rattle.delaunay_vertices.specs.{FailOnlyAt, pairs_left}
+use Rattle.delaunay_vertices.specs.Pairs.{HasEdgeOf, HasEdgesOf, pair_left}
 
 -- a longer list has an edge too
 longer : (m : Mesh) (i j : ℕ) (ks more : List ℕ) → ((k : ℕ) → Contains ks k → Contains more k) →

@@ -6,42 +6,22 @@ use Rattle.std.specs.Prelude.{Contains, pos, swap_remove}
 use Rattle.std.proofs.lemmas.Bool.{cases_eq}
 use Rattle.std.proofs.lemmas.List.{length-map}
 use Rattle.std.proofs.lemmas.List.Elements.{Contains-append_left, Contains-append_right}
-use Rattle.delaunay_legalization.specs.half_edge_links.Mesh.{Mesh, AreSoundLinks, origin, next}
-use Rattle.delaunay_legalization.specs.half_edge_links.Mesh.{prev}
-use Rattle.delaunay_legalization.specs.half_edge_links.Mesh.{face, rev}
-use Rattle.delaunay_legalization.proofs.half_edge_links_lemmas.Lists.Rev.{rev-rev, rev_within}
-use Rattle.delaunay_legalization.proofs.half_edge_links_lemmas.Removing.OpenSound.{length-swap_remove}
-use Rattle.delaunay_legalization.proofs.half_edge_links_lemmas.Removing.OpenSound.{get_or-swap_remove_same}
-use Rattle.delaunay_legalization.proofs.half_edge_links_lemmas.Removing.OpenSound as Open
-use Rattle.delaunay_legalization.proofs.half_edge_links_lemmas.Removing.OpenSound.{swap_remove_default}
-use Rattle.delaunay_legalization.proofs.plane.Indexes.{turned_join}
-use Rattle.delaunay_legalization.specs.plane.Circle.{InsideCircle}
-use Rattle.delaunay_legalization.specs.plane.Fraction.{Point, Fraction, whole}
-use Rattle.delaunay_legalization.specs.plane.Pairs.{Joins, place as at}
-use Rattle.delaunay_legalization.specs.plane.Plain.{TakesOut}
-use Rattle.delaunay_legalization.specs.plane.Side.{TurnsLeft}
-use Rattle.delaunay_legalization.specs.plane.Tiling.{Face}
-use Rattle.delaunay_legalization.specs.plane_theorems.Tiling.Local.{IsMesh}
-use Rattle.delaunay_legalization.specs.plane_theorems.Edits.Change.{IsFaceOf}
-use Rattle.delaunay_legalization.specs.plane_theorems.Edits.Legal.{AllPassBut, Pass, point_of}
-use Rattle.delaunay_legalization.proofs.plane_theorems.Edits.Legalization.Flipping.{one_question}
-use Rattle.delaunay_legalization.proofs.plane_theorems.Edits.LocalMesh.Kept.{turning_of}
-use Rattle.delaunay_legalization.specs.Drawn.{faces_of, outer_of}
-use Rattle.delaunay_legalization.proofs.half_edge_links_lemmas.Removing.ShrinkTriangles.{map-swap_remove}
-use Rattle.delaunay_legalization.proofs.MeshEdits.{face_before}
-use Rattle.delaunay_legalization.proofs.MeshLegal.{none_or_some}
-use Rattle.delaunay_legalization.proofs.MeshStars.{edge_of_face}
-use Rattle.delaunay_legalization.proofs.WorkLists.{contains_map}
-use Rattle.delaunay_legalization.specs.Among.{IsQuiet}
-use Rattle.delaunay_legalization.specs.Constraints.{constraints_by, points_and_constraints_by}
-use Rattle.delaunay_legalization.specs.Shape.{IsTriangulated, IsDelaunayTriangulation}
-use Rattle.delaunay_legalization.specs.State.{State}
-use Rattle.delaunay_legalization.proofs.plane_theorems.Edits.Legalization.NewPoint.{none_in_empty}
-use Rattle.delaunay_legalization.proofs.Stars.{face_corners}
-use Rattle.delaunay_vertices.specs.Pairs.{FailOnlyAt, HasBorder, IsHoleSide, LeavesFaces}
-use Rattle.delaunay_vertices.specs.Pairs.{former_index, pair_left, pairs_left}
+use Rattle.plane.specs.{Face, Fraction, InsideCircle, Joins, place as at, Point, TakesOut}
+use Rattle.half_edge_links.specs.{AreSoundLinks, face, Mesh, next, origin, prev, rev}
+use Rattle.half_edge_links.proofs.{get_or-swap_remove_same, length-swap_remove, map-swap_remove}
+use Rattle.half_edge_links.proofs.{rev-rev, rev_within, swap_remove_default}
+use Rattle.plane_theorems.specs.{AllPassBut, IsFaceOf, IsMesh, Pass, point_of}
+use Rattle.plane_theorems.proofs.{none_in_empty, one_question, turning_of}
+use Rattle.delaunay_legalization.specs.{constraints_by, faces_of, IsDelaunayTriangulation, IsQuiet}
+use Rattle.delaunay_legalization.specs.{IsTriangulated, outer_of, points_and_constraints_by}
+use Rattle.{delaunay_legalization.specs.State.State, plane.specs.TurnsLeft, plane.specs.whole}
+use Rattle.delaunay_legalization.proofs.{contains_map, edge_of_face, face_before, none_or_some}
+use Rattle.{delaunay_legalization.proofs.Stars.face_corners, plane.proofs.turned_join}
+use Rattle.delaunay_vertices.specs.{FailOnlyAt, former_index, HasBorder, pairs_left}
+use Rattle.delaunay_vertices.specs.Pairs.{IsHoleSide, LeavesFaces, pair_left}
 use Rattle.delaunay_vertices.proofs.InnerStars.{no_way_back}
 use Rattle.delaunay_vertices.proofs.LeavingConstraints.{back_and_there, old_of_freed, old_of_other}
+use Rattle.half_edge_links.proofs.Removing.OpenSound as Open
 
 -- ---- the points that are left
 former_below : (v last k n : ℕ) → k < n → last < n → former_index v last k < n

@@ -7,25 +7,16 @@ use Rattle.std.specs.Prelude.{All, ℤ, ◌+ℤ◌, slice_get, swap_remove}
 use Rattle.std.proofs.lemmas.Bool.{cases_eq}
 use Rattle.std.proofs.lemmas.List.{length-map, get_or-take, get_or-set_same, get_or-set_other}
 use Rattle.std.proofs.lemmas.Option.{slice_get_within}
-use Rattle.delaunay_legalization.specs.half_edge_links.Triangles.{triangle_at}
-use Rattle.delaunay_legalization.proofs.half_edge_links_lemmas.Removing.OpenSound.{length-swap_remove}
-use Rattle.delaunay_legalization.specs.half_edge_dcel.Contents.{Contents, IsMeshWithData}
-use Rattle.delaunay_legalization.specs.half_edge_dcel.Removal.{HasFewEdges, LeavesMesh}
-use Rattle.delaunay_legalization.proofs.half_edge_dcel_lemmas.Outlines.{empty_list}
-use Rattle.delaunay_legalization.specs.plane.Fraction.{Point}
-use Rattle.delaunay_legalization.specs.plane.Tests.{InRange}
-use Rattle.delaunay_legalization.specs.plane_theorems.Tiling.Local.{total, around, along, IsMesh}
-use Rattle.delaunay_legalization.specs.plane_theorems.Tiling.Local.{LineMesh}
-use Rattle.delaunay_legalization.proofs.plane_theorems.Tiling.Counts.{hull_edges_count}
-use Rattle.delaunay_legalization.proofs.plane_theorems.Tiling.Counts.{line_edges_count}
-use Rattle.delaunay_legalization.specs.Drawn.{corners_of, faces_of, edges_of}
-use Rattle.delaunay_legalization.specs.Drawn.{outer_of}
-use Rattle.delaunay_legalization.proofs.OwnEdges.{own_edges}
-use Rattle.delaunay_legalization.proofs.MeshLineRemoval.{line_removed}
+use Rattle.half_edge_links.specs.{triangle_at}
+use Rattle.plane_theorems.specs.{along, around, IsMesh, LineMesh, total}
+use Rattle.plane_theorems.proofs.{hull_edges_count, line_edges_count}
+use Rattle.half_edge_dcel.specs.{Contents, HasFewEdges, IsMeshWithData, LeavesMesh}
+use Rattle.{half_edge_dcel.proofs.Outlines.empty_list, half_edge_links.proofs.length-swap_remove}
+use Rattle.delaunay_legalization.specs.{corners_of, edges_of, faces_of, IsTriangulated, outer_of}
+use Rattle.{delaunay_legalization.specs.state_of, plane.specs.InRange, plane.specs.Point}
+use Rattle.delaunay_legalization.proofs.{edges_counted, faces_counted, own_edges}
 use Rattle.delaunay_legalization.proofs.MeshLineEnds.{line_has_few_edges}
-use Rattle.delaunay_legalization.specs.State.{state_of}
-use Rattle.delaunay_legalization.specs.Shape.{IsTriangulated}
-use Rattle.delaunay_legalization.proofs.ElementCounts.{edges_counted, faces_counted}
+use Rattle.delaunay_legalization.proofs.MeshLineRemoval.{line_removed}
 
 -- what holds of each item holds of each that is left
 pub all_left : {X : Type 0} (P : X → Type 0) (xs : List X) (i : ℕ) (x : X) → i < length xs

@@ -4,25 +4,16 @@ use Rattle.std.proofs.Common.{◌≡◌, ◌≢◌, ◌⊎◌, ◌↔◌, ◌-�
 use Rattle.std.proofs.Common.{ℕ, List, length, map, sym, ap, subst, inl, inr, arith}
 use Rattle.std.specs.Prelude.{All, Bool, false, Contains, nat_eq, if◌then◌else◌, slice_get}
 use Rattle.std.specs.Prelude.{swap_remove}
-use Rattle.delaunay_legalization.specs.half_edge_dcel.Contents.{Contents, IsMeshWithData}
-use Rattle.delaunay_legalization.specs.half_edge_links.Mesh.{Mesh, origin, rev}
-use Rattle.delaunay_legalization.specs.half_edge_dcel.Removal.{FullEdge, full_edges}
-use Rattle.delaunay_legalization.specs.plane.Fraction.{Point}
-use Rattle.delaunay_legalization.specs.plane.Pairs.{Joins, IsSamePair}
-use Rattle.delaunay_legalization.specs.plane.Plain.{TakesOut}
-use Rattle.delaunay_legalization.specs.Constraints.{marked_edges, constraint_pairs}
-use Rattle.delaunay_legalization.specs.Constraints.{points_and_constraints_by}
-use Rattle.delaunay_legalization.specs.Placed.{IsPlaced}
-use Rattle.delaunay_legalization.specs.Shape.{IsTriangulated}
-use Rattle.delaunay_legalization.specs.State.{state_of, points_and_constraints}
-use Rattle.delaunay_legalization.proofs.MarkedPairs.{JoinsByMark, mark_joins, joined_by_mark}
-use Rattle.delaunay_vertices.specs.RemovalData.{KeepsDataBeside, RenumbersEdges}
-use Rattle.delaunay_vertices.specs.Freeing.{FreesEdgesAt}
-use Rattle.delaunay_vertices.specs.Lists.{HasRoomToRemove}
-use Rattle.delaunay_vertices.specs.declared.lists.RemovalLists.{RemovalLists}
-use Rattle.delaunay_legalization.proofs.EdgePairs.{rev_of_even}
+use Rattle.plane.specs.{IsSamePair, Joins, Point, TakesOut}
+use Rattle.half_edge_links.specs.{Mesh, origin, rev}
+use Rattle.half_edge_dcel.specs.{Contents, full_edges, FullEdge, IsMeshWithData}
+use Rattle.delaunay_legalization.specs.{constraint_pairs, IsEmbedding, IsTriangulated, marked_edges}
+use Rattle.delaunay_legalization.specs.{points_and_constraints, points_and_constraints_by, state_of}
+use Rattle.delaunay_legalization.proofs.{joined_by_mark, JoinsByMark, mark_joins, rev_of_even}
+use Rattle.delaunay_vertices.specs.{FreesEdgesAt, KeepsDataBeside, RenumbersEdges}
+use Rattle.delaunay_vertices.specs.{declared.lists.RemovalLists.RemovalLists, Lists.HasRoomToRemove}
 use Rattle.delaunay_vertices.proofs.DataReads.{edge_read, even_or_odd}
-use Rattle.delaunay_vertices.proofs.LeavingConstraints.{constraints_left, back_and_there}
+use Rattle.delaunay_vertices.proofs.LeavingConstraints.{back_and_there, constraints_left}
 
 module _ {V D U F : Type 0} {place : V → Point} {marks : U → Bool} {constraints : List U → List ℕ}
     {old mid : Contents V D U F} {v : ℕ}
@@ -61,7 +52,7 @@ module _ {V D U F : Type 0} {place : V → Point} {marks : U → Bool} {constrai
 
   -- with the same sites
   pub freed_placed : {P : Type 0} {IsSite : P → Point → Type 0} {t : P}
-      → All (IsSite t) (map place old.vertices) → IsPlaced place IsSite mid t
+      → All (IsSite t) (map place old.vertices) → IsEmbedding place IsSite mid t
   freed_placed {IsSite = IsSite} {t = t} sites = record {
     kept = freed_kept;
     sites = subst (λ (vs : List V). All (IsSite t) (map place vs)) (sym freed_vertices) sites;

@@ -4,11 +4,8 @@ use Rattle.std.proofs.Common.{◌≡◌, ◌≢◌, ◌+◌, ◌<◌, ◌∙◌}
 use Rattle.std.proofs.Common.{ℕ, length, refl, sym, ap, subst, arith, inl, inr}
 use Rattle.std.proofs.lemmas.Bool.{cases_eq, cases_lt}
 use Rattle.std.proofs.Math.Numerals.{add-one}
-use Rattle.delaunay_legalization.specs.half_edge_links.Mesh.{Mesh, IsValidMesh, origin}
-use Rattle.delaunay_legalization.specs.half_edge_links.Peel.{turn, spoke}
-use Rattle.delaunay_legalization.specs.half_edge_links.Round.{IsRound}
-use Rattle.delaunay_legalization.proofs.half_edge_dcel_lemmas.Loops.{round_fits}
-use Rattle.delaunay_legalization.proofs.Rounds.{round_at}
+use Rattle.half_edge_links.specs.{IsRound, IsValidMesh, Mesh, origin, spoke, turn}
+use Rattle.{delaunay_legalization.proofs.round_at, half_edge_dcel.proofs.Loops.round_fits}
 
 -- after so many steps from edge first on the walk is at an edge, and none of the steps before led
 -- to first

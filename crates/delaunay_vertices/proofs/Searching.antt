@@ -6,13 +6,10 @@ use Rattle.std.proofs.Common.{subst, arith, inl, inr}
 use Rattle.std.specs.Prelude.{Bool, false, IsTrue, Some, None}
 use Rattle.std.proofs.lemmas.Bool.{cases_eq}
 use Rattle.std.proofs.Math.Numerals.{add-one}
-use Rattle.delaunay_legalization.specs.half_edge_dcel.Contents.{Contents}
-use Rattle.delaunay_legalization.specs.half_edge_links.Mesh.{Mesh, IsValidMesh, origin}
-use Rattle.delaunay_legalization.specs.half_edge_links.Peel.{turn, spoke}
-use Rattle.delaunay_legalization.specs.plane.Fraction.{Point}
-use Rattle.delaunay_legalization.proofs.Questions.{both_ways}
-use Rattle.delaunay_legalization.proofs.Rounds.{round_at}
-use Rattle.delaunay_vertices.specs.Star.{Surrounding, HasSpoke, IsSpokeThat, FindsSpoke}
+use Rattle.half_edge_links.specs.{IsValidMesh, Mesh, origin, spoke, turn}
+use Rattle.{half_edge_dcel.specs.Contents, plane.specs.Point}
+use Rattle.delaunay_legalization.proofs.{both_ways, round_at}
+use Rattle.delaunay_vertices.specs.{HasSpoke, IsSpokeThat, Star.FindsSpoke, Star.Surrounding}
 
 -- what a test that failed asked is not so
 pub not_so : {b : Bool} {A : Type 0} → IsTrue b ↔ A → b ≡ false → ¬ A
@@ -56,8 +53,8 @@ pub seeking_begins : {V D U F P : Type 0} {place : V → Point} {IsSite : P → 
       first = first;
     }) 0 first
 seeking_begins has = record {
-  valid = has.placed.kept.valid;
-  first_in = rw has.placed.kept.fits.directed_fit at has.within;
+  valid = has.embedding.kept.valid;
+  first_in = rw has.embedding.kept.fits.directed_fit at has.within;
   walk = record { within = has.within; here = refl; none = λ k less. absurd (omega (arith, less)) };
 }
 

@@ -5,34 +5,30 @@ use Rattle.std.proofs.Common.{◌≡◌, ◌-◌, ◌<◌, ◌≤◌, ◌∙◌}
 use Rattle.std.proofs.Common.{ℕ, List, length, map, sym, ap, subst, arith, inl}
 use Rattle.std.specs.Prelude.{All}
 use Rattle.std.specs.Global.{Vec}
-use Rattle.delaunay_legalization.specs.half_edge_links.Mesh.{origin}
-use Rattle.delaunay_legalization.specs.half_edge_links.Peel.{spoke}
-use Rattle.delaunay_legalization.specs.half_edge_dcel.Contents.{Contents, IsMeshWithData}
-use Rattle.delaunay_legalization.specs.plane.Fraction.{Point}
-use Rattle.delaunay_legalization.specs.plane.Tests.{InRange}
-use Rattle.delaunay_legalization.specs.plane_theorems.Tiling.Local.{LocalMesh}
-use Rattle.delaunay_legalization.specs.Drawn.{faces_of, outer_of}
-use Rattle.delaunay_legalization.specs.Placed.{IsPlaced}
-use Rattle.delaunay_vertices.specs.Star.{HasSpoke, IsConvexAt, IsInnerStar, IsReduced, IsSpokeThat}
-use Rattle.delaunay_vertices.specs.Star.{MayTurnAway, ShrinksStar, TurnsAway}
-use Rattle.delaunay_vertices.proofs.InnerStars.{star_from, star_shrinks, has_three, none_left}
-use Rattle.delaunay_vertices.proofs.InnerStars.{inner_may_turn}
-use Rattle.delaunay_vertices.proofs.Removing.{kept_by_shape}
+use Rattle.{plane.specs.InRange, plane.specs.Point, plane_theorems.specs.LocalMesh}
+use Rattle.half_edge_links.specs.{origin, spoke}
+use Rattle.half_edge_dcel.specs.{Contents, IsMeshWithData}
+use Rattle.delaunay_legalization.specs.{faces_of, IsEmbedding, outer_of}
+use Rattle.delaunay_vertices.specs.{HasSpoke, IsConvexAt, IsInnerStar, IsSpokeThat, MayTurnAway}
+use Rattle.delaunay_vertices.specs.{Star.IsReduced, Star.ShrinksStar, TurnsAway}
+use Rattle.delaunay_vertices.proofs.InnerStars.{has_three, inner_may_turn, none_left, star_from}
+use Rattle.delaunay_vertices.proofs.{InnerStars.star_shrinks, Removing.kept_by_shape}
 use Rattle.delaunay_vertices.proofs.Turning.{HasTurned, turning_goes_on}
 
 -- where the links alone change, and the mesh stays in the plane, its edges are those of a
 -- triangulation with the same sites
 pub has_spoke : {V D U F P : Type 0} {place : V → Point} {IsSite : P → Point → Type 0} {t : P}
     {old new : Contents V D U F} {h : ℕ} → new ≡ record old { mesh = new.mesh }
-    → IsPlaced place IsSite old t → IsMeshWithData new
+    → IsEmbedding place IsSite old t → IsMeshWithData new
     → LocalMesh (map place new.vertices) (faces_of new.mesh) (outer_of new.mesh)
     → h < length new.mesh.half_edges → HasSpoke place IsSite new t h
-has_spoke {V} {D} {U} {F} {P} {place} {IsSite} {t} {old} {new} contents placed whole shape within =
+has_spoke {V} {D} {U} {F} {P} {place} {IsSite} {t} {old} {new} contents embedding whole shape within
+    =
     record {
-      placed = record {
+      embedding = record {
         kept = kept_by_shape place new (subst (λ (vs : List V). All (λ v. InRange (place v)) vs)
-            vertices placed.kept.in_range) whole (inl shape);
-        sites = subst (λ (vs : List V). All (IsSite t) (map place vs)) vertices placed.sites;
+            vertices embedding.kept.in_range) whole (inl shape);
+        sites = subst (λ (vs : List V). All (IsSite t) (map place vs)) vertices embedding.sites;
       };
       within = rw whole.fits.directed_fit within;
     }

@@ -7,32 +7,20 @@ use Rattle.std.proofs.Common.{sym, ap, ◌∙◌, subst, Some, inl, inr, arith}
 use Rattle.std.specs.Prelude.{◌↔◌, Contains, slice_get}
 use Rattle.std.proofs.lemmas.Bool.{cases_eq}
 use Rattle.std.proofs.lemmas.Option.{slice_get_within, get_or_from_slice_get}
-use Rattle.delaunay_legalization.specs.half_edge_links.Mesh.{Mesh, origin, rev}
-use Rattle.delaunay_legalization.specs.half_edge_links.Outline.{Ends, ends}
-use Rattle.delaunay_legalization.specs.half_edge_dcel.Contents.{Contents, Edge, edges}
-use Rattle.delaunay_legalization.specs.half_edge_dcel.Contents.{IsMeshWithData}
-use Rattle.delaunay_legalization.specs.plane.Fraction.{Point, whole, WithinSegment}
-use Rattle.delaunay_legalization.specs.plane.Pairs.{Joins, IsSamePair, place}
-use Rattle.delaunay_legalization.specs.plane.Plain.{IsHalf}
-use Rattle.delaunay_legalization.proofs.plane_theorems.Tiling.Edges.{turned_within}
-use Rattle.delaunay_legalization.specs.Drawn.{edges_of, pair_of}
-use Rattle.delaunay_legalization.proofs.EdgePairs.{Contains-map}
-use Rattle.delaunay_legalization.specs.Constraints.{marked_edges, constraint_pairs, constraints_by}
-use Rattle.delaunay_legalization.specs.Constraints.{points_and_constraints_by, not_both}
-use Rattle.delaunay_legalization.specs.Marking.{HasEdgeData}
-use Rattle.delaunay_legalization.specs.Parts.{IsWithinEdge}
-use Rattle.delaunay_legalization.specs.Shape.{IsTriangulated}
-use Rattle.delaunay_legalization.specs.State.{state_of}
-use Rattle.delaunay_legalization.proofs.MarkedPairs.{marking_joins}
-use Rattle.delaunay_vertices.specs.Constraints.{SplitsConstraints}
-use Rattle.delaunay_vertices.specs.Edges.{AddsOnly, SplitsAt}
-use Rattle.delaunay_vertices.proofs.DataGrowing.{parts_of_edge, within_both}
-use Rattle.delaunay_vertices.proofs.MarkedEdges.{JoinsWithMark, own_ends, joins_with_mark}
-use Rattle.delaunay_vertices.proofs.MarkedEdges.{joined_with_mark}
-use Rattle.delaunay_vertices.proofs.NewVertex.{not_within, source_in, target_in}
-use Rattle.delaunay_legalization.proofs.Entries.{one_value}
+use Rattle.plane.specs.{IsHalf, IsSamePair, Joins, place, Point, whole, WithinSegment}
+use Rattle.{plane.proofs.pair_turned, plane_theorems.proofs.turned_within}
+use Rattle.half_edge_links.specs.{Ends, ends, Mesh, origin, rev}
+use Rattle.half_edge_dcel.specs.{Contents, Edge, edges, IsMeshWithData}
+use Rattle.delaunay_legalization.specs.{constraint_pairs, constraints_by, edges_of, HasEdgeData}
+use Rattle.delaunay_legalization.specs.{IsTriangulated, IsWithinEdge, marked_edges, not_both}
+use Rattle.delaunay_legalization.specs.{pair_of, points_and_constraints_by, state_of}
+use Rattle.{delaunay_legalization.proofs.one_value, delaunay_vertices.proofs.MarkedEdges.own_ends}
+use Rattle.delaunay_legalization.proofs.{EdgePairs.Contains-map, MarkedPairs.marking_joins}
 use Rattle.delaunay_legalization.proofs.MeshStays.{same_pair_back, same_pair_on}
-use Rattle.delaunay_legalization.proofs.plane.Indexes.{pair_turned}
+use Rattle.delaunay_vertices.specs.{AddsOnly, SplitsAt, SplitsConstraints}
+use Rattle.delaunay_vertices.proofs.DataGrowing.{parts_of_edge, within_both}
+use Rattle.delaunay_vertices.proofs.MarkedEdges.{joined_with_mark, joins_with_mark, JoinsWithMark}
+use Rattle.delaunay_vertices.proofs.NewVertex.{not_within, source_in, target_in}
 
 -- what is triangulated is a mesh with its data
 pub whole_mesh : {V D U F : Type 0} {at : V → Point} (c : Contents V D U F)

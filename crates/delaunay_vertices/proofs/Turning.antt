@@ -3,13 +3,10 @@
 use Rattle.std.proofs.Common.{◌≡◌, ◌+◌, ◌-◌, ◌<◌, ◌≤◌, ◌∙◌, ℕ, refl, ap, arith}
 use Rattle.std.specs.Global.{Vec}
 use Rattle.std.specs.Prelude.{vec_capacity, vec_len}
-use Rattle.delaunay_legalization.specs.half_edge_dcel.Contents.{Contents, IsMeshWithData}
-use Rattle.delaunay_legalization.specs.half_edge_links.Mesh.{origin}
-use Rattle.delaunay_legalization.specs.plane.Fraction.{Point}
-use Rattle.delaunay_legalization.specs.Shape.{IsTriangulated}
-use Rattle.delaunay_legalization.specs.State.{state_of}
-use Rattle.delaunay_vertices.specs.RemovalData.{StandsBeside}
-use Rattle.delaunay_vertices.specs.Star.{TurnsAway}
+use Rattle.half_edge_links.specs.{origin}
+use Rattle.{half_edge_dcel.specs.Contents, half_edge_dcel.specs.IsMeshWithData, plane.specs.Point}
+use Rattle.delaunay_legalization.specs.{IsTriangulated, state_of}
+use Rattle.delaunay_vertices.specs.{StandsBeside, TurnsAway}
 use Rattle.delaunay_vertices.proofs.DataStays.{all_stands, stands_turned}
 
 -- vertex v lost edges by turns, and still has so many; what the turned ones join is listed, with

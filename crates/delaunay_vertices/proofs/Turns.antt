@@ -2,14 +2,10 @@
 -- Lemmas: may_turn, still_within.
 use Rattle.std.proofs.Common.{◌≢◌, ℕ, ◌*◌, ◌/◌, ◌<◌, List, length, map, refl, sym, ap, subst}
 use Rattle.std.specs.Global.{Vec}
-use Rattle.delaunay_legalization.specs.half_edge_dcel.Contents.{Contents}
-use Rattle.delaunay_legalization.specs.half_edge_links.Flip.{IsFlippable}
-use Rattle.delaunay_legalization.specs.half_edge_links.Mesh.{origin, prev, rev}
-use Rattle.delaunay_legalization.specs.half_edge_links.Peel.{turn}
-use Rattle.delaunay_legalization.specs.plane.Fraction.{Point}
-use Rattle.delaunay_legalization.proofs.MeshStarFlips.{can_turn_spoke}
-use Rattle.delaunay_legalization.proofs.Rounds.{round_at}
-use Rattle.delaunay_vertices.specs.Star.{MayTurnAway, TurnsAway}
+use Rattle.half_edge_links.specs.{IsFlippable, origin, prev, rev, turn}
+use Rattle.{half_edge_dcel.specs.Contents, plane.specs.Point}
+use Rattle.delaunay_legalization.proofs.{MeshStarFlips.can_turn_spoke, round_at}
+use Rattle.delaunay_vertices.specs.{MayTurnAway, TurnsAway}
 
 -- the edge after h can be flipped, and joins no two vertices twice
 pub may_turn : {V D U F : Type 0} {place : V → Point} {c : Contents V D U F} {h : ℕ}

@@ -1,10 +1,7 @@
 -- What becomes of the constraints where a vertex is appended.
 use Rattle.std.specs.Prelude.{◌≡◌, ◌⊎◌, ◌↔◌, ℕ, List, length}
-use Rattle.delaunay_legalization.specs.plane.Fraction.{Point}
-use Rattle.delaunay_legalization.specs.plane.Pairs.{Joins}
-use Rattle.delaunay_legalization.specs.plane.Plain.{Carries, IsHalf}
-use Rattle.delaunay_legalization.specs.Constraints.{constraints_by, points_and_constraints_by}
-use Rattle.delaunay_legalization.specs.State.{State}
+use Rattle.plane.specs.{Carries, IsHalf, Joins, Point}
+use Rattle.delaunay_legalization.specs.{constraints_by, points_and_constraints_by, State.State}
 
 -- a constraint that v is strictly within became two halves, and the others stay, as the plain state
 -- says of a vertex that is appended

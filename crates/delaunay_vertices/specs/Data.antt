@@ -1,20 +1,17 @@
 -- What becomes of the data of edges and faces.
 use Rattle.std.specs.Prelude.{◌≡◌, ◌⊎◌, ℕ, ◌/◌, ◌<◌, List, length, Some, slice_get}
-use Rattle.delaunay_legalization.specs.half_edge_links.Triangles.{Triangle, triangles}
-use Rattle.delaunay_legalization.specs.plane.Fraction.{Point, whole, InTriangle}
-use Rattle.delaunay_legalization.specs.plane.Pairs.{place}
-use Rattle.delaunay_legalization.specs.Stays.{GoSameWay, HaveSameCorners}
-use Rattle.delaunay_legalization.specs.Parts.{IsWithinEdge}
-use Rattle.delaunay_legalization.specs.State.{State}
+use Rattle.plane.specs.{InTriangle, place, Point, whole}
+use Rattle.half_edge_links.specs.{Triangle, triangles}
+use Rattle.delaunay_legalization.specs.{GoSameDirection, HaveSameCorners, IsWithinEdge, State.State}
 
 -- an edge that stands before and after, by the vertices that it joins, has the data that it had: as
 -- a directed edge, and as an undirected one, which each of its directions has. So has an inner
 -- face, by its corners, and the outer face
 pub record KeepsData {V D U F : Type 0} (old new : State V D U F) : Type 0 where
   pub directed : (g h : ℕ) → g < length old.directed → h < length new.directed
-      → GoSameWay old.mesh g new.mesh h → slice_get new.directed h ≡ slice_get old.directed g
+      → GoSameDirection old.mesh g new.mesh h → slice_get new.directed h ≡ slice_get old.directed g
   pub undirected : (g h : ℕ) → g < length old.directed → h < length new.directed
-      → GoSameWay old.mesh g new.mesh h
+      → GoSameDirection old.mesh g new.mesh h
       → slice_get new.undirected (h / 2) ≡ slice_get old.undirected (g / 2)
   pub faces : (f g : ℕ) (t u : Triangle) → slice_get (triangles old.mesh) f ≡ Some t
       → slice_get (triangles new.mesh) g ≡ Some u → HaveSameCorners t u
@@ -23,7 +20,7 @@ pub record KeepsData {V D U F : Type 0} (old new : State V D U F) : Type 0 where
 
 -- directed edge h has the ends and the data that it had, and its undirected edge has its data
 pub record KeepsEdge {V D U F : Type 0} (old new : State V D U F) (h : ℕ) : Type 0 where
-  pub ends : GoSameWay old.mesh h new.mesh h
+  pub ends : GoSameDirection old.mesh h new.mesh h
   pub directed : slice_get new.directed h ≡ slice_get old.directed h
   pub undirected : slice_get new.undirected (h / 2) ≡ slice_get old.undirected (h / 2)
 

@@ -1,7 +1,6 @@
 -- What becomes of the edges of a mesh, with their data, where it grows.
 use Rattle.std.specs.Prelude.{◌≡◌, ◌≢◌, ◌⊎◌, ℕ, ◌≤◌, List, length, Some, slice_get}
-use Rattle.delaunay_legalization.specs.half_edge_dcel.Contents.{Edge}
-use Rattle.delaunay_legalization.specs.plane.Pairs.{IsSamePair}
+use Rattle.{half_edge_dcel.specs.Edge, plane.specs.IsSamePair}
 
 -- each edge stays, and the data of those that are added are as P says
 pub record AddsOnly {U : Type 0} (P : U → Type 0) (old new : List (Edge U)) : Type 0 where

@@ -1,7 +1,6 @@
 -- What becomes of a mesh where the edges of a vertex cease to be constraints.
 use Rattle.std.specs.Prelude.{◌≡◌, ◌≢◌, ℕ, ◌*◌, ◌<◌, Bool, false, length, Some, slice_get}
-use Rattle.delaunay_legalization.specs.half_edge_dcel.Contents.{Contents}
-use Rattle.delaunay_legalization.specs.half_edge_links.Mesh.{origin, rev}
+use Rattle.{half_edge_dcel.specs.Contents, half_edge_links.specs.origin, half_edge_links.specs.rev}
 
 -- undirected edge k has no mark
 abbrev pub IsUnmarked : {V D U F : Type 0} → (U → Bool) → Contents V D U F → ℕ → Type 0

@@ -1,13 +1,8 @@
 -- What a mesh is to be where a vertex is appended, and what the vertex makes of it.
 use Rattle.std.specs.Prelude.{◌≡◌, ◌<◌, ◌++◌, ◌∷◌, [], ℕ, length, map}
-use Rattle.delaunay_legalization.specs.plane.Fraction.{Point}
-use Rattle.delaunay_legalization.specs.plane.Tests.{InRange}
-use Rattle.delaunay_legalization.specs.Drawn.{faces_of, outer_of}
-use Rattle.delaunay_vertices.specs.Data.{GrowsAround}
-use Rattle.delaunay_legalization.specs.Parts.{IsWithinEdge}
-use Rattle.delaunay_legalization.specs.Shape.{IsTriangulated}
-use Rattle.delaunay_legalization.specs.Star.{MakesFacesAt}
-use Rattle.delaunay_legalization.specs.State.{State}
+use Rattle.delaunay_legalization.specs.{faces_of, IsTriangulated, IsWithinEdge, MakesFacesAt}
+use Rattle.{delaunay_legalization.specs.outer_of, plane.specs.InRange, plane.specs.Point}
+use Rattle.{delaunay_legalization.specs.State.State, delaunay_vertices.specs.Data.GrowsAround}
 
 -- a triangulated mesh, and a value whose position is in range
 pub record CanTake {V D U F : Type 0} (at : V → Point) (value : V)

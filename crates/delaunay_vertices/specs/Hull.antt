@@ -1,16 +1,11 @@
 -- The edges and faces round a vertex on the hull that is to go.
 use Rattle.std.specs.Prelude.{◌≡◌, ℕ, suc, ◌<◌, List, length, map, slice_index}
-use Rattle.delaunay_legalization.specs.half_edge_links.Mesh.{Mesh, origin, next, face, rev}
-use Rattle.delaunay_legalization.specs.half_edge_links.Peel.{spoke}
-use Rattle.delaunay_legalization.specs.half_edge_links.Round.{IsRound, neighbour}
-use Rattle.delaunay_legalization.specs.half_edge_dcel.Contents.{Contents, IsMeshWithData}
-use Rattle.delaunay_legalization.specs.plane.Fraction.{Point}
-use Rattle.delaunay_legalization.specs.plane.Pairs.{place}
-use Rattle.delaunay_legalization.specs.plane.Side.{TurnsLeft}
-use Rattle.delaunay_legalization.specs.plane_theorems.Tiling.Local.{LocalMesh}
-use Rattle.delaunay_legalization.specs.Drawn.{faces_of, outer_of}
-use Rattle.delaunay_vertices.specs.RemovalData.{StandsBeside}
-use Rattle.delaunay_vertices.specs.Star.{IsConvexAt}
+use Rattle.plane.specs.{place, Point, TurnsLeft}
+use Rattle.half_edge_links.specs.{face, IsRound, Mesh, neighbour, next, origin, rev, spoke}
+use Rattle.plane_theorems.specs.{LocalMesh}
+use Rattle.half_edge_dcel.specs.{Contents, IsMeshWithData}
+use Rattle.delaunay_legalization.specs.{faces_of, outer_of}
+use Rattle.delaunay_vertices.specs.{RemovalData.StandsBeside, Star.IsConvexAt}
 
 -- a mesh in the plane has this edge, with the outer face on its right
 pub record HasHullEdge {V D U F : Type 0} (place : V → Point) (c : Contents V D U F) (h : ℕ)

@@ -1,6 +1,6 @@
 -- The lists that removals work with.
 use Rattle.std.specs.Prelude.{ℕ, ◌*◌, ◌≤◌, length, vec_capacity, vec_len}
-use Rattle.delaunay_legalization.specs.half_edge_dcel.Contents.{Contents}
+use Rattle.half_edge_dcel.specs.{Contents}
 use Rattle.delaunay_vertices.specs.Pairs.{HasRoomAt, IsRoundOf}
 use Rattle.delaunay_vertices.specs.declared.lists.RemovalLists.{RemovalLists}
 

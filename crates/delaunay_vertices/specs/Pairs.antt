@@ -2,18 +2,9 @@
 -- what its edges join once they are turned.
 use Rattle.std.specs.Prelude.{◌≡◌, ◌≢◌, ◌⊎◌, ◌+◌, ◌-◌, ◌*◌, ◌<◌, ◌≤◌, if◌then◌else◌}
 use Rattle.std.specs.Prelude.{ℕ, List, Some, length, map, nat_eq}
-use Rattle.delaunay_legalization.specs.half_edge_links.Mesh.{Mesh, origin, out_edge, rev}
-use Rattle.delaunay_legalization.specs.half_edge_links.Peel.{turn}
-use Rattle.delaunay_legalization.specs.half_edge_links.Renames.{moved}
-use Rattle.delaunay_legalization.specs.half_edge_links.Round.{IsRound}
-use Rattle.delaunay_legalization.specs.plane.Fraction.{Point}
-use Rattle.delaunay_legalization.specs.plane.Pairs.{Joins}
-use Rattle.delaunay_legalization.specs.plane.Tiling.{Face}
-use Rattle.delaunay_legalization.specs.plane_theorems.Edits.Change.{IsFaceOf}
-use Rattle.delaunay_legalization.specs.Drawn.{faces_of}
-use Rattle.delaunay_legalization.specs.Legal.{pairs_at}
-use Rattle.delaunay_legalization.specs.Among.{IsQuiet}
-use Rattle.delaunay_legalization.specs.State.{State}
+use Rattle.{plane.specs.Face, plane.specs.Joins, plane.specs.Point, plane_theorems.specs.IsFaceOf}
+use Rattle.half_edge_links.specs.{IsRound, Mesh, moved, origin, out_edge, rev, turn}
+use Rattle.delaunay_legalization.specs.{faces_of, IsQuiet, pairs_at, State.State}
 
 -- ---- while the vertex loses its edges
 -- i and j are one of the pairs, or lie opposite vertex v in a face

@@ -1,11 +1,8 @@
 -- What becomes of a triangulation when a vertex goes.
 use Rattle.std.specs.Prelude.{◌≡◌, ℕ, List, Some, slice_get}
-use Rattle.delaunay_legalization.specs.plane.Fraction.{Point}
-use Rattle.delaunay_legalization.specs.plane.Plain.{Plain, TakesOut}
-use Rattle.delaunay_legalization.specs.Shape.{IsTriangulated}
-use Rattle.delaunay_legalization.specs.State.{State}
-use Rattle.delaunay_vertices.specs.RemovalData.{KeepsDataBeside}
-use Rattle.delaunay_vertices.specs.Pairs.{LeavesFaces}
+use Rattle.plane.specs.{Plain, Point, TakesOut}
+use Rattle.{delaunay_legalization.specs.IsTriangulated, delaunay_legalization.specs.State.State}
+use Rattle.delaunay_vertices.specs.{Pairs.LeavesFaces, RemovalData.KeepsDataBeside}
 
 -- vertex v, of this data, went from the points and constraints, and the last vertex took its index;
 -- the others have a triangulation where what is beside v keeps its data, and each side of a face

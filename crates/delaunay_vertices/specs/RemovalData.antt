@@ -1,16 +1,10 @@
 -- What becomes of the data of edges and faces when a vertex goes.
 use Rattle.std.specs.Prelude.{◌≡◌, ◌≢◌, ◌⊎◌, ◌-◌, ◌/◌, ◌<◌}
 use Rattle.std.specs.Prelude.{ℕ, List, length, Some, slice_get, Contains}
-use Rattle.delaunay_legalization.specs.half_edge_links.Mesh.{origin, rev}
-use Rattle.delaunay_legalization.specs.half_edge_links.Renames.{moved}
-use Rattle.delaunay_legalization.specs.half_edge_links.Triangles.{Triangle, triangles}
-use Rattle.delaunay_legalization.specs.half_edge_dcel.Contents.{Contents}
-use Rattle.delaunay_legalization.specs.half_edge_dcel.Removal.{FullEdge, FullFace, full_edges}
-use Rattle.delaunay_legalization.specs.half_edge_dcel.Removal.{full_faces, renumbered_edge}
-use Rattle.delaunay_legalization.specs.Drawn.{faces_of}
-use Rattle.delaunay_legalization.specs.Stays.{HaveSameCorners}
-use Rattle.delaunay_legalization.specs.State.{State}
-use Rattle.delaunay_vertices.specs.Pairs.{MakesFaces}
+use Rattle.half_edge_links.specs.{moved, origin, rev, Triangle, triangles}
+use Rattle.half_edge_dcel.specs.{Contents, full_edges, full_faces, FullEdge, FullFace}
+use Rattle.delaunay_legalization.specs.{faces_of, HaveSameCorners, State.State}
+use Rattle.{delaunay_vertices.specs.Pairs.MakesFaces, half_edge_dcel.specs.renumbered_edge}
 
 -- an edge that ends at vertex v has these undirected data
 pub record HasValueAt {V D U F : Type 0} (c : Contents V D U F) (v : ℕ) (value : U) : Type 0 where

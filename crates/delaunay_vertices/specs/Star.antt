@@ -3,22 +3,12 @@ use Rattle.std.specs.Prelude.{◌≡◌, ◌≢◌, ◌⊎◌, ◌+◌, ◌*◌,
 use Rattle.std.specs.Prelude.{ℕ, suc, List, length, map, vec_capacity, vec_len}
 use Rattle.std.specs.Prelude.{Option, IfSome, IfNone}
 use Rattle.std.specs.Global.{Vec}
-use Rattle.delaunay_legalization.specs.half_edge_links.Flip.{flipped}
-use Rattle.delaunay_legalization.specs.half_edge_links.Mesh.{Mesh, origin, face, IsAlone}
-use Rattle.delaunay_legalization.specs.half_edge_links.Outline.{KeepsOuter}
-use Rattle.delaunay_legalization.specs.half_edge_links.Peel.{turn, spoke}
-use Rattle.delaunay_legalization.specs.half_edge_links.Round.{IsRound, neighbour}
-use Rattle.delaunay_legalization.specs.half_edge_dcel.Contents.{Contents, IsMeshWithData}
-use Rattle.delaunay_legalization.specs.half_edge_links.Triangles.{FlipsTriangles}
-use Rattle.delaunay_legalization.specs.plane.Fraction.{Point, WithinSegment}
-use Rattle.delaunay_legalization.specs.plane.Pairs.{place}
-use Rattle.delaunay_legalization.specs.plane.Side.{TurnsLeft}
-use Rattle.delaunay_legalization.specs.plane.Tiling.{Face}
-use Rattle.delaunay_legalization.specs.plane_theorems.Tiling.Local.{LocalMesh}
-use Rattle.delaunay_legalization.specs.plane_theorems.Edits.Removal.{LocalMeshWithout}
-use Rattle.delaunay_legalization.specs.plane_theorems.Edits.Removal.{LineMeshWithout}
-use Rattle.delaunay_legalization.specs.Drawn.{faces_of, outer_of}
-use Rattle.delaunay_legalization.specs.Placed.{IsPlaced}
+use Rattle.plane.specs.{Face, place, Point, TurnsLeft, WithinSegment}
+use Rattle.half_edge_links.specs.{face, flipped, FlipsTriangles, IsAlone, IsRound, KeepsOuter, Mesh}
+use Rattle.half_edge_links.specs.{neighbour, origin, spoke, turn}
+use Rattle.plane_theorems.specs.{LineMeshWithout, LocalMesh, LocalMeshWithout}
+use Rattle.half_edge_dcel.specs.{Contents, IsMeshWithData}
+use Rattle.delaunay_legalization.specs.{faces_of, IsEmbedding, outer_of}
 use Rattle.delaunay_vertices.specs.RemovalData.{StandsBeside}
 
 -- the edge after edge h, round the vertex where they start, lies across a strictly convex
@@ -46,7 +36,7 @@ pub record Surrounding (D : Type 0) : Type 0 where
 -- the mesh of a triangulation whose vertices are sites has this edge
 pub record HasSpoke {V D U F P : Type 0} (place : V → Point) (IsSite : P → Point → Type 0)
     (c : Contents V D U F) (t : P) (h : ℕ) : Type 0 where
-  pub placed : IsPlaced place IsSite c t
+  pub embedding : IsEmbedding place IsSite c t
   pub within : h < length c.directed
 
 -- edge h is one of these edges, and of this kind

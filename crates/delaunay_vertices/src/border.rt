@@ -2,10 +2,13 @@
 ghost use Rattle.std.specs.Prelude.{◌<◌, length, IfOk};
 ghost use Rattle.delaunay_vertices.specs.Pairs.{HasBorder};
 
+use crate::VertexPair;
 use crate::freeing::some_edge;
-use crate::pairs::{VertexPair, vertex_at_end};
-use crate::star::{ccw_edge, count_edges};
-use delaunay_legalization::half_edge_dcel::{Dcel, FixedVertexHandle};
+use crate::pairs::vertex_at_end;
+use crate::star::count_edges;
+use delaunay_legalization::ccw_edge;
+use half_edge_dcel::Dcel;
+use half_edge_links::FixedVertexHandle;
 use std::alloc::{AllocError, Global};
 
 /// Lists the ends of each edge of a vertex and of the edge after it round the vertex: so each side

@@ -1,15 +1,15 @@
 //! Which edge of a vertex is turned away next, and where the vertex lies.
 ghost use Rattle.std.specs.Prelude.{◌≡◌, ◌↔◌, ◌<◌, length, IsTrue, IsFalse, IfSome};
-ghost use Rattle.delaunay_legalization.specs.half_edge_links.Mesh.{origin};
-ghost use Rattle.delaunay_vertices.specs.Hull.{IsCornerAt};
+ghost use Rattle.{delaunay_vertices.specs.Hull.IsCornerAt, half_edge_links.specs.origin};
 ghost use Rattle.delaunay_vertices.specs.Star.{FindsSpoke, IsBetweenAt, IsConvexAt, IsFourStar};
 ghost use Rattle.delaunay_vertices.specs.Star.{IsInnerStar, IsSpokeThat, IsTurnable};
 
-use crate::star::{ccw_edge, cw_edge, is_between_faces};
-use delaunay_legalization::delaunay_core::math::PlaneTests;
-use delaunay_legalization::delaunay_core::point::{HasPosition, Point2};
-use delaunay_legalization::half_edge_dcel::{Dcel, FixedDirectedEdgeHandle};
-use delaunay_legalization::{Placed, is_strictly_within, turns_left};
+use crate::star::{cw_edge, is_between_faces};
+use delaunay_core::math::PlaneTests;
+use delaunay_core::point::{HasPosition, Point2};
+use delaunay_legalization::{Embedding, ccw_edge, is_strictly_within, turns_left};
+use half_edge_dcel::Dcel;
+use half_edge_links::FixedDirectedEdgeHandle;
 use std::marker::Model;
 
 // Where a vertex has no more edges than these, any that can be turned away is as good as another.
@@ -27,7 +27,7 @@ pub(crate) struct Spokes<'a, V: HasPosition, DE, UE, F, P: PlaneTests<V::Scalar>
 impl<'a, V: HasPosition, DE, UE, F, P: PlaneTests<V::Scalar>> Model
     for Spokes<'a, V, DE, UE, F, P> {
     ghost use Rattle.std.specs.Prelude.{map};
-    ghost use Rattle.delaunay_vertices.specs.Star.{Surrounding, HasSpoke};
+    ghost use Rattle.delaunay_vertices.specs.Star.{HasSpoke, Surrounding};
 
     ghost Value = { Surrounding DE };
 
@@ -48,16 +48,16 @@ impl<'a, V: HasPosition, DE, UE, F, P: PlaneTests<V::Scalar>> Spokes<'a, V, DE, 
         requires { edge < length self.now.directed }
         ensures { IsTrue result ↔ IsConvexAt self.now.points self.now.mesh edge }
     {
-        let placed = Placed {
+        let embedding = Embedding {
             dcel: self.dcel,
             tests: self.tests,
         };
         let second = ccw_edge(self.dcel, edge);
         let third = ccw_edge(self.dcel, second);
-        let centre = placed.start_of(edge);
-        let before = placed.end_of(edge);
-        let corner = placed.end_of(second);
-        let after = placed.end_of(third);
+        let centre = embedding.start_of(edge);
+        let before = embedding.end_of(edge);
+        let corner = embedding.end_of(second);
+        let after = embedding.end_of(third);
         turns_left(before, corner, after, self.tests)
             && turns_left(centre, before, after, self.tests)
     }
@@ -69,16 +69,16 @@ impl<'a, V: HasPosition, DE, UE, F, P: PlaneTests<V::Scalar>> Spokes<'a, V, DE, 
         requires within { edge < length self.now.directed }
         requires convex { IsConvexAt self.now.points self.now.mesh edge }
     {
-        let placed = Placed {
+        let embedding = Embedding {
             dcel: self.dcel,
             tests: self.tests,
         };
         let second = ccw_edge(self.dcel, edge);
         let third = ccw_edge(self.dcel, second);
-        let beyond = placed.end_of(ccw_edge(self.dcel, third));
-        let before = placed.end_of(edge);
-        let corner = placed.end_of(second);
-        let after = placed.end_of(third);
+        let beyond = embedding.end_of(ccw_edge(self.dcel, third));
+        let before = embedding.end_of(edge);
+        let corner = embedding.end_of(second);
+        let after = embedding.end_of(third);
         !self.tests.is_in_circle(before, corner, after, beyond)
     }
 
@@ -161,14 +161,14 @@ impl<'a, V: HasPosition, DE, UE, F, P: PlaneTests<V::Scalar>> Spokes<'a, V, DE, 
     pub(crate) fn is_corner(&self) -> bool
         ensures { IsTrue result ↔ IsCornerAt self.now.points self.now.mesh self.now.first }
     {
-        let placed = Placed {
+        let embedding = Embedding {
             dcel: self.dcel,
             tests: self.tests,
         };
         let last = cw_edge(self.dcel, self.first);
-        let centre = placed.start_of(self.first);
-        let from = placed.end_of(self.first);
-        let to = placed.end_of(last);
+        let centre = embedding.start_of(self.first);
+        let from = embedding.end_of(self.first);
+        let to = embedding.end_of(last);
         turns_left(centre, from, to, self.tests)
     }
 
@@ -180,15 +180,15 @@ impl<'a, V: HasPosition, DE, UE, F, P: PlaneTests<V::Scalar>> Spokes<'a, V, DE, 
             (origin self.now.mesh self.now.first) result 4 }
         ensures between { IsBetweenAt self.now.points self.now.mesh result }
     {
-        let placed = Placed {
+        let embedding = Embedding {
             dcel: self.dcel,
             tests: self.tests,
         };
         let second = ccw_edge(self.dcel, self.first);
         let opposite = ccw_edge(self.dcel, second);
-        let centre = placed.start_of(self.first);
-        let from = placed.end_of(self.first);
-        let to = placed.end_of(opposite);
+        let centre = embedding.start_of(self.first);
+        let from = embedding.end_of(self.first);
+        let to = embedding.end_of(opposite);
         if is_strictly_within(from, to, centre, self.tests) {
             self.first
         } else {

@@ -1,16 +1,14 @@
 //! The edges of a vertex cease to be constraints.
 ghost use Rattle.std.specs.Prelude.{◌≡◌, ◌<◌, [], length, None, Some, IfNone, IfSome, IsTrue};
-ghost use Rattle.delaunay_legalization.specs.half_edge_dcel.Contents.{IsMeshWithData};
-ghost use Rattle.delaunay_legalization.specs.half_edge_links.Mesh.{origin, out_edge};
-ghost use Rattle.delaunay_legalization.specs.Constraints.{constraints_by};
-ghost use Rattle.delaunay_legalization.specs.State.{state_of};
+ghost use Rattle.half_edge_links.specs.{origin, out_edge};
+ghost use Rattle.half_edge_dcel.specs.{IsMeshWithData};
+ghost use Rattle.delaunay_legalization.specs.{constraints_by, state_of};
 ghost use Rattle.delaunay_vertices.specs.Freeing.{FreesEdgesAt};
 
-use crate::star::{ccw_edge, count_edges};
-use delaunay_legalization::half_edge_dcel::{
-    Dcel, FixedDirectedEdgeHandle, FixedVertexHandle, MeshViews,
-};
-use delaunay_legalization::{ConstraintMarker, free_edge};
+use crate::star::count_edges;
+use delaunay_legalization::{ConstraintMarker, ccw_edge, free_edge};
+use half_edge_dcel::{Dcel, MeshViews};
+use half_edge_links::{FixedDirectedEdgeHandle, FixedVertexHandle};
 
 // An edge that starts at a vertex, if there is one.
 pub(crate) fn some_edge<V, DE, UE, F>(

@@ -1,12 +1,13 @@
 //! The edge that joins two vertices.
 ghost use Rattle.std.specs.Prelude.{◌≡◌, ◌<◌, length, IfNone, IfSome};
-ghost use Rattle.delaunay_legalization.specs.half_edge_links.Mesh.{origin, rev};
+ghost use Rattle.half_edge_links.specs.{origin, rev};
 ghost use Rattle.delaunay_vertices.specs.Pairs.{HasNoEdgeBetween};
 
 use crate::freeing::some_edge;
 use crate::pairs::vertex_at_end;
-use crate::star::ccw_edge;
-use delaunay_legalization::half_edge_dcel::{Dcel, FixedDirectedEdgeHandle, FixedVertexHandle};
+use delaunay_legalization::ccw_edge;
+use half_edge_dcel::Dcel;
+use half_edge_links::{FixedDirectedEdgeHandle, FixedVertexHandle};
 
 // The edge from one vertex to another, if there are such vertices and they are joined. It looks
 // round both at once, so it costs what the one with fewer edges costs.

@@ -1,13 +1,13 @@
 //! The lists that removals work with.
 ghost use Rattle.std.specs.Prelude.{◌≡◌, ◌<◌, [], length, OnOk};
-ghost use Rattle.delaunay_vertices.specs.Lists.{HasRoomToRemove};
-ghost use Rattle.delaunay_vertices.specs.Pairs.{HasRoomAt, IsRoundOf};
+ghost use Rattle.delaunay_vertices.specs.{Lists.HasRoomToRemove, Pairs.HasRoomAt, Pairs.IsRoundOf};
 
+use crate::VertexPair;
 use crate::freeing::some_edge;
-use crate::pairs::VertexPair;
 use crate::star::count_edges;
 use delaunay_legalization::EdgeSet;
-use delaunay_legalization::half_edge_dcel::{Dcel, FixedDirectedEdgeHandle, FixedVertexHandle};
+use half_edge_dcel::Dcel;
+use half_edge_links::{FixedDirectedEdgeHandle, FixedVertexHandle};
 use std::alloc::{AllocError, Global};
 
 /// The lists that removals work with. What stands in them between two removals has no meaning, but

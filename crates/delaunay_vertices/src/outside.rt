@@ -1,25 +1,17 @@
 //! A new vertex outside the hull, or off the edges of the line of all vertices.
 ghost use Rattle.std.specs.Prelude.{◌≡◌, ◌⊎◌, ◌↔◌, ◌+◌, ◌*◌, ◌<◌, length, map, All, IsTrue};
-ghost use Rattle.delaunay_legalization.specs.half_edge_links.Mesh.{origin, rev, next, prev, face};
-ghost use Rattle.delaunay_legalization.specs.half_edge_links.Room.{HasRoomFor};
-ghost use Rattle.delaunay_legalization.specs.half_edge_dcel.Contents.{edges};
-ghost use Rattle.delaunay_legalization.specs.plane.Fraction.{whole as fraction};
-ghost use Rattle.delaunay_legalization.specs.plane.Location.{IsPast};
-ghost use Rattle.delaunay_legalization.specs.plane.Side.{TurnsLeft};
-ghost use Rattle.delaunay_legalization.specs.plane.Pairs.{place};
-ghost use Rattle.delaunay_legalization.specs.plane_theorems.Tiling.Local.{alone};
-ghost use Rattle.delaunay_legalization.specs.delaunay_core.Place.{place_of};
-ghost use Rattle.delaunay_vertices.specs.Edges.{AddsOnly};
-ghost use Rattle.delaunay_vertices.specs.Growth.{CanTake, GainsVertex};
-ghost use Rattle.delaunay_legalization.specs.Parts.{IsApart};
-ghost use Rattle.delaunay_legalization.specs.State.{state_of};
+ghost use Rattle.plane.specs.{IsPast, place, TurnsLeft, whole as fraction};
+ghost use Rattle.half_edge_links.specs.{face, HasRoomFor, next, origin, prev, rev};
+ghost use Rattle.plane_theorems.specs.{alone};
+ghost use Rattle.{delaunay_core.specs.place_of, half_edge_dcel.specs.edges};
+ghost use Rattle.delaunay_legalization.specs.{IsApart, state_of};
+ghost use Rattle.delaunay_vertices.specs.{Edges.AddsOnly, Growth.CanTake, Growth.GainsVertex};
 
-use delaunay_legalization::delaunay_core::math::PlaneTests;
-use delaunay_legalization::delaunay_core::point::{HasPosition, Point2};
-use delaunay_legalization::half_edge_dcel::{
-    Dcel, FixedDirectedEdgeHandle, FixedVertexHandle, MeshViews,
-};
+use delaunay_core::math::PlaneTests;
+use delaunay_core::point::{HasPosition, Point2};
 use delaunay_legalization::{position_of, turns_left};
+use half_edge_dcel::{Dcel, MeshViews};
+use half_edge_links::{FixedDirectedEdgeHandle, FixedVertexHandle};
 
 // The edge after an edge in its loop.
 #[inline(always)]

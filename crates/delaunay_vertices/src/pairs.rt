@@ -1,31 +1,19 @@
 //! Pairs of vertices that bound new faces where a vertex went, and a legalization from them on.
 ghost use Rattle.std.specs.Prelude.{◌≡◌, ℕ, ◌*◌, ◌<◌, ◌≤◌, ◌++◌};
 ghost use Rattle.std.specs.Prelude.{length, map, All, Contains, IsTrue};
-ghost use Rattle.delaunay_legalization.specs.half_edge_links.Mesh.{origin, rev};
-ghost use Rattle.delaunay_legalization.specs.half_edge_links.Renames.{moved};
-ghost use Rattle.delaunay_legalization.specs.half_edge_links.Round.{neighbour};
-ghost use Rattle.delaunay_legalization.specs.plane_theorems.Edits.Legal.{AllPassBut};
-ghost use Rattle.delaunay_legalization.specs.Drawn.{faces_of};
-ghost use Rattle.delaunay_legalization.specs.Legal.{AreEdges};
-ghost use Rattle.delaunay_legalization.specs.Among.{FailOnlyOf};
-ghost use Rattle.delaunay_legalization.specs.Constraints.{constraints_by};
-ghost use Rattle.delaunay_legalization.specs.Flips.{FlipsFit};
-ghost use Rattle.delaunay_legalization.specs.Legalized.{Legalizes};
-ghost use Rattle.delaunay_legalization.specs.Shape.{IsTriangulated};
-ghost use Rattle.delaunay_legalization.specs.Sides.{AreLeftToTest};
-ghost use Rattle.delaunay_legalization.specs.State.{state_of};
-ghost use Rattle.delaunay_vertices.specs.Pairs.{FailOnlyAt, HasEdgeOf, HasEdgesOf};
-ghost use Rattle.delaunay_vertices.specs.Pairs.{pairs_left};
+ghost use Rattle.half_edge_links.specs.{moved, neighbour, origin, rev};
+ghost use Rattle.delaunay_legalization.specs.{AreEdges, AreLeftToTest, constraints_by, faces_of};
+ghost use Rattle.delaunay_legalization.specs.{FailOnlyOf, FlipsFit, IsTriangulated, Legalizes};
+ghost use Rattle.{delaunay_legalization.specs.state_of, plane_theorems.specs.AllPassBut};
+ghost use Rattle.delaunay_vertices.specs.Pairs.{FailOnlyAt, HasEdgeOf, HasEdgesOf, pairs_left};
 
+use crate::RemovalLists;
 use crate::joining_edge::find_edge_between;
-use crate::lists::RemovalLists;
-use crate::star::ccw_edge;
-use delaunay_legalization::delaunay_core::math::PlaneTests;
-use delaunay_legalization::delaunay_core::point::HasPosition;
-use delaunay_legalization::half_edge_dcel::{
-    Dcel, FixedDirectedEdgeHandle, FixedVertexHandle, MeshViews,
-};
-use delaunay_legalization::{ConstraintMarker, EdgeSet, legalize_list, push_side};
+use delaunay_core::math::PlaneTests;
+use delaunay_core::point::HasPosition;
+use delaunay_legalization::{ConstraintMarker, EdgeSet, ccw_edge, legalize_list, push_side};
+use half_edge_dcel::{Dcel, MeshViews};
+use half_edge_links::{FixedDirectedEdgeHandle, FixedVertexHandle};
 
 /// Two vertices.
 pub type VertexPair = (FixedVertexHandle, FixedVertexHandle);

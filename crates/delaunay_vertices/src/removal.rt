@@ -1,27 +1,21 @@
 //! Vertices that go, with their edges.
 ghost use Rattle.std.specs.Prelude.{◌≡◌, ◌<◌, [], length, map, All, IsTrue};
-ghost use Rattle.delaunay_legalization.specs.plane_theorems.Tiling.Local.{LocalMesh};
-ghost use Rattle.delaunay_legalization.specs.Drawn.{faces_of, outer_of};
-ghost use Rattle.delaunay_legalization.specs.Constraints.{constraints_by};
-ghost use Rattle.delaunay_legalization.specs.Constraints.{points_and_constraints_by};
-ghost use Rattle.delaunay_legalization.specs.Placed.{IsPlaced};
-ghost use Rattle.delaunay_legalization.specs.Shape.{IsTriangulated};
-ghost use Rattle.delaunay_legalization.specs.State.{points_and_constraints, state_of};
-ghost use Rattle.delaunay_vertices.specs.RemovalData.{RenumbersEdges};
-ghost use Rattle.delaunay_vertices.specs.Lists.{HasRoomToRemove};
-ghost use Rattle.delaunay_vertices.specs.Removal.{TakesVertexOut};
-ghost use Rattle.delaunay_vertices.specs.Star.{LosesStar};
+ghost use Rattle.plane_theorems.specs.{LocalMesh};
+ghost use Rattle.delaunay_legalization.specs.{constraints_by, faces_of, IsEmbedding};
+ghost use Rattle.delaunay_legalization.specs.{IsTriangulated, outer_of, points_and_constraints};
+ghost use Rattle.delaunay_legalization.specs.{points_and_constraints_by, state_of};
+ghost use Rattle.delaunay_vertices.specs.{Lists.HasRoomToRemove, Star.LosesStar};
+ghost use Rattle.delaunay_vertices.specs.{Removal.TakesVertexOut, RemovalData.RenumbersEdges};
 
+use crate::RemovalLists;
 use crate::freeing::{free_edges_at, some_edge};
-use crate::lists::RemovalLists;
 use crate::removal_hull::{isolate_on_hull, outer_edge_beside};
 use crate::removal_inner::isolate_inner;
+use delaunay_core::math::PlaneTests;
+use delaunay_core::point::HasPosition;
 use delaunay_legalization::ConstraintMarker;
-use delaunay_legalization::delaunay_core::math::PlaneTests;
-use delaunay_legalization::delaunay_core::point::HasPosition;
-use delaunay_legalization::half_edge_dcel::{
-    Dcel, FixedDirectedEdgeHandle, FixedVertexHandle, MeshViews,
-};
+use half_edge_dcel::{Dcel, MeshViews};
+use half_edge_links::{FixedDirectedEdgeHandle, FixedVertexHandle};
 
 // Removes the edges of a vertex in the plane, and its faces. `lists` gets what each turned one
 // joins.
@@ -31,7 +25,7 @@ fn isolate<V: HasPosition, DE: Drop, UE: Drop, F: Drop, P: PlaneTests<V::Scalar>
     tests: &P,
     lists: &mut RemovalLists,
 )
-    requires placed { IsPlaced V.place P.sites dcel.old tests.now }
+    requires embedding { IsEmbedding V.place P.sites dcel.old tests.now }
     requires shape { LocalMesh (map V.place dcel.old.vertices) (faces_of dcel.old.mesh)
         (outer_of dcel.old.mesh) }
     requires within { vertex < length dcel.old.vertices }
@@ -58,7 +52,7 @@ fn take_vertex<V: HasPosition, DE: Drop, UE: Drop, F: Drop, P: PlaneTests<V::Sca
     tests: &P,
     lists: &mut RemovalLists,
 ) -> V
-    requires placed { IsPlaced V.place P.sites dcel.old tests.now }
+    requires embedding { IsEmbedding V.place P.sites dcel.old tests.now }
     requires within { vertex < length dcel.old.vertices }
     requires room { HasRoomToRemove dcel.old vertex lists.old }
     ensures takes { TakesVertexOut V.place points_and_constraints (state_of dcel.old)

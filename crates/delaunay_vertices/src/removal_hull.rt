@@ -2,24 +2,19 @@
 ghost use Rattle.std.specs.Prelude.{◌≡◌, ℕ, ◌+◌, ◌<◌, ◌≤◌};
 ghost use Rattle.std.specs.Prelude.{length, IfSome, IfNone};
 ghost use Rattle.std.specs.Prelude.{vec_capacity, vec_len};
-ghost use Rattle.delaunay_legalization.specs.half_edge_links.Mesh.{face, next, origin, rev};
-ghost use Rattle.delaunay_legalization.specs.half_edge_links.Round.{IsRound};
-ghost use Rattle.delaunay_legalization.specs.Placed.{IsPlaced};
-ghost use Rattle.delaunay_vertices.specs.Hull.{AreSides};
-ghost use Rattle.delaunay_vertices.specs.Hull.{HasHullEdge, ShrinksFan};
-ghost use Rattle.delaunay_vertices.specs.Pairs.{HasRoomAt};
-ghost use Rattle.delaunay_vertices.specs.Star.{HasInnerFaces, LosesStar};
+ghost use Rattle.half_edge_links.specs.{face, IsRound, next, origin, rev};
+ghost use Rattle.delaunay_legalization.specs.{IsEmbedding};
+ghost use Rattle.delaunay_vertices.specs.Hull.{AreSides, HasHullEdge, ShrinksFan};
+ghost use Rattle.delaunay_vertices.specs.{Pairs.HasRoomAt, Star.HasInnerFaces, Star.LosesStar};
 
 use crate::choice::{Spokes, edge_to_go_on};
-use crate::lists::RemovalLists;
-use crate::pairs::VertexPair;
-use crate::star::{ccw_edge, count_edges, opposite_side, turn_away};
-use delaunay_legalization::delaunay_core::math::PlaneTests;
-use delaunay_legalization::delaunay_core::point::HasPosition;
-use delaunay_legalization::half_edge_dcel::{
-    Dcel, FixedDirectedEdgeHandle, FixedVertexHandle, MeshViews,
-};
-use delaunay_legalization::is_outer;
+use crate::star::{count_edges, opposite_side, turn_away};
+use crate::{RemovalLists, VertexPair};
+use delaunay_core::math::PlaneTests;
+use delaunay_core::point::HasPosition;
+use delaunay_legalization::{ccw_edge, is_outer};
+use half_edge_dcel::{Dcel, MeshViews};
+use half_edge_links::{FixedDirectedEdgeHandle, FixedVertexHandle};
 
 // Turns edges of a vertex on the hull away while one of them lies across a strictly convex
 // quadrilateral. `first` is the one with the outer face on its right. Gives how many are left.
@@ -30,7 +25,7 @@ fn shrink_hull_star<V: HasPosition, DE, UE, F, P: PlaneTests<V::Scalar>>(
     tests: &P,
     turned: &mut Vec<VertexPair>,
 ) -> usize
-    requires placed { IsPlaced V.place P.sites dcel.old tests.now }
+    requires embedding { IsEmbedding V.place P.sites dcel.old tests.now }
     requires hull { HasHullEdge V.place dcel.old first }
     requires room { HasRoomAt dcel.old.mesh (origin dcel.old.mesh first) (vec_len turned.old)
         (vec_capacity turned.old) }
@@ -94,7 +89,7 @@ pub(crate) fn isolate_on_hull<
     tests: &P,
     lists: &mut RemovalLists,
 )
-    requires placed { IsPlaced V.place P.sites dcel.old tests.now }
+    requires embedding { IsEmbedding V.place P.sites dcel.old tests.now }
     requires hull { HasHullEdge V.place dcel.old first }
     requires starts { origin dcel.old.mesh first ≡ vertex }
     requires room { HasRoomAt dcel.old.mesh vertex 0 (vec_capacity lists.old.sides) }

@@ -1,20 +1,18 @@
 //! A vertex inside the hull loses its edges.
 ghost use Rattle.std.specs.Prelude.{◌≡◌, ◌+◌, ◌<◌, ◌≤◌, map, vec_capacity, vec_len};
-ghost use Rattle.delaunay_legalization.specs.half_edge_links.Mesh.{origin};
-ghost use Rattle.delaunay_legalization.specs.half_edge_links.Peel.{IsWheel};
-ghost use Rattle.delaunay_legalization.specs.half_edge_links.Round.{neighbour};
-ghost use Rattle.delaunay_legalization.specs.half_edge_dcel.Contents.{IsMeshWithData};
-ghost use Rattle.delaunay_legalization.specs.half_edge_dcel.Removal.{FillsHole};
-ghost use Rattle.delaunay_legalization.specs.Placed.{IsPlaced};
-ghost use Rattle.delaunay_vertices.specs.Pairs.{HasRoomAt};
+ghost use Rattle.half_edge_links.specs.{IsWheel, neighbour, origin};
+ghost use Rattle.half_edge_dcel.specs.{FillsHole, IsMeshWithData};
+ghost use Rattle.{delaunay_legalization.specs.IsEmbedding, delaunay_vertices.specs.Pairs.HasRoomAt};
 ghost use Rattle.delaunay_vertices.specs.Star.{IsInnerStar, LosesStar, ShrinksStar};
 
+use crate::VertexPair;
 use crate::choice::{Spokes, edge_to_go_on};
-use crate::pairs::VertexPair;
-use crate::star::{ccw_edge, opposite_side, turn_away};
-use delaunay_legalization::delaunay_core::math::PlaneTests;
-use delaunay_legalization::delaunay_core::point::HasPosition;
-use delaunay_legalization::half_edge_dcel::{Dcel, FixedDirectedEdgeHandle, FixedVertexHandle};
+use crate::star::{opposite_side, turn_away};
+use delaunay_core::math::PlaneTests;
+use delaunay_core::point::HasPosition;
+use delaunay_legalization::ccw_edge;
+use half_edge_dcel::Dcel;
+use half_edge_links::{FixedDirectedEdgeHandle, FixedVertexHandle};
 
 // Turns edges of an inner vertex away, from which `first` and so many in all start, until three are
 // left, or four with the vertex strictly between two ends. Gives one of those that are left, and
@@ -27,7 +25,7 @@ fn shrink_star<V: HasPosition, DE, UE, F, P: PlaneTests<V::Scalar>>(
     tests: &P,
     turned: &mut Vec<VertexPair>,
 ) -> (FixedDirectedEdgeHandle, usize)
-    requires placed { IsPlaced V.place P.sites dcel.old tests.now }
+    requires embedding { IsEmbedding V.place P.sites dcel.old tests.now }
     requires star { IsInnerStar (map V.place dcel.old.vertices) dcel.old.mesh
         (origin dcel.old.mesh first) first count }
     requires room { HasRoomAt dcel.old.mesh (origin dcel.old.mesh first) (vec_len turned.old)
@@ -86,7 +84,7 @@ pub(crate) fn isolate_inner<V: HasPosition, DE: Drop, UE: Drop, F: Drop, P: Plan
     tests: &P,
     turned: &mut Vec<VertexPair>,
 )
-    requires placed { IsPlaced V.place P.sites dcel.old tests.now }
+    requires embedding { IsEmbedding V.place P.sites dcel.old tests.now }
     requires star { IsInnerStar (map V.place dcel.old.vertices) dcel.old.mesh
         (origin dcel.old.mesh first) first count }
     requires starts { origin dcel.old.mesh first ≡ vertex }

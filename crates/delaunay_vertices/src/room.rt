@@ -1,15 +1,13 @@
 //! Room for what vertices can bring.
 ghost use Rattle.std.specs.Prelude.{◌≡◌, ◌↔◌, ◌+◌, ◌*◌, ◌<◌, ◌≤◌, length};
 ghost use Rattle.std.specs.Prelude.{Err, IsErrOf, IsFalse, OnErr, OnOk};
-ghost use Rattle.delaunay_legalization.specs.half_edge_links.Room.{HasRoomFor};
-ghost use Rattle.delaunay_legalization.specs.delaunay_core.declared.math.InsertionError.TheVariants.{OutOfIndexes};
-ghost use Rattle.delaunay_legalization.specs.delaunay_core.declared.math.InsertionError.TheVariants.{OutOfMemory};
-ghost use Rattle.delaunay_legalization.specs.delaunay_core.declared.math.InsertionError.TheVariants.{TooLarge};
-ghost use Rattle.delaunay_legalization.specs.State.{state_of};
+ghost use Rattle.delaunay_core.specs.{OutOfIndexes, OutOfMemory, TooLarge};
+ghost use Rattle.{delaunay_legalization.specs.state_of, half_edge_links.specs.HasRoomFor};
 
+use delaunay_core::math::InsertionError;
 use delaunay_legalization::EdgeSet;
-use delaunay_legalization::delaunay_core::math::InsertionError;
-use delaunay_legalization::half_edge_dcel::{Dcel, MAX_ELEMENTS, ReserveError};
+use half_edge_dcel::Dcel;
+use half_edge_links::{MAX_ELEMENTS, ReserveError};
 
 /// Makes room for so many more vertices, with the edges and faces that they can bring, and for the
 /// edges that a legalization may list, which it does unless the triangulation is free of

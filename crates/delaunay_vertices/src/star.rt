@@ -1,15 +1,15 @@
 //! The edges round a vertex, and turns of them.
 ghost use Rattle.std.specs.Prelude.{◌≡◌, ◌↔◌, ◌<◌, length, IsTrue, vec_capacity, vec_len};
-ghost use Rattle.delaunay_legalization.specs.half_edge_links.Mesh.{origin, next, face, rev};
-ghost use Rattle.delaunay_legalization.specs.half_edge_links.Peel.{turn};
-ghost use Rattle.delaunay_legalization.specs.half_edge_links.Round.{IsRound};
+ghost use Rattle.half_edge_links.specs.{face, IsRound, next, origin, rev, turn};
 ghost use Rattle.delaunay_vertices.specs.Star.{MayTurnAway, TurnsAway};
 
-use crate::pairs::{VertexPair, ends_beside};
+use crate::VertexPair;
+use crate::pairs::ends_beside;
+use delaunay_core::point::HasPosition;
 pub(crate) use delaunay_legalization::ccw_edge;
-use delaunay_legalization::delaunay_core::point::HasPosition;
-use delaunay_legalization::half_edge_dcel::{Dcel, FixedDirectedEdgeHandle, MeshViews};
 use delaunay_legalization::is_outer;
+use half_edge_dcel::{Dcel, MeshViews};
+use half_edge_links::FixedDirectedEdgeHandle;
 
 // The edge before an edge round the vertex where it starts: before the one with the outer face on
 // its right, the last one.

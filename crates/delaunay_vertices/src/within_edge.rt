@@ -1,15 +1,15 @@
 //! A new vertex within an edge.
 ghost use Rattle.std.specs.Prelude.{◌+◌, ◌*◌, ◌/◌, ◌<◌, length, map, Contains};
-ghost use Rattle.delaunay_legalization.specs.half_edge_links.Room.{HasRoomFor};
+ghost use Rattle.half_edge_links.specs.{HasRoomFor};
+ghost use Rattle.delaunay_legalization.specs.{IsWithinEdge, state_of};
 ghost use Rattle.delaunay_vertices.specs.Constraints.{IsOneIf, SplitsConstraints};
 ghost use Rattle.delaunay_vertices.specs.Growth.{CanTake, GainsVertex};
-ghost use Rattle.delaunay_legalization.specs.Parts.{IsWithinEdge};
-ghost use Rattle.delaunay_legalization.specs.State.{state_of};
 
-use crate::free_by_default::FreeByDefault;
-use delaunay_legalization::delaunay_core::point::HasPosition;
-use delaunay_legalization::half_edge_dcel::{Dcel, FixedDirectedEdgeHandle, FixedVertexHandle};
+use crate::FreeByDefault;
+use delaunay_core::point::HasPosition;
 use delaunay_legalization::{is_constraint_edge, is_outer, make_constraint};
+use half_edge_dcel::Dcel;
+use half_edge_links::{FixedDirectedEdgeHandle, FixedVertexHandle};
 
 /// Splits an edge at a vertex strictly within it, joins the vertex to the corner opposite the edge
 /// in each inner face beside it, and gives its handle, and how many more edges are constraints:

@@ -8,19 +8,12 @@ use Rattle.std.specs.Prelude.{ℤ, All}
 use Rattle.std.specs.Borrow.{Bor}
 use Rattle.std.proofs.lemmas.List.{map_more}
 use Rattle.std.proofs.lemmas.List.Elements.{All-append, All-nil}
-use Rattle.delaunay_interface.specs.half_edge_dcel.Contents.{Contents}
-use Rattle.delaunay_interface.specs.plane.Fraction.{Point}
-use Rattle.delaunay_interface.specs.plane.Line.{Item, at_vertex, across, along}
-use Rattle.delaunay_interface.specs.delaunay_core.declared.point.Point2.{Point2}
-use Rattle.delaunay_interface.specs.delaunay_legalization.State.{State, state_of}
-use Rattle.delaunay_interface.specs.delaunay_location.declared.intersection.Intersection.{Intersection}
-use Rattle.delaunay_interface.specs.delaunay_location.declared.iterator.LineIntersectionIterator.{LineIntersectionIterator}
-use Rattle.delaunay_interface.specs.delaunay_location.Items.{item_in, mesh_of}
-use Rattle.delaunay_interface.specs.delaunay_location.Walk.{AreLeft, GivesNext, IsReady}
-use Rattle.delaunay_interface.specs.delaunay_location.Walk.{WalksBetween}
-use Rattle.drawing_faces.specs.declared.edits.DrawnSegment.{DrawnSegment}
-use Rattle.drawing_faces.specs.Drawing.{ends_of}
-use Rattle.drawing_faces.specs.Names.{position}
+use Rattle.plane.specs.{across, along, at_vertex, Item, Point}
+use Rattle.{delaunay_core.specs.Point2, half_edge_dcel.specs.Contents}
+use Rattle.{delaunay_legalization.specs.State.State, delaunay_legalization.specs.state_of}
+use Rattle.delaunay_location.specs.{AreLeft, GivesNext, Intersection, IsReady, item_in}
+use Rattle.delaunay_location.specs.{LineIntersectionIterator, mesh_of, Walk.WalksBetween}
+use Rattle.drawing_faces.specs.{DrawnSegment, ends_of, position}
 use Rattle.drawing_faces.specs.Sides.{AddsBeside, AddsOnLeft, AreBeside, AreOnLeft}
 
 -- ---- items

@@ -11,14 +11,11 @@ use Rattle.std.proofs.lemmas.List.{get_or-set_same, get_or-set_other, length-set
 use Rattle.std.proofs.lemmas.List.Elements.{Contains-push, Contains-push_cases}
 use Rattle.std.proofs.lemmas.List.Elements.{Contains-append_left}
 use Rattle.std.proofs.lemmas.List.Sums.{sum_by-append}
-use Rattle.delaunay_interface.specs.half_edge_links.Mesh.{Mesh, face, rev, AreSoundLinks}
-use Rattle.delaunay_interface.proofs.half_edge_links_lemmas.Lists.Rev.{rev_within}
-use Rattle.delaunay_interface.proofs.plane.Indexes.{below_or_last}
-use Rattle.delaunay_interface.proofs.plane_theorems.Tiling.Totals.{get_or_any}
-use Rattle.delaunay_queries.specs.Layers.{AreLayers, Leads, crossed, is_constrained}
-use Rattle.delaunay_queries.specs.Search.{weight}
-use Rattle.drawing_faces.specs.Flood.{Enters, IsFlood, IsReached, MarkOpenFaces}
-use Rattle.drawing_faces.specs.Kept.{IsOpenFace}
+use Rattle.plane.proofs.{below_or_last}
+use Rattle.half_edge_links.specs.{AreSoundLinks, face, Mesh, rev}
+use Rattle.{half_edge_links.proofs.rev_within, plane_theorems.proofs.get_or_any}
+use Rattle.delaunay_queries.specs.{AreLayers, crossed, is_constrained, Leads, weight}
+use Rattle.drawing_faces.specs.{Flood.Enters, IsFlood, IsReached, Kept.IsOpenFace, MarkOpenFaces}
 
 -- whether a face was reached
 told : (reached : List ℕ) (f : ℕ) → IsReached reached f ⊎ (¬ IsReached reached f)

@@ -6,17 +6,10 @@ use Rattle.std.proofs.Common.{append-nil, append_assoc}
 use Rattle.std.specs.Prelude.{ℤ, All}
 use Rattle.std.proofs.lemmas.List.{take_more}
 use Rattle.std.proofs.lemmas.List.Elements.{All-append}
-use Rattle.delaunay_interface.specs.delaunay_core.declared.point.Point2.{Point2}
-use Rattle.delaunay_interface.specs.delaunay_legalization.State.{State}
-use Rattle.delaunay_interface.specs.delaunay_location.declared.position_in_triangulation.PositionInTriangulation.{PositionInTriangulation}
-use Rattle.delaunay_interface.specs.delaunay_location.declared.position_in_triangulation.PositionInTriangulation.TheVariants.{
-  OnVertex,
-  OnEdge,
-  OnFace,
-  OutsideOfConvexHull,
-  NoTriangulation,
-}
-use Rattle.drawing_faces.specs.Holes.{AddsFacesAt, AreIn, IsIn, IsInNoFace}
+use Rattle.{delaunay_core.specs.Point2, delaunay_location.specs.PositionInTriangulation}
+use Rattle.delaunay_legalization.specs.State.{State}
+use Rattle.delaunay_location.specs.{NoTriangulation, OnEdge, OnFace, OnVertex, OutsideOfConvexHull}
+use Rattle.drawing_faces.specs.{AreIn, Holes.AddsFacesAt, Holes.IsIn, Holes.IsInNoFace}
 
 -- a position that is on no edge, in no face and not outside is in no face and beside none
 pub in_no_face : (at : PositionInTriangulation) → ((e : ℕ) → at ≡ OnEdge e → ⊥)

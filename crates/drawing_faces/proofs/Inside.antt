@@ -6,8 +6,7 @@ use Rattle.std.proofs.Common.{ap, arith}
 use Rattle.std.proofs.Common.{append-nil, append_assoc, length-drop, eq-eqb, if◌then◌else◌}
 use Rattle.std.proofs.lemmas.Bool.{ne_eqb}
 use Rattle.std.proofs.lemmas.List.{at_drop_more}
-use Rattle.drawing_faces.specs.declared.faces.FaceCorners.{FaceCorners}
-use Rattle.drawing_faces.specs.Drawing.{faces_inside}
+use Rattle.drawing_faces.specs.{FaceCorners, faces_inside}
 
 -- where there is no face, or no layer, there is none
 none_inside : (ns : List ℕ) (fs : List FaceCorners) → (length fs ≡ 0) ⊎ (length ns ≡ 0)

@@ -6,19 +6,12 @@ use Rattle.std.proofs.Common.{refl, sym, ap, subst, inl, inr, arith, eq-eqb, if�
 use Rattle.std.specs.Prelude.{ℤ}
 use Rattle.std.proofs.lemmas.Bool.{cases_eq, ne_eqb}
 use Rattle.std.proofs.lemmas.List.{length-map}
-use Rattle.delaunay_interface.specs.half_edge_links.Mesh.{Mesh}
-use Rattle.delaunay_interface.specs.half_edge_links.Triangles.{triangles, triangle_at}
-use Rattle.delaunay_interface.specs.delaunay_legalization.Drawn.{corners_of}
-use Rattle.delaunay_interface.specs.plane.Tiling.{Face}
-use Rattle.delaunay_interface.specs.delaunay_core.declared.point.Point2.{Point2}
-use Rattle.delaunay_interface.specs.delaunay_legalization.State.{State, triangulation_of}
-use Rattle.drawing_faces.specs.declared.faces.FaceCorners.{FaceCorners}
-use Rattle.drawing_faces.specs.declared.faces.Kept.TheVariants.{All, Inside}
-use Rattle.drawing_faces.specs.Flood.{MarkOpenFaces}
-use Rattle.drawing_faces.specs.Kept.{AreKept, IsLeftOut}
-use Rattle.drawing_faces.proofs.Flooding.{told_open}
-use Rattle.drawing_faces.specs.Names.{places_of, position}
-use Rattle.drawing_faces.specs.Drawing.{face_of, faces_inside}
+use Rattle.half_edge_links.specs.{Mesh, triangle_at, triangles}
+use Rattle.{delaunay_core.specs.Point2, drawing_faces.specs.declared.faces.Kept.TheVariants.Inside}
+use Rattle.delaunay_legalization.specs.{corners_of, State.State, triangulation_of}
+use Rattle.drawing_faces.specs.{All, AreKept, face_of, FaceCorners, faces_inside, IsLeftOut}
+use Rattle.drawing_faces.specs.{MarkOpenFaces, places_of, position}
+use Rattle.{drawing_faces.proofs.Flooding.told_open, plane.specs.Face}
 
 -- where no face is left out, all are kept
 all_kept : (m : Mesh) (constraints starts : List ℕ) (n : ℕ) (fs : List Face)

@@ -12,12 +12,10 @@ use Rattle.std.proofs.lemmas.List.{set-get_or}
 use Rattle.std.proofs.lemmas.List.Elements.{Contains-push, Contains-push_cases}
 use Rattle.std.proofs.lemmas.List.Elements.{Contains-append_left}
 use Rattle.std.proofs.lemmas.List.Sums.{sum_by-set}
-use Rattle.delaunay_interface.specs.half_edge_links.Mesh.{Mesh, next, prev, face_edge}
-use Rattle.delaunay_interface.specs.half_edge_links.Mesh.{AreSoundLinks}
-use Rattle.delaunay_interface.proofs.plane_theorems.Tiling.Totals.{get_or_any}
-use Rattle.delaunay_queries.specs.Search.{IsSideOf, weight}
-use Rattle.delaunay_queries.proofs.Searching.{three_sides}
-use Rattle.drawing_faces.specs.Flood.{Enters, IsReached, ListsFree, flood_left}
+use Rattle.half_edge_links.specs.{AreSoundLinks, face_edge, Mesh, next, prev}
+use Rattle.delaunay_queries.specs.{IsSideOf, weight}
+use Rattle.{delaunay_queries.proofs.Searching.three_sides, plane_theorems.proofs.get_or_any}
+use Rattle.drawing_faces.specs.{Flood.Enters, Flood.flood_left, Flood.ListsFree, IsReached}
 
 -- ---- lists of edges
 module _ (constraints : List ℕ) where

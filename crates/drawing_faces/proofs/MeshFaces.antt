@@ -7,11 +7,9 @@ use Rattle.std.specs.List.{range_with_len}
 use Rattle.std.proofs.lemmas.List.{get_or-map, length-map, same_lists}
 use Rattle.std.proofs.Math.ListN.{get_or-map as get_or-map-default}
 use Rattle.std.proofs.lemmas.List.FromFn.{get_or-map-range_with_len, length-map-range_with_len}
-use Rattle.delaunay_interface.specs.half_edge_links.Mesh.{Mesh, face_edge}
-use Rattle.delaunay_interface.specs.half_edge_links.Triangles.{Triangle, triangle_at, triangles}
-use Rattle.delaunay_interface.specs.delaunay_legalization.Drawn.{corners_of}
-use Rattle.drawing_faces.specs.declared.faces.FaceCorners.{FaceCorners}
-use Rattle.drawing_faces.specs.Drawing.{face_of, indexes_of, indexes_at}
+use Rattle.half_edge_links.specs.{face_edge, Mesh, Triangle, triangle_at, triangles}
+use Rattle.delaunay_legalization.specs.{corners_of}
+use Rattle.drawing_faces.specs.{Drawing.indexes_of, face_of, FaceCorners, indexes_at}
 
 module _ (m : Mesh) where
   row_same : (k : ℕ) (d : FaceCorners) → k < length m.face_edges

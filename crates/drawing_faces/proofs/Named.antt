@@ -10,18 +10,12 @@ use Rattle.std.proofs.lemmas.List.{length-map, length-set, length_push, map-set}
 use Rattle.std.proofs.lemmas.List.{get_or-map, get_or_append_left, get_or_push, set-get_or}
 use Rattle.std.proofs.lemmas.Option.{slice_get-get_or, slice_get_within, get_or_from_slice_get}
 use Rattle.std.proofs.Math.ListN.{set}
-use Rattle.delaunay_interface.specs.plane.Fraction.{Point}
-use Rattle.delaunay_interface.specs.plane.Plain.{Plain, DifferInPosition, Inserts, Replaces, Run}
-use Rattle.delaunay_interface.specs.plane.Plain.{insert, points_of}
-use Rattle.delaunay_interface.proofs.plane.Indexes.{below_or_last, less_or_more}
-use Rattle.delaunay_interface.specs.delaunay_core.declared.point.Point2.{Point2}
-use Rattle.delaunay_interface.specs.delaunay_legalization.Constraints.{points_and_constraints_by}
-use Rattle.delaunay_interface.specs.delaunay_legalization.Known.{IsKnown, point_at}
-use Rattle.delaunay_interface.specs.delaunay_legalization.State.{State}
-use Rattle.delaunay_interface.specs.delaunay_edit.Headline.{IsWellFormed}
-use Rattle.delaunay_bulk.specs.Bulk.{HaveHandles, InsertsAll, IsAt}
-use Rattle.delaunay_journal.proofs.Inserted.{appended_points}
-use Rattle.drawing_faces.specs.Names.{AreFirsts, NamesVertices, position}
+use Rattle.plane.specs.{DifferInPosition, insert, Inserts, Plain, Point, points_of, Replaces, Run}
+use Rattle.{delaunay_core.specs.Point2, delaunay_journal.proofs.Inserted.appended_points}
+use Rattle.delaunay_legalization.specs.{IsKnown, point_at, points_and_constraints_by, State.State}
+use Rattle.{delaunay_edit.specs.IsWellFormed, plane.proofs.below_or_last, plane.proofs.less_or_more}
+use Rattle.delaunay_bulk.specs.{HaveHandles, InsertsAll, IsAt}
+use Rattle.drawing_faces.specs.{Names.AreFirsts, Names.NamesVertices, position}
 
 -- ---- where vertices come from
 module _ {V : Type 0} (place : V → Point) where

@@ -10,25 +10,17 @@ use Rattle.std.specs.Result.{IsErrAnd, IsOk, is_err}
 use Rattle.std.proofs.lemmas.List.{get_or-map, length-map}
 use Rattle.std.proofs.lemmas.List.Elements.{All-from_get_or, All-get_or, All-weaker}
 use Rattle.std.proofs.lemmas.Option.{slice_get-get_or}
-use Rattle.delaunay_interface.specs.half_edge_links.declared.room.TheConstants.{MAX_ELEMENTS}
-use Rattle.delaunay_interface.specs.plane.Fraction.{Point}
-use Rattle.delaunay_interface.specs.plane.Tests.{InRange}
-use Rattle.delaunay_interface.specs.delaunay_core.declared.math.InsertionError.{InsertionError}
-use Rattle.delaunay_interface.specs.delaunay_core.declared.math.InsertionError.TheVariants as insertion
-use Rattle.delaunay_interface.specs.delaunay_core.declared.point.Point2.{Point2}
-use Rattle.delaunay_interface.specs.delaunay_legalization.Known.{point_at}
-use Rattle.delaunay_interface.specs.delaunay_legalization.State.{State}
-use Rattle.delaunay_bulk.specs.declared.error.BulkInsertionError.{BulkInsertionError}
-use Rattle.delaunay_bulk.specs.declared.error.BulkInsertionError.TheVariants.{Vertex, NoRoom}
-use Rattle.delaunay_bulk.specs.Bulk.{HaveHandles, IsAt, RefusesWhere, StopsAt}
-use Rattle.drawing_faces.specs.declared.error.DrawingError.{DrawingError}
+use Rattle.half_edge_links.specs.{MAX_ELEMENTS}
+use Rattle.delaunay_core.specs.{InsertionError, Point2}
+use Rattle.{delaunay_legalization.specs.point_at, plane.specs.InRange, plane.specs.Point}
+use Rattle.{delaunay_legalization.specs.State.State, drawing_faces.proofs.Named.handle_below}
+use Rattle.delaunay_bulk.specs.{BulkInsertionError, HaveHandles, IsAt, NoRoom, RefusesWhere}
+use Rattle.delaunay_bulk.specs.{StopsAt, Vertex}
+use Rattle.drawing_faces.specs.{AreIn, DrawingError, DrawnSegment, HasEnds, MayTake, position}
+use Rattle.drawing_faces.specs.{Holes.RefusesHole, Holes.RefusesHoles, RefusesEnds, RefusesPoints}
+use Rattle.drawing_faces.specs.Refusals.{bulk_fault, EndsAtPoints}
+use Rattle.delaunay_core.specs.declared.math.InsertionError.TheVariants as insertion
 use Rattle.drawing_faces.specs.declared.error.DrawingError.TheVariants as error
-use Rattle.drawing_faces.specs.declared.edits.DrawnSegment.{DrawnSegment}
-use Rattle.drawing_faces.specs.Holes.{AreIn, RefusesHole, RefusesHoles}
-use Rattle.drawing_faces.specs.Names.{position}
-use Rattle.drawing_faces.specs.Refusals.{EndsAtPoints, HasEnds, MayTake, RefusesEnds, RefusesPoints}
-use Rattle.drawing_faces.specs.Refusals.{bulk_fault}
-use Rattle.drawing_faces.proofs.Named.{handle_below}
 
 -- ---- what an error says
 -- a result is this error, of which something holds

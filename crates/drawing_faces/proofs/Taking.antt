@@ -5,23 +5,14 @@ use Rattle.std.proofs.Common.{ℕ, suc, List, length, map, take, get_or, refl, s
 use Rattle.std.proofs.Common.{inl, inr, arith}
 use Rattle.std.specs.Prelude.{Bool, Result, Ok, Err, IfOk, OnOk, All}
 use Rattle.std.proofs.lemmas.List.{map_more}
-use Rattle.delaunay_interface.specs.plane.Fraction.{Point}
-use Rattle.delaunay_interface.specs.plane.Crossing.{Cross}
-use Rattle.delaunay_interface.specs.plane.Pairs.{Joins, place}
-use Rattle.delaunay_interface.specs.plane.Plain.{Adds, AreNeighboursOn, CanAdd}
-use Rattle.delaunay_interface.specs.delaunay_legalization.Constraints.{constraints_by}
-use Rattle.delaunay_interface.specs.delaunay_legalization.Constraints.{points_and_constraints_by}
-use Rattle.delaunay_interface.specs.delaunay_legalization.State.{State}
-use Rattle.delaunay_journal.specs.declared.edit.Edit.{Edit}
-use Rattle.delaunay_journal.specs.declared.edit.Edit.TheVariants.{AddConstraint}
-use Rattle.delaunay_journal.specs.declared.edit.Outcome.{Outcome}
-use Rattle.delaunay_journal.specs.declared.edit.Outcome.TheVariants.{Added, Refused}
-use Rattle.delaunay_journal.specs.declared.edit.Refusal.TheVariants.{Conflict}
-use Rattle.delaunay_journal.specs.Journal.{Replays}
+use Rattle.plane.specs.{Adds, AreNeighboursOn, CanAdd, Cross, Joins, place, Point}
+use Rattle.delaunay_legalization.specs.{constraints_by, points_and_constraints_by, State.State}
+use Rattle.delaunay_journal.specs.{AddConstraint, Added, Edit, Outcome, Refused}
+use Rattle.delaunay_journal.specs.{declared.edit.Refusal.TheVariants.Conflict, Journal.Replays}
 use Rattle.delaunay_journal.specs.Marking.{Marking}
-use Rattle.drawing_faces.specs.declared.edits.DrawnSegment.{DrawnSegment}
+use Rattle.drawing_faces.specs.{DrawnSegment, ends_of}
+use Rattle.drawing_faces.specs.Drawing.{is_taken, IsDecided, joining_of}
 use Rattle.drawing_faces.specs.Segments.{AddsSegments, AreOnTaken, AreTaken, IsUncrossed}
-use Rattle.drawing_faces.specs.Drawing.{IsDecided, ends_of, is_taken, joining_of}
 
 -- ---- one of two or of three
 first_by : {A B C : Type 0} → (A → B) → A ⊎ C → B ⊎ C

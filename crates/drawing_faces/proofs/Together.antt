@@ -3,23 +3,15 @@
 use Rattle.std.proofs.Common.{◌≡◌, ◌⊎◌, ◌↔◌, [], ◌∙◌}
 use Rattle.std.proofs.Common.{ℕ, List, length, map, sym, ap, subst, inl, inr, refl, arith}
 use Rattle.std.specs.Prelude.{ℤ, Bool, All}
-use Rattle.delaunay_interface.specs.plane.Pairs.{Joins}
-use Rattle.delaunay_interface.specs.delaunay_core.declared.point.Point2.{Point2}
-use Rattle.delaunay_interface.specs.delaunay_legalization.declared.cdt_edge.CdtEdge.{CdtEdge}
-use Rattle.delaunay_interface.specs.delaunay_legalization.Constraints.{constraints_by}
-use Rattle.delaunay_interface.specs.delaunay_legalization.State.{State}
-use Rattle.delaunay_interface.specs.delaunay_edit.Constrained.{constraint_edges, constraints_of}
-use Rattle.delaunay_interface.specs.delaunay_edit.Headline.{IsDelaunay}
-use Rattle.delaunay_bulk.specs.Bulk.{HaveHandles}
-use Rattle.drawing_faces.specs.declared.edits.DrawnSegment.{DrawnSegment}
-use Rattle.drawing_faces.specs.declared.error.DrawingError.{DrawingError}
-use Rattle.drawing_faces.specs.declared.error.DrawingError.TheVariants.{NoPoint, OutOfMemory}
-use Rattle.drawing_faces.specs.Drawing.{HasDrawing, IsDrawingOf, RefusesDrawing, ends_of}
-use Rattle.drawing_faces.specs.Drawing.{memory_refused, segment_of_none, side_of_none}
-use Rattle.drawing_faces.specs.Holes.{AreIn}
-use Rattle.drawing_faces.specs.Names.{NamesVertices, position}
-use Rattle.drawing_faces.specs.Refusals.{HasEnds, MayTake, RefusesEnds}
+use Rattle.delaunay_legalization.specs.{constraints_by, declared.cdt_edge.CdtEdge.CdtEdge}
+use Rattle.{delaunay_legalization.specs.State.State, drawing_faces.specs.Names.NamesVertices}
+use Rattle.delaunay_edit.specs.{constraint_edges, constraints_of, IsDelaunay}
+use Rattle.{delaunay_bulk.specs.HaveHandles, delaunay_core.specs.Point2}
+use Rattle.drawing_faces.specs.{AreIn, DrawingError, DrawnSegment, ends_of, HasEnds, MayTake}
+use Rattle.drawing_faces.specs.{memory_refused, OutOfMemory, position, RefusesDrawing, RefusesEnds}
+use Rattle.drawing_faces.specs.Drawing.{HasDrawing, IsDrawingOf, segment_of_none, side_of_none}
 use Rattle.drawing_faces.specs.Segments.{AddsSegments, AreOnTaken, AreTaken}
+use Rattle.{drawing_faces.specs.declared.error.DrawingError.TheVariants.NoPoint, plane.specs.Joins}
 use Rattle.drawing_faces.proofs.Refusing.{all_end_at_points, not_all_have_ends}
 
 module _ {D U F : Type 0} (constraints : List U → List ℕ) (points : List (Point2 ℤ))

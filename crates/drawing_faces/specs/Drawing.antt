@@ -1,34 +1,22 @@
 -- The triangulation of a drawing.
 use Rattle.std.specs.Prelude.{◌≡◌, ◌↔◌, [], ◌∷◌, ◌++◌, ℕ, ℤ, Bool, true, false, List, length, map}
 use Rattle.std.specs.Prelude.{All, slice_index, if◌then◌else◌, nat_eq}
-use Rattle.delaunay_interface.specs.half_edge_links.Mesh.{Mesh, face_edge}
-use Rattle.delaunay_interface.specs.half_edge_links.Triangles.{Triangle, triangle_at}
-use Rattle.delaunay_interface.specs.plane.Pairs.{Joins}
-use Rattle.delaunay_interface.specs.plane.Tiling.{Face, face}
-use Rattle.delaunay_interface.specs.delaunay_core.declared.point.Point2.{Point2}
-use Rattle.delaunay_interface.specs.delaunay_legalization.declared.cdt_edge.CdtEdge.{CdtEdge}
-use Rattle.delaunay_interface.specs.delaunay_legalization.State.{State, triangulation_of}
-use Rattle.delaunay_interface.specs.delaunay_edit.Constrained.{constraint_edges, constraints_of}
-use Rattle.delaunay_interface.specs.delaunay_edit.Headline.{IsDelaunay}
-use Rattle.delaunay_bulk.specs.Bulk.{HaveHandles}
-use Rattle.delaunay_journal.specs.declared.edit.Edit.{Edit}
-use Rattle.delaunay_journal.specs.declared.edit.Edit.TheVariants.{AddConstraint}
-use Rattle.delaunay_journal.specs.declared.edit.Outcome.{Outcome}
-use Rattle.delaunay_journal.specs.declared.edit.Outcome.TheVariants.{Added, Refused}
+use Rattle.half_edge_links.specs.{face_edge, Mesh, Triangle, triangle_at}
+use Rattle.{delaunay_core.specs.Point2, drawing_faces.specs.declared.faces.FaceCorners.FaceCorners}
+use Rattle.delaunay_legalization.specs.{declared.cdt_edge.CdtEdge.CdtEdge, triangulation_of}
+use Rattle.delaunay_legalization.specs.State.{State}
+use Rattle.delaunay_edit.specs.{constraint_edges, constraints_of, IsDelaunay}
+use Rattle.delaunay_journal.specs.{AddConstraint, Added, Edit, Outcome, Refused}
 use Rattle.delaunay_journal.specs.declared.edit.Refusal.TheVariants.{Conflict}
-use Rattle.drawing_faces.specs.declared.error.DrawingError.{DrawingError}
-use Rattle.drawing_faces.specs.declared.error.DrawingError.TheVariants.{NoPoint}
-use Rattle.drawing_faces.specs.declared.error.DrawingError.TheVariants.{OutOfMemory}
-use Rattle.drawing_faces.specs.declared.edits.DrawnSegment.{DrawnSegment}
-use Rattle.drawing_faces.specs.declared.faces.FaceCorners.{FaceCorners}
-use Rattle.drawing_faces.specs.declared.faces.Kept.{Kept}
-use Rattle.drawing_faces.specs.declared.drawn.DrawnMesh.{DrawnMesh}
-use Rattle.drawing_faces.specs.Holes.{AreIn, RefusesHoles}
+use Rattle.{delaunay_bulk.specs.HaveHandles, plane.specs.Face, plane.specs.face, plane.specs.Joins}
+use Rattle.drawing_faces.specs.{declared.drawn.DrawnMesh.DrawnMesh, Holes.AreIn, Holes.RefusesHoles}
 use Rattle.drawing_faces.specs.Kept.{AreKept, IsLeftOut}
 use Rattle.drawing_faces.specs.Names.{NamesVertices, places_of, position}
 use Rattle.drawing_faces.specs.Refusals.{EndsAtPoints, MayTake, RefusesPoints}
 use Rattle.drawing_faces.specs.Segments.{AreOnTaken, AreTaken}
-use Rattle.drawing_faces.specs.Sides.{AreBeside}
+use Rattle.drawing_faces.specs.{declared.error.DrawingError.DrawingError, Sides.AreBeside}
+use Rattle.drawing_faces.specs.{declared.edits.DrawnSegment.DrawnSegment, declared.faces.Kept.Kept}
+use Rattle.drawing_faces.specs.declared.error.DrawingError.TheVariants.{NoPoint, OutOfMemory}
 
 -- a face of the tiling, by its corners
 abbrev pub face_of : FaceCorners → Face

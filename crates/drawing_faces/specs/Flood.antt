@@ -2,8 +2,8 @@
 use Rattle.std.specs.Prelude.{◌≡◌, ◌⊎◌, ◌+◌, ◌*◌, ◌<◌, ℕ, not, nat_eq, List, length}
 use Rattle.std.specs.Prelude.{Contains, slice_index_or, slice_set}
 use Rattle.std.specs.List.{count_by}
-use Rattle.delaunay_interface.specs.half_edge_links.Mesh.{Mesh, face, rev}
-use Rattle.delaunay_queries.specs.Search.{IsSideOf, weight}
+use Rattle.half_edge_links.specs.{face, Mesh, rev}
+use Rattle.delaunay_queries.specs.{IsSideOf, weight}
 use Rattle.drawing_faces.specs.Kept.{IsOpenFace}
 
 -- face f was reached: a 0 stands at its place

@@ -1,24 +1,14 @@
 -- The faces that points in holes are in, and why one of them is refused.
 use Rattle.std.specs.Prelude.{◌≡◌, ◌≤◌, ◌/◌, [], ◌∷◌, ◌++◌, ℕ, ℤ, List, length, take, All, Contains}
 use Rattle.std.specs.Prelude.{Some, slice_get}
-use Rattle.delaunay_interface.specs.half_edge_links.Mesh.{Mesh, face, rev}
-use Rattle.delaunay_interface.specs.plane.Tests.{InRange}
-use Rattle.delaunay_interface.specs.delaunay_core.declared.point.Point2.{Point2}
-use Rattle.delaunay_interface.specs.delaunay_legalization.State.{State}
-use Rattle.delaunay_interface.specs.delaunay_location.declared.position_in_triangulation.PositionInTriangulation.{PositionInTriangulation}
-use Rattle.delaunay_interface.specs.delaunay_location.declared.position_in_triangulation.PositionInTriangulation.TheVariants.{
-  OnVertex,
-  OnEdge,
-  OnFace,
-  OutsideOfConvexHull,
-  NoTriangulation,
-}
-use Rattle.delaunay_interface.specs.delaunay_edit.Elements.{FindsLocation}
-use Rattle.drawing_faces.specs.declared.error.DrawingError.{DrawingError}
-use Rattle.drawing_faces.specs.declared.error.DrawingError.TheVariants.{HoleTooLarge}
-use Rattle.drawing_faces.specs.declared.error.DrawingError.TheVariants.{HoleOnSegment}
-use Rattle.drawing_faces.specs.declared.error.DrawingError.TheVariants.{HoleInNoFace, OutOfMemory}
-use Rattle.drawing_faces.specs.Names.{position}
+use Rattle.plane.specs.{InRange}
+use Rattle.half_edge_links.specs.{face, Mesh, rev}
+use Rattle.{delaunay_core.specs.Point2, delaunay_legalization.specs.State.State}
+use Rattle.delaunay_location.specs.{NoTriangulation, OnEdge, OnFace, OnVertex, OutsideOfConvexHull}
+use Rattle.{delaunay_edit.specs.FindsLocation, delaunay_location.specs.PositionInTriangulation}
+use Rattle.drawing_faces.specs.{declared.error.DrawingError.DrawingError, Names.position}
+use Rattle.drawing_faces.specs.declared.error.DrawingError.TheVariants.{HoleInNoFace, HoleOnSegment}
+use Rattle.drawing_faces.specs.declared.error.DrawingError.TheVariants.{HoleTooLarge, OutOfMemory}
 
 -- a position is on one of these undirected edges, which are the constraints
 abbrev pub IsOnConstraint : List ℕ → PositionInTriangulation → Type 0

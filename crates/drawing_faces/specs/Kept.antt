@@ -1,9 +1,7 @@
 -- Which faces are kept.
 use Rattle.std.specs.Prelude.{◌≡◌, ◌⊎◌, [], ◌∷◌, ℕ, suc, List, Contains}
-use Rattle.delaunay_interface.specs.half_edge_links.Mesh.{Mesh}
-use Rattle.delaunay_interface.specs.plane.Tiling.{Face}
-use Rattle.delaunay_queries.specs.Layers.{Leads, crossed}
-use Rattle.drawing_faces.specs.declared.faces.Kept.{Kept}
+use Rattle.{delaunay_queries.specs.crossed, delaunay_queries.specs.Leads, plane.specs.Face}
+use Rattle.{drawing_faces.specs.declared.faces.Kept.Kept, half_edge_links.specs.Mesh}
 use Rattle.drawing_faces.specs.declared.faces.Kept.TheVariants.{All, Inside}
 
 -- a way to face f crosses no constraint, from the outer face or from one of others

@@ -6,3 +6,14 @@ pub mod Flood
 pub mod Holes
 pub mod Sides
 pub mod Drawing
+pub use Drawing.{ends_of, face_of, faces_inside, indexes_at, memory_refused, RefusesDrawing}
+pub use Flood.{IsFlood, IsReached, MarkOpenFaces}
+pub use Holes.{AreIn}
+pub use Kept.{AreKept, IsLeftOut}
+pub use Names.{places_of, position}
+pub use Refusals.{HasEnds, MayTake, RefusesEnds, RefusesPoints}
+pub use declared.edits.DrawnSegment.{DrawnSegment}
+pub use declared.error.DrawingError.{DrawingError}
+pub use declared.error.DrawingError.TheVariants.{OutOfMemory}
+pub use declared.faces.FaceCorners.{FaceCorners}
+pub use declared.faces.Kept.TheVariants.{All}

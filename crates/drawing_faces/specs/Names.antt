@@ -1,10 +1,7 @@
 -- Vertices and faces by the places of their points in a list.
 use Rattle.std.specs.Prelude.{◌≡◌, ◌<◌, ◌≤◌, [], ◌∷◌, ℕ, ℤ, List, length, map, slice_index}
-use Rattle.delaunay_interface.specs.plane.Fraction.{Point}
-use Rattle.delaunay_interface.specs.plane.Tiling.{Face}
-use Rattle.delaunay_interface.specs.delaunay_core.declared.point.Point2.{Point2}
-use Rattle.delaunay_interface.specs.delaunay_core.Place.{place_of}
-use Rattle.delaunay_interface.specs.delaunay_legalization.Known.{point_at}
+use Rattle.delaunay_core.specs.{place_of, Point2}
+use Rattle.{delaunay_legalization.specs.point_at, plane.specs.Face, plane.specs.Point}
 
 -- where a point is
 abbrev pub position : Point2 ℤ → Point

@@ -1,18 +1,14 @@
 -- Why points and segments of a drawing are refused. Memory may be refused at any step.
 use Rattle.std.specs.Prelude.{◌+◌, ◌*◌, ◌<◌, ℕ, ℤ, List, length, All, slice_index}
-use Rattle.delaunay_interface.specs.half_edge_links.declared.room.TheConstants.{MAX_ELEMENTS}
-use Rattle.delaunay_interface.specs.plane.Tests.{InRange}
-use Rattle.delaunay_interface.specs.delaunay_core.declared.math.InsertionError.{InsertionError}
-use Rattle.delaunay_interface.specs.delaunay_core.declared.math.InsertionError.TheVariants as insertion
-use Rattle.delaunay_interface.specs.delaunay_core.declared.point.Point2.{Point2}
-use Rattle.delaunay_bulk.specs.declared.error.BulkInsertionError.{BulkInsertionError}
-use Rattle.delaunay_bulk.specs.declared.error.BulkInsertionError.TheVariants as bulk
-use Rattle.delaunay_bulk.specs.Order.{IsFirstOutside}
+use Rattle.half_edge_links.specs.{MAX_ELEMENTS}
+use Rattle.{delaunay_core.specs.InsertionError, delaunay_core.specs.Point2, plane.specs.InRange}
+use Rattle.delaunay_bulk.specs.{BulkInsertionError, IsFirstOutside}
+use Rattle.drawing_faces.specs.{declared.edits.DrawnSegment.DrawnSegment, Names.position}
 use Rattle.drawing_faces.specs.declared.error.DrawingError.{DrawingError}
-use Rattle.drawing_faces.specs.declared.error.DrawingError.TheVariants.{TooLarge, TooMany}
 use Rattle.drawing_faces.specs.declared.error.DrawingError.TheVariants.{NoPoint, OutOfMemory}
-use Rattle.drawing_faces.specs.declared.edits.DrawnSegment.{DrawnSegment}
-use Rattle.drawing_faces.specs.Names.{position}
+use Rattle.drawing_faces.specs.declared.error.DrawingError.TheVariants.{TooLarge, TooMany}
+use Rattle.delaunay_core.specs.declared.math.InsertionError.TheVariants as insertion
+use Rattle.delaunay_bulk.specs.declared.error.BulkInsertionError.TheVariants as bulk
 
 -- ---- points
 -- the error of an insertion, as one of a drawing

@@ -1,11 +1,7 @@
 -- Which segments become constraints, one after another, and what they join.
 use Rattle.std.specs.Prelude.{◌≡◌, ◌⊎◌, ◌↔◌, [], ◌∷◌, ℕ, Bool, true, false, List, map}
-use Rattle.delaunay_interface.specs.plane.Fraction.{Point}
-use Rattle.delaunay_interface.specs.plane.Crossing.{Cross}
-use Rattle.delaunay_interface.specs.plane.Pairs.{Joins, place}
-use Rattle.delaunay_interface.specs.plane.Plain.{AreNeighboursOn}
-use Rattle.delaunay_interface.specs.delaunay_legalization.Constraints.{constraints_by}
-use Rattle.delaunay_interface.specs.delaunay_legalization.State.{State}
+use Rattle.plane.specs.{AreNeighboursOn, Cross, Joins, place, Point}
+use Rattle.{delaunay_legalization.specs.constraints_by, delaunay_legalization.specs.State.State}
 
 module _ {V : Type 0} (position : V → Point) (points : List Point) where
   -- no pair of these crosses the segment between two vertices

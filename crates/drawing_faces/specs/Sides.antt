@@ -1,12 +1,9 @@
 -- The faces beside the sides of holes.
 use Rattle.std.specs.Prelude.{◌≡◌, ◌<◌, ◌≤◌, [], ◌∷◌, ◌++◌, ℕ, ℤ, List, length, map, All}
-use Rattle.delaunay_interface.specs.half_edge_links.Mesh.{face, origin, rev}
-use Rattle.delaunay_interface.specs.plane.Fraction.{Fraction, whole}
-use Rattle.delaunay_interface.specs.plane.Line.{Item, at_vertex, across, along, IsLineList}
-use Rattle.delaunay_interface.specs.delaunay_core.declared.point.Point2.{Point2}
-use Rattle.delaunay_interface.specs.delaunay_legalization.Known.{point_at}
-use Rattle.delaunay_interface.specs.delaunay_legalization.State.{State, triangulation_of}
-use Rattle.drawing_faces.specs.Names.{position}
+use Rattle.plane.specs.{across, along, at_vertex, Fraction, IsLineList, Item, whole}
+use Rattle.half_edge_links.specs.{face, origin, rev}
+use Rattle.{delaunay_core.specs.Point2, drawing_faces.specs.Names.position}
+use Rattle.delaunay_legalization.specs.{point_at, State.State, triangulation_of}
 
 -- of what a way meets, the edges along which it goes, in its direction: the faces on their left
 abbrev pub AreOnLeft : {V D U F : Type 0} → State V D U F → List Item → List ℕ → Type 0

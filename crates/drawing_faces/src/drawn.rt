@@ -1,21 +1,18 @@
 //! The triangulation of a drawing, from its points and segments to the faces that are kept.
 ghost use Rattle.std.specs.Prelude.{◌≡◌, [], map, IfErr, IfOk, OnOk};
-ghost use Rattle.delaunay_interface.specs.delaunay_edit.Constrained.{constraints_of};
-ghost use Rattle.delaunay_bulk.specs.Bulk.{HaveHandles};
-ghost use Rattle.drawing_faces.specs.declared.error.DrawingError.TheVariants.{OutOfMemory};
+ghost use Rattle.{delaunay_bulk.specs.HaveHandles, delaunay_edit.specs.constraints_of};
+ghost use Rattle.drawing_faces.specs.Drawing.{IsDrawn, RefusesDrawing};
 ghost use Rattle.drawing_faces.specs.Names.{NamesVertices, position};
 ghost use Rattle.drawing_faces.specs.Refusals.{MayTake, RefusesPoints};
-ghost use Rattle.drawing_faces.specs.Drawing.{IsDrawn, RefusesDrawing};
+ghost use Rattle.drawing_faces.specs.declared.error.DrawingError.TheVariants.{OutOfMemory};
 
-use crate::edits::{DrawnSegment, add_segments, insert_points};
-use crate::error::DrawingError;
-use crate::faces::{Kept, kept_faces};
 use crate::holes::hole_faces;
 use crate::names::{first_places, name_corners};
 use crate::sides::add_side_faces;
-use delaunay_interface::delaunay_core::point::Point2;
-use delaunay_interface::half_edge_mesh::FixedVertexHandle;
+use crate::{DrawingError, DrawnSegment, Kept, add_segments, insert_points, kept_faces};
+use delaunay_core::point::Point2;
 use delaunay_interface::{ConstrainedDelaunayTriangulation, DelaunayTriangulation, Triangulation};
+use half_edge_links::FixedVertexHandle;
 use std::alloc::Global;
 
 /// The triangulation of points.

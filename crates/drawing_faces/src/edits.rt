@@ -1,20 +1,18 @@
 //! Points that are inserted, and segments between them that become constraints.
 ghost use Rattle.std.specs.Prelude.{◌≡◌, All, length, map, IfErr, IfOk, MatchOption, OnOk};
-ghost use Rattle.delaunay_interface.specs.delaunay_edit.Headline.{IsDelaunay};
-ghost use Rattle.delaunay_bulk.specs.Bulk.{InsertsAll};
-ghost use Rattle.drawing_faces.specs.declared.error.DrawingError.TheVariants.{OutOfMemory};
-ghost use Rattle.drawing_faces.specs.Names.{position};
+ghost use Rattle.{delaunay_bulk.specs.InsertsAll, delaunay_edit.specs.IsDelaunay};
+ghost use Rattle.drawing_faces.specs.Drawing.{ends_of, is_taken, IsDecided, joining_of};
+ghost use Rattle.drawing_faces.specs.{Names.position, Segments.AddsSegments};
 ghost use Rattle.drawing_faces.specs.Refusals.{HasEnds, MayTake, RefusesEnds, RefusesPoints};
-ghost use Rattle.drawing_faces.specs.Segments.{AddsSegments};
-ghost use Rattle.drawing_faces.specs.Drawing.{IsDecided, ends_of, is_taken, joining_of};
+ghost use Rattle.drawing_faces.specs.declared.error.DrawingError.TheVariants.{OutOfMemory};
 
-use crate::error::DrawingError;
+use crate::DrawingError;
 use delaunay_bulk::InsertAll;
+use delaunay_core::point::Point2;
 use delaunay_interface::Triangulation;
-use delaunay_interface::delaunay_core::point::Point2;
-use delaunay_interface::half_edge_mesh::FixedVertexHandle;
 use delaunay_journal::{Edit, Outcome, Refusal, Replayable, replay};
 use exact_predicates::ExactTests;
+use half_edge_links::FixedVertexHandle;
 use std::alloc::{AllocError, Global};
 
 /// The ends of a segment, by the places of its points in a list.

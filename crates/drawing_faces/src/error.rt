@@ -1,10 +1,10 @@
 //! Why a drawing was not triangulated.
 ghost use Rattle.std.specs.Prelude.{◌≡◌};
-ghost use Rattle.drawing_faces.specs.declared.error.DrawingError.TheVariants.{OutOfMemory};
 ghost use Rattle.drawing_faces.specs.Refusals.{bulk_fault, insertion_fault};
+ghost use Rattle.drawing_faces.specs.declared.error.DrawingError.TheVariants.{OutOfMemory};
 
 use delaunay_bulk::BulkInsertionError;
-use delaunay_interface::delaunay_core::math::InsertionError;
+use delaunay_core::math::InsertionError;
 use std::alloc::{AllocError, AllocFailed};
 use thiserror::Error;
 
@@ -13,26 +13,26 @@ use thiserror::Error;
 #[derive(Clone, Copy, Debug, PartialEq, Eq, Drop, Error)]
 pub enum DrawingError {
     /// A coordinate of a point passes 2^29.
-    #[error("a point is out of range")]
+    #[error("a point is out of range: a coordinate is more than 2^29 or less than -2^29")]
     TooLarge,
     /// Six times the number of points passes `MAX_ELEMENTS`.
-    #[error("there are more points than have indexes")]
+    #[error("there are too many points: 715827882 are the most")]
     TooMany,
     /// A segment or a hole's side ends at no place of the list of points.
-    #[error("a segment ends at no point")]
+    #[error("a segment ends at a point that is not in the list")]
     NoPoint,
     /// A coordinate of the point in a hole at this place of their list passes 2^29. The points
     /// before it are taken; so it is of the next two.
     #[error("the hole's point is out of range")]
     HoleTooLarge(usize),
     /// The point in a hole at this place is within an edge that is a constraint.
-    #[error("the hole's point is on a segment")]
+    #[error("the hole's point is on a segment: move it into the hole")]
     HoleOnSegment(usize),
     /// The point in a hole at this place is on a vertex, or there are fewer than two vertices.
-    #[error("the hole's point is in no face")]
+    #[error("the hole's point is in no face: move it into the hole")]
     HoleInNoFace(usize),
     /// Memory was refused, at any step.
-    #[error("memory was refused")]
+    #[error("there is not enough memory")]
     OutOfMemory,
 }
 

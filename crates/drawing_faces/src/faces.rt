@@ -1,17 +1,16 @@
 //! The faces of a triangulation.
 ghost use Rattle.std.specs.Prelude.{◌≡◌, ◌<◌, ◌≤◌, All, drop, length, map, IfOk};
-ghost use Rattle.delaunay_interface.specs.delaunay_legalization.State.{triangulation_of};
-ghost use Rattle.drawing_faces.specs.declared.faces.Kept.TheVariants.{Inside};
-ghost use Rattle.drawing_faces.specs.Flood.{MarkOpenFaces};
-ghost use Rattle.drawing_faces.specs.Kept.{AreKept, IsLeftOut};
-ghost use Rattle.drawing_faces.specs.Names.{position};
+ghost use Rattle.delaunay_legalization.specs.{triangulation_of};
 ghost use Rattle.drawing_faces.specs.Drawing.{face_of, faces_inside, indexes_at};
+ghost use Rattle.drawing_faces.specs.{declared.faces.Kept.TheVariants.Inside, Flood.MarkOpenFaces};
+ghost use Rattle.drawing_faces.specs.{Kept.AreKept, Kept.IsLeftOut, Names.position};
 
 use crate::flood::reach_faces;
+use delaunay_core::point::Point2;
 use delaunay_interface::Triangulation;
-use delaunay_interface::delaunay_core::point::Point2;
-use delaunay_interface::half_edge_mesh::{FaceHandle, FixedFaceHandle};
 use delaunay_queries::face_layers;
+use half_edge_dcel::FaceHandle;
+use half_edge_links::FixedFaceHandle;
 use std::alloc::{AllocError, Global};
 
 /// The vertices of a face, by index, against the clock.

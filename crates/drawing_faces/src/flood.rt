@@ -1,14 +1,12 @@
 //! A search for the faces that are reached past no constraint: face by face, from the outer face
 //! and from others.
 ghost use Rattle.std.specs.Prelude.{◌≡◌, ◌+◌, ◌<◌, ◌≤◌, ℕ, All, Contains, length, IfOk, OnOk};
-ghost use Rattle.delaunay_queries.specs.Layers.{AreLayers};
-ghost use Rattle.drawing_faces.specs.Flood.{Enters, IsFlood, IsReached, ListsFree, MarkOpenFaces};
-ghost use Rattle.drawing_faces.specs.Flood.{flood_left};
+ghost use Rattle.{delaunay_queries.specs.AreLayers, drawing_faces.specs.Flood.MarkOpenFaces};
+ghost use Rattle.drawing_faces.specs.Flood.{Enters, flood_left, IsFlood, IsReached, ListsFree};
 
-use delaunay_interface::delaunay_legalization::{ConstraintMarker, is_constraint_edge};
-use delaunay_interface::half_edge_mesh::{
-    Dcel, FixedDirectedEdgeHandle, FixedFaceHandle, MeshViews,
-};
+use delaunay_legalization::{ConstraintMarker, is_constraint_edge};
+use half_edge_dcel::{Dcel, MeshViews};
+use half_edge_links::{FixedDirectedEdgeHandle, FixedFaceHandle};
 use std::alloc::{AllocError, Global};
 
 // Faces by index, with 0 for those that were reached, and directed edges that lead on from these,

@@ -2,13 +2,14 @@
 ghost use Rattle.std.specs.Prelude.{◌≡◌, ◌≤◌, ◌++◌, All, length, IfErr, IfOk, OnOk};
 ghost use Rattle.drawing_faces.specs.Holes.{AddsFacesAt, AreIn, RefusesHole, RefusesHoles};
 
-use crate::error::DrawingError;
-use delaunay_interface::delaunay_core::math::validate_vertex;
-use delaunay_interface::delaunay_core::point::Point2;
-use delaunay_interface::delaunay_legalization::is_constraint_edge;
-use delaunay_interface::half_edge_mesh::FixedFaceHandle;
-use delaunay_interface::{PositionInTriangulation, Triangulation};
+use crate::DrawingError;
+use delaunay_core::math::validate_vertex;
+use delaunay_core::point::Point2;
+use delaunay_interface::Triangulation;
+use delaunay_legalization::is_constraint_edge;
+use delaunay_location::PositionInTriangulation;
 use exact_predicates::ExactTests;
+use half_edge_links::FixedFaceHandle;
 use std::alloc::Global;
 
 // Adds the faces that a point is in: behind an edge those on both sides, unless it is a constraint.

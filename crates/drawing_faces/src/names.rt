@@ -1,13 +1,11 @@
 //! Vertices and faces by the places of their points in a list.
 ghost use Rattle.std.specs.Prelude.{◌≡◌, ◌⊎◌, ◌<◌, All, length, map, slice_index, IfErr, IfOk};
-ghost use Rattle.delaunay_interface.specs.half_edge_links.declared.room.TheConstants.{MAX_ELEMENTS};
+ghost use Rattle.half_edge_links.specs.{MAX_ELEMENTS};
+ghost use Rattle.drawing_faces.specs.{Drawing.face_of, Names.AreFirsts, Names.places_of};
 ghost use Rattle.drawing_faces.specs.declared.error.DrawingError.TheVariants.{OutOfMemory};
-ghost use Rattle.drawing_faces.specs.Names.{AreFirsts, places_of};
-ghost use Rattle.drawing_faces.specs.Drawing.{face_of};
 
-use crate::error::DrawingError;
-use crate::faces::FaceCorners;
-use delaunay_interface::half_edge_mesh::{FixedVertexHandle, MAX_ELEMENTS};
+use crate::{DrawingError, FaceCorners};
+use half_edge_links::{FixedVertexHandle, MAX_ELEMENTS};
 use std::alloc::{AllocError, Global};
 
 /// Of each of so many vertices the first place where it stands in a list. It gives `TooMany` for a

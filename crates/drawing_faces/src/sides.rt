@@ -1,21 +1,17 @@
 //! The faces beside the sides of holes.
 ghost use Rattle.std.specs.Prelude.{◌≡◌, ◌∷◌, ◌<◌, [], All, List, map, length, IfErr, OnOk};
-ghost use Rattle.delaunay_interface.specs.plane.Line.{Item};
-ghost use Rattle.delaunay_interface.specs.delaunay_legalization.State.{state_of};
-ghost use Rattle.delaunay_interface.specs.delaunay_location.Items.{item_in, mesh_of};
-ghost use Rattle.delaunay_interface.specs.delaunay_location.Walk.{AreLeft, IsReady};
-ghost use Rattle.drawing_faces.specs.Drawing.{ends_of};
-ghost use Rattle.drawing_faces.specs.Names.{position};
-ghost use Rattle.drawing_faces.specs.Refusals.{HasEnds, RefusesEnds};
-ghost use Rattle.drawing_faces.specs.Sides.{AddsBeside, AddsOnLeft};
+ghost use Rattle.{delaunay_legalization.specs.state_of, plane.specs.Item};
+ghost use Rattle.delaunay_location.specs.{AreLeft, IsReady, item_in, mesh_of};
+ghost use Rattle.drawing_faces.specs.{Drawing.ends_of, Refusals.HasEnds, Refusals.RefusesEnds};
+ghost use Rattle.drawing_faces.specs.{Names.position, Sides.AddsBeside, Sides.AddsOnLeft};
 
-use crate::edits::{DrawnSegment, ends_among};
-use crate::error::DrawingError;
-use delaunay_interface::delaunay_core::math::PlaneTests;
-use delaunay_interface::delaunay_core::point::Point2;
-use delaunay_interface::half_edge_mesh::{FixedFaceHandle, FixedVertexHandle};
-use delaunay_interface::{HasMesh, Intersection, LineIntersectionIterator};
+use crate::edits::ends_among;
+use crate::{DrawingError, DrawnSegment};
+use delaunay_core::math::PlaneTests;
+use delaunay_core::point::Point2;
+use delaunay_location::{HasMesh, Intersection, LineIntersectionIterator};
 use exact_predicates::ExactTests;
+use half_edge_links::{FixedFaceHandle, FixedVertexHandle};
 use std::alloc::AllocError;
 
 // Adds the face on the left of what a way meets, if that is an edge along which it goes.

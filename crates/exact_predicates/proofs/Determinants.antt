@@ -3,12 +3,8 @@
 use Rattle.std.proofs.Common.{◌≡◌, [], ◌∷◌, subst, sym, arith}
 use Rattle.std.specs.Prelude.{ℤ, pos, ◌-ℤ◌, ◌*ℤ◌, ◌<ℤ◌, ◌↔◌, int_lt, IsTrue}
 use Rattle.std.proofs.lemmas.Int.{ints}
-use Rattle.plane.specs.Fraction.{Point, whole}
-use Rattle.plane.specs.Side.{TurnsLeft}
-use Rattle.plane.specs.Circle.{InsideCircle}
-use Rattle.plane.specs.Laws.{turn_at, lifted_determinant}
-use Rattle.plane.proofs.Circles.{inside_is_determinant}
-use Rattle.plane.proofs.Solver.{◌⊕◌, ◌⊖◌, ◌⊗◌, ring_in}
+use Rattle.plane.specs.{InsideCircle, lifted_determinant, Point, turn_at, TurnsLeft, whole}
+use Rattle.plane.proofs.{◌⊕◌, ◌⊖◌, ◌⊗◌, inside_is_determinant, ring_in}
 use Rattle.exact_predicates.specs.Angles.{dot_at}
 
 below_if_true : (a b : ℤ) → IsTrue (int_lt a b) → a <ℤ b

@@ -7,21 +7,15 @@ use mathlib.Core.Path.{refl, subst₂}
 use Rattle.std.specs.Prelude.{ℤ, pos, ◌+ℤ◌, ◌-ℤ◌, ◌*ℤ◌, ◌≤ℤ◌, ◌<ℤ◌, ◌↔◌}
 use Rattle.std.specs.Prelude.{Bool, true, false, IsTrue, Option, Some, None, IsSomeAnd}
 use Rattle.std.proofs.lemmas.Int.{ints}
-use Rattle.plane.specs.Fraction.{Point, Fraction, whole}
-use Rattle.plane.specs.Side.{TurnsLeft, run, rise}
-use Rattle.plane.specs.Circle.{IsNearer, IsCentre, AreEquallyFar, gap}
-use Rattle.plane.specs.Laws.{turn_at}
-use Rattle.plane.proofs.Areas.{side_by_area}
-use Rattle.plane.proofs.Centre.{over, lifted, overᵖ, gaps}
-use Rattle.plane.proofs.IntegerOrder.{lt_or_ge_ℤ, mul-lt-mul_ℤ, mul-le-mul_ℤ, mul-pos_ℤ}
-use Rattle.plane.proofs.IntegerOrder.{mul-nonneg_ℤ, square-nonneg_ℤ, zero-mul_ℤ}
-use Rattle.plane.proofs.Signs.{at_most_if_not_less, same_have_no_difference}
-use Rattle.plane.proofs.Solver.{Poly, num, ◌⊕◌, ◌⊖◌, ◌⊗◌, ring_in}
-use Rattle.exact_predicates.specs.Angles.{dot_at}
-use Rattle.exact_predicates.specs.Disks.{IsClear, TellsClear, HoldsDisk, TellsDisk}
-use Rattle.exact_predicates.specs.Disks.{PassesLeft, PassesRight, PassesBottom, PassesTop}
-use Rattle.exact_predicates.specs.Disks.{PassesSome, upright, level}
-use Rattle.exact_predicates.specs.declared.disks.Sides.{Sides}
+use Rattle.plane.specs.{AreEquallyFar, Fraction, gap, IsCentre, IsNearer, Point, rise, run, turn_at}
+use Rattle.plane.proofs.{◌⊕◌, ◌⊖◌, ◌⊗◌, at_most_if_not_less, lt_or_ge_ℤ, mul-le-mul_ℤ, mul-lt-mul_ℤ}
+use Rattle.plane.proofs.{mul-nonneg_ℤ, mul-pos_ℤ, num, Poly, ring_in, same_have_no_difference}
+use Rattle.plane.proofs.{Areas.side_by_area, square-nonneg_ℤ, zero-mul_ℤ}
+use Rattle.plane.proofs.Centre.{gaps, lifted, over, overᵖ}
+use Rattle.exact_predicates.specs.{Sides, TellsDisk}
+use Rattle.{exact_predicates.specs.Angles.dot_at, plane.specs.TurnsLeft, plane.specs.whole}
+use Rattle.exact_predicates.specs.Disks.{HoldsDisk, IsClear, level, PassesBottom, PassesLeft}
+use Rattle.exact_predicates.specs.Disks.{PassesRight, PassesSome, PassesTop, TellsClear, upright}
 
 -- a way to a side, by what was kept of both its parts
 pub reach_of : (a a' i i' w : ℤ) → a' ≡ a → i' ≡ i → a' +ℤ i' *ℤ w ≡ a +ℤ i *ℤ w
@@ -47,11 +41,11 @@ side_cleared x y reach side t told h n e =
 
 -- ---- the centre
 -- twice the area times the way from u to the centre of the circle through u, v and p, twice
-abbrev pub way_x : Point → Point → Point → ℤ
-way_x u v p = (p.y -ℤ u.y) *ℤ dot_at u v v -ℤ (v.y -ℤ u.y) *ℤ dot_at u p p
+abbrev pub vector_x : Point → Point → Point → ℤ
+vector_x u v p = (p.y -ℤ u.y) *ℤ dot_at u v v -ℤ (v.y -ℤ u.y) *ℤ dot_at u p p
 
-abbrev pub way_y : Point → Point → Point → ℤ
-way_y u v p = (v.x -ℤ u.x) *ℤ dot_at u p p -ℤ (p.x -ℤ u.x) *ℤ dot_at u v v
+abbrev pub vector_y : Point → Point → Point → ℤ
+vector_y u v p = (v.x -ℤ u.x) *ℤ dot_at u p p -ℤ (p.x -ℤ u.x) *ℤ dot_at u v v
 
 abbrev pub scale : Point → Point → Point → ℤ
 scale u v p = pos 2 *ℤ turn_at u v p
@@ -71,15 +65,15 @@ placeᵖ_y a b c d e f = b ⊗ scaleᵖ a b c d e f
     ⊕ ((c ⊖ a) ⊗ squareᵖ (e ⊖ a) (f ⊖ b) ⊖ (e ⊖ a) ⊗ squareᵖ (c ⊖ a) (d ⊖ b))
 
 -- the centre is on the line of points that are equally far from u and v
-first_line : (u v p : Point) → over u.x v.x *ℤ (u.x *ℤ scale u v p +ℤ way_x u v p)
-    +ℤ over u.y v.y *ℤ (u.y *ℤ scale u v p +ℤ way_y u v p) ≡ lifted u v *ℤ scale u v p
+first_line : (u v p : Point) → over u.x v.x *ℤ (u.x *ℤ scale u v p +ℤ vector_x u v p)
+    +ℤ over u.y v.y *ℤ (u.y *ℤ scale u v p +ℤ vector_y u v p) ≡ lifted u v *ℤ scale u v p
 first_line u v p = ring_in (u.x ∷ u.y ∷ v.x ∷ v.y ∷ p.x ∷ p.y ∷ [])
     (λ a b c d e f. overᵖ a c ⊗ placeᵖ_x a b c d e f ⊕ overᵖ b d ⊗ placeᵖ_y a b c d e f)
     (λ a b c d e f. (c ⊗ c ⊕ d ⊗ d ⊖ (a ⊗ a ⊕ b ⊗ b)) ⊗ scaleᵖ a b c d e f) tt
 
 -- and on that of v and p
-second_line : (u v p : Point) → over v.x p.x *ℤ (u.x *ℤ scale u v p +ℤ way_x u v p)
-    +ℤ over v.y p.y *ℤ (u.y *ℤ scale u v p +ℤ way_y u v p) ≡ lifted v p *ℤ scale u v p
+second_line : (u v p : Point) → over v.x p.x *ℤ (u.x *ℤ scale u v p +ℤ vector_x u v p)
+    +ℤ over v.y p.y *ℤ (u.y *ℤ scale u v p +ℤ vector_y u v p) ≡ lifted v p *ℤ scale u v p
 second_line u v p = ring_in (u.x ∷ u.y ∷ v.x ∷ v.y ∷ p.x ∷ p.y ∷ [])
     (λ a b c d e f. overᵖ c e ⊗ placeᵖ_x a b c d e f ⊕ overᵖ d f ⊗ placeᵖ_y a b c d e f)
     (λ a b c d e f. (e ⊗ e ⊕ f ⊗ f ⊖ (c ⊗ c ⊕ d ⊗ d)) ⊗ scaleᵖ a b c d e f) tt
@@ -100,8 +94,8 @@ far_if_line z u p e =
     }
 
 -- the point at a way from u
-abbrev pub at_way : Point → (x y w : ℤ) → pos 0 <ℤ w → Fraction
-at_way u x y w h = record { x = u.x *ℤ w +ℤ x; y = u.y *ℤ w +ℤ y; w = w; positive = h }
+abbrev pub at_vector : Point → (x y w : ℤ) → pos 0 <ℤ w → Fraction
+at_vector u x y w h = record { x = u.x *ℤ w +ℤ x; y = u.y *ℤ w +ℤ y; w = w; positive = h }
 
 -- ---- sides
 decided : (x y r : ℤ) → ¬ IsClear x y r → (r <ℤ pos 0) ⊎ ((r *ℤ r) <ℤ (x *ℤ x +ℤ y *ℤ y))
@@ -133,8 +127,8 @@ out_of_reach a b s g h k l m =
 less_of : (a b r : ℤ) → r ≡ a -ℤ b → r <ℤ pos 0 → a <ℤ b
 less_of a b r e h = omega (arith, ints)
 
-positive_way : (a b : ℤ) → a <ℤ b → pos 0 <ℤ (b -ℤ a)
-positive_way a b h = omega (arith, ints)
+positive_vector : (a b : ℤ) → a <ℤ b → pos 0 <ℤ (b -ℤ a)
+positive_vector a b h = omega (arith, ints)
 
 not_negative : (z : ℤ) → pos 0 <ℤ z → pos 0 ≤ℤ z
 not_negative z h = omega (arith, ints)
@@ -144,25 +138,26 @@ squared_product a b =
     ring_in (a ∷ b ∷ []) (λ a b. (a ⊗ a) ⊗ (b ⊗ b)) (λ a b. (a ⊗ b) ⊗ (a ⊗ b)) tt
 
 -- the squared radius
-radius : (u : Point) (x y w : ℤ) (h : pos 0 <ℤ w) → gap (at_way u x y w h) (whole u) *ℤ (w *ℤ w)
+radius : (u : Point) (x y w : ℤ) (h : pos 0 <ℤ w) → gap (at_vector u x y w h) (whole u) *ℤ (w *ℤ w)
     ≡ (w *ℤ w) *ℤ (x *ℤ x +ℤ y *ℤ y)
 radius u x y w h = ring_in (u.x ∷ u.y ∷ x ∷ y ∷ w ∷ [])
     (λ a b x y w. squareᵖ (a ⊗ w ⊖ (a ⊗ w ⊕ x) ⊗ num 1) (b ⊗ w ⊖ (b ⊗ w ⊕ y) ⊗ num 1) ⊗ (w ⊗ w))
     (λ a b x y w. (w ⊗ w) ⊗ (x ⊗ x ⊕ y ⊗ y)) tt
 
 radius_of : (u : Point) (x y w k : ℤ) (h : pos 0 <ℤ w)
-    → gap (at_way u x y w h) (whole u) *ℤ (k *ℤ k) ≡ (k *ℤ k) *ℤ (x *ℤ x +ℤ y *ℤ y)
+    → gap (at_vector u x y w h) (whole u) *ℤ (k *ℤ k) ≡ (k *ℤ k) *ℤ (x *ℤ x +ℤ y *ℤ y)
 radius_of u x y w k h = ring_in (u.x ∷ u.y ∷ x ∷ y ∷ w ∷ k ∷ [])
     (λ a b x y w k. squareᵖ (a ⊗ w ⊖ (a ⊗ w ⊕ x) ⊗ num 1) (b ⊗ w ⊖ (b ⊗ w ⊕ y) ⊗ num 1) ⊗ (k ⊗ k))
     (λ a b x y w k. (k ⊗ k) ⊗ (x ⊗ x ⊕ y ⊗ y)) tt
 
 -- what is not farther than the circle
 as_near : (u : Point) (x y w : ℤ) (h : pos 0 <ℤ w) (q : Fraction)
-    → ¬ IsNearer (at_way u x y w h) (whole u) q
-    → (gap (at_way u x y w h) q *ℤ (pos 1 *ℤ pos 1)) ≤ℤ ((q.w *ℤ q.w) *ℤ (x *ℤ x +ℤ y *ℤ y))
-as_near u x y w h q far = subst (λ z. (gap (at_way u x y w h) q *ℤ (pos 1 *ℤ pos 1)) ≤ℤ z)
-    (radius_of u x y w q.w h) (at_most_if_not_less (gap (at_way u x y w h) (whole u) *ℤ (q.w *ℤ q.w))
-    (gap (at_way u x y w h) q *ℤ (pos 1 *ℤ pos 1)) (λ k. far (record { nearer = k })))
+    → ¬ IsNearer (at_vector u x y w h) (whole u) q
+    → (gap (at_vector u x y w h) q *ℤ (pos 1 *ℤ pos 1)) ≤ℤ ((q.w *ℤ q.w) *ℤ (x *ℤ x +ℤ y *ℤ y))
+as_near u x y w h q far = subst (λ z. (gap (at_vector u x y w h) q *ℤ (pos 1 *ℤ pos 1)) ≤ℤ z)
+    (radius_of u x y w q.w h) (at_most_if_not_less (gap (at_vector u x y w h) (whole u) *ℤ
+    (q.w *ℤ q.w))
+    (gap (at_vector u x y w h) q *ℤ (pos 1 *ℤ pos 1)) (λ k. far (record { nearer = k })))
 
 -- ---- the side left
 abbrev pub reach_left : Point → (x y w n : ℤ) → ℤ
@@ -173,14 +168,14 @@ left_far u x y w n = ring_in (u.x ∷ u.y ∷ x ∷ y ∷ w ∷ n ∷ [])
     (λ a b x y w n. x ⊕ (a ⊖ n) ⊗ w) (λ a b x y w n. (a ⊗ w ⊕ x) ⊖ n ⊗ w) tt
 
 left_foot : (u : Point) (x y w n : ℤ) (h : pos 0 <ℤ w)
-    → gap (at_way u x y w h) (upright (at_way u x y w h) n) *ℤ (pos 1 *ℤ pos 1)
+    → gap (at_vector u x y w h) (upright (at_vector u x y w h) n) *ℤ (pos 1 *ℤ pos 1)
     ≡ (w *ℤ w) *ℤ (reach_left u x y w n *ℤ reach_left u x y w n)
 left_foot u x y w n h = ring_in (u.x ∷ u.y ∷ x ∷ y ∷ w ∷ n ∷ [])
     (λ a b x y w n. squareᵖ ((n ⊗ w) ⊗ w ⊖ (a ⊗ w ⊕ x) ⊗ w) ((b ⊗ w ⊕ y) ⊗ w ⊖ (b ⊗ w ⊕ y) ⊗ w) ⊗ (num 1 ⊗ num 1))
     (λ a b x y w n. (w ⊗ w) ⊗ ((x ⊕ (a ⊖ n) ⊗ w) ⊗ (x ⊕ (a ⊖ n) ⊗ w))) tt
 
 pub passes_left : (u : Point) (x y w n : ℤ) (h : pos 0 <ℤ w)
-    → ¬ IsClear x y (reach_left u x y w n) → PassesLeft (at_way u x y w h) u n
+    → ¬ IsClear x y (reach_left u x y w n) → PassesLeft (at_vector u x y w h) u n
 passes_left u x y w n h not_clear = let r = reach_left u x y w n in
     elim (decided x y r not_clear) [
       | inl below ↦ inl (less_of (u.x *ℤ w +ℤ x) (n *ℤ w) r (left_far u x y w n) below)
@@ -192,10 +187,10 @@ passes_left u x y w n h not_clear = let r = reach_left u x y w n in
     ]
 
 left_gap : (u : Point) (x y w n : ℤ) (h : pos 0 <ℤ w) (q : Fraction)
-    → gap (at_way u x y w h) q *ℤ (pos 1 *ℤ pos 1)
+    → gap (at_vector u x y w h) q *ℤ (pos 1 *ℤ pos 1)
     ≡ (q.w *ℤ reach_left u x y w n +ℤ w *ℤ (n *ℤ q.w -ℤ q.x))
     *ℤ (q.w *ℤ reach_left u x y w n +ℤ w *ℤ (n *ℤ q.w -ℤ q.x))
-    +ℤ rise (at_way u x y w h) q *ℤ rise (at_way u x y w h) q
+    +ℤ rise (at_vector u x y w h) q *ℤ rise (at_vector u x y w h) q
 left_gap u x y w n h q = ring_in (u.x ∷ u.y ∷ x ∷ y ∷ w ∷ n ∷ q.x ∷ q.y ∷ q.w ∷ [])
     (λ a b x y w n k l m. squareᵖ (k ⊗ w ⊖ (a ⊗ w ⊕ x) ⊗ m) (l ⊗ w ⊖ (b ⊗ w ⊕ y) ⊗ m) ⊗ (num 1 ⊗ num 1))
     (λ a b x y w n k l m. (m ⊗ (x ⊕ (a ⊖ n) ⊗ w) ⊕ w ⊗ (n ⊗ m ⊖ k)) ⊗ (m ⊗ (x ⊕ (a ⊖ n) ⊗ w) ⊕ w ⊗ (n ⊗ m ⊖ k))
@@ -203,13 +198,13 @@ left_gap u x y w n h q = ring_in (u.x ∷ u.y ∷ x ∷ y ∷ w ∷ n ∷ q.x �
 
 within_left : (u : Point) (x y w n : ℤ) (h : pos 0 <ℤ w)
     → IsClear x y (reach_left u x y w n) → (q : Fraction)
-    → ¬ IsNearer (at_way u x y w h) (whole u) q → (n *ℤ q.w) ≤ℤ q.x
+    → ¬ IsNearer (at_vector u x y w h) (whole u) q → (n *ℤ q.w) ≤ℤ q.x
 within_left u x y w n h clear q far = let r = reach_left u x y w n in
     elim (lt_or_ge_ℤ (q.x) (n *ℤ q.w)) [
       | inl beyond ↦ absurd (out_of_reach (q.w *ℤ r) (w *ℤ (n *ℤ q.w -ℤ q.x))
-          (rise (at_way u x y w h) q) ((q.w *ℤ q.w) *ℤ (x *ℤ x +ℤ y *ℤ y))
+          (rise (at_vector u x y w h) q) ((q.w *ℤ q.w) *ℤ (x *ℤ x +ℤ y *ℤ y))
           (mul-nonneg_ℤ {a = q.w} {b = r} (not_negative q.w q.positive) clear.0)
-          (mul-pos_ℤ {a = w} {b = n *ℤ q.w -ℤ q.x} h (positive_way (q.x) (n *ℤ q.w) beyond))
+          (mul-pos_ℤ {a = w} {b = n *ℤ q.w -ℤ q.x} h (positive_vector (q.x) (n *ℤ q.w) beyond))
           (subst (λ z. z ≤ℤ ((q.w *ℤ q.w) *ℤ (x *ℤ x +ℤ y *ℤ y))) (left_gap u x y w n h q)
           (as_near u x y w h q far))
           (subst (λ z. ((q.w *ℤ q.w) *ℤ (x *ℤ x +ℤ y *ℤ y)) ≤ℤ z) (squared_product q.w r)
@@ -226,14 +221,14 @@ right_far u x y w n = ring_in (u.x ∷ u.y ∷ x ∷ y ∷ w ∷ n ∷ [])
     (λ a b x y w n. (num 0 ⊖ x) ⊕ (n ⊖ a) ⊗ w) (λ a b x y w n. n ⊗ w ⊖ (a ⊗ w ⊕ x)) tt
 
 right_foot : (u : Point) (x y w n : ℤ) (h : pos 0 <ℤ w)
-    → gap (at_way u x y w h) (upright (at_way u x y w h) n) *ℤ (pos 1 *ℤ pos 1)
+    → gap (at_vector u x y w h) (upright (at_vector u x y w h) n) *ℤ (pos 1 *ℤ pos 1)
     ≡ (w *ℤ w) *ℤ (reach_right u x y w n *ℤ reach_right u x y w n)
 right_foot u x y w n h = ring_in (u.x ∷ u.y ∷ x ∷ y ∷ w ∷ n ∷ [])
     (λ a b x y w n. squareᵖ ((n ⊗ w) ⊗ w ⊖ (a ⊗ w ⊕ x) ⊗ w) ((b ⊗ w ⊕ y) ⊗ w ⊖ (b ⊗ w ⊕ y) ⊗ w) ⊗ (num 1 ⊗ num 1))
     (λ a b x y w n. (w ⊗ w) ⊗ (((num 0 ⊖ x) ⊕ (n ⊖ a) ⊗ w) ⊗ ((num 0 ⊖ x) ⊕ (n ⊖ a) ⊗ w))) tt
 
 pub passes_right : (u : Point) (x y w n : ℤ) (h : pos 0 <ℤ w)
-    → ¬ IsClear x y (reach_right u x y w n) → PassesRight (at_way u x y w h) u n
+    → ¬ IsClear x y (reach_right u x y w n) → PassesRight (at_vector u x y w h) u n
 passes_right u x y w n h not_clear = let r = reach_right u x y w n in
     elim (decided x y r not_clear) [
       | inl below ↦ inl (less_of (n *ℤ w) (u.x *ℤ w +ℤ x) r (right_far u x y w n) below)
@@ -245,10 +240,10 @@ passes_right u x y w n h not_clear = let r = reach_right u x y w n in
     ]
 
 right_gap : (u : Point) (x y w n : ℤ) (h : pos 0 <ℤ w) (q : Fraction)
-    → gap (at_way u x y w h) q *ℤ (pos 1 *ℤ pos 1)
+    → gap (at_vector u x y w h) q *ℤ (pos 1 *ℤ pos 1)
     ≡ (q.w *ℤ reach_right u x y w n +ℤ w *ℤ (q.x -ℤ n *ℤ q.w))
     *ℤ (q.w *ℤ reach_right u x y w n +ℤ w *ℤ (q.x -ℤ n *ℤ q.w))
-    +ℤ rise (at_way u x y w h) q *ℤ rise (at_way u x y w h) q
+    +ℤ rise (at_vector u x y w h) q *ℤ rise (at_vector u x y w h) q
 right_gap u x y w n h q = ring_in (u.x ∷ u.y ∷ x ∷ y ∷ w ∷ n ∷ q.x ∷ q.y ∷ q.w ∷ [])
     (λ a b x y w n k l m. squareᵖ (k ⊗ w ⊖ (a ⊗ w ⊕ x) ⊗ m) (l ⊗ w ⊖ (b ⊗ w ⊕ y) ⊗ m) ⊗ (num 1 ⊗ num 1))
     (λ a b x y w n k l m. (m ⊗ ((num 0 ⊖ x) ⊕ (n ⊖ a) ⊗ w) ⊕ w ⊗ (k ⊖ n ⊗ m)) ⊗ (m ⊗ ((num 0 ⊖ x) ⊕ (n ⊖ a) ⊗ w) ⊕ w ⊗ (k ⊖ n ⊗ m))
@@ -256,13 +251,13 @@ right_gap u x y w n h q = ring_in (u.x ∷ u.y ∷ x ∷ y ∷ w ∷ n ∷ q.x �
 
 within_right : (u : Point) (x y w n : ℤ) (h : pos 0 <ℤ w)
     → IsClear x y (reach_right u x y w n) → (q : Fraction)
-    → ¬ IsNearer (at_way u x y w h) (whole u) q → q.x ≤ℤ (n *ℤ q.w)
+    → ¬ IsNearer (at_vector u x y w h) (whole u) q → q.x ≤ℤ (n *ℤ q.w)
 within_right u x y w n h clear q far = let r = reach_right u x y w n in
     elim (lt_or_ge_ℤ (n *ℤ q.w) (q.x)) [
       | inl beyond ↦ absurd (out_of_reach (q.w *ℤ r) (w *ℤ (q.x -ℤ n *ℤ q.w))
-          (rise (at_way u x y w h) q) ((q.w *ℤ q.w) *ℤ (x *ℤ x +ℤ y *ℤ y))
+          (rise (at_vector u x y w h) q) ((q.w *ℤ q.w) *ℤ (x *ℤ x +ℤ y *ℤ y))
           (mul-nonneg_ℤ {a = q.w} {b = r} (not_negative q.w q.positive) clear.0)
-          (mul-pos_ℤ {a = w} {b = q.x -ℤ n *ℤ q.w} h (positive_way (n *ℤ q.w) (q.x) beyond))
+          (mul-pos_ℤ {a = w} {b = q.x -ℤ n *ℤ q.w} h (positive_vector (n *ℤ q.w) (q.x) beyond))
           (subst (λ z. z ≤ℤ ((q.w *ℤ q.w) *ℤ (x *ℤ x +ℤ y *ℤ y))) (right_gap u x y w n h q)
           (as_near u x y w h q far))
           (subst (λ z. ((q.w *ℤ q.w) *ℤ (x *ℤ x +ℤ y *ℤ y)) ≤ℤ z) (squared_product q.w r)
@@ -279,14 +274,14 @@ bottom_far u x y w n = ring_in (u.x ∷ u.y ∷ x ∷ y ∷ w ∷ n ∷ [])
     (λ a b x y w n. y ⊕ (b ⊖ n) ⊗ w) (λ a b x y w n. (b ⊗ w ⊕ y) ⊖ n ⊗ w) tt
 
 bottom_foot : (u : Point) (x y w n : ℤ) (h : pos 0 <ℤ w)
-    → gap (at_way u x y w h) (level (at_way u x y w h) n) *ℤ (pos 1 *ℤ pos 1)
+    → gap (at_vector u x y w h) (level (at_vector u x y w h) n) *ℤ (pos 1 *ℤ pos 1)
     ≡ (w *ℤ w) *ℤ (reach_bottom u x y w n *ℤ reach_bottom u x y w n)
 bottom_foot u x y w n h = ring_in (u.x ∷ u.y ∷ x ∷ y ∷ w ∷ n ∷ [])
     (λ a b x y w n. squareᵖ ((a ⊗ w ⊕ x) ⊗ w ⊖ (a ⊗ w ⊕ x) ⊗ w) ((n ⊗ w) ⊗ w ⊖ (b ⊗ w ⊕ y) ⊗ w) ⊗ (num 1 ⊗ num 1))
     (λ a b x y w n. (w ⊗ w) ⊗ ((y ⊕ (b ⊖ n) ⊗ w) ⊗ (y ⊕ (b ⊖ n) ⊗ w))) tt
 
 pub passes_bottom : (u : Point) (x y w n : ℤ) (h : pos 0 <ℤ w)
-    → ¬ IsClear x y (reach_bottom u x y w n) → PassesBottom (at_way u x y w h) u n
+    → ¬ IsClear x y (reach_bottom u x y w n) → PassesBottom (at_vector u x y w h) u n
 passes_bottom u x y w n h not_clear = let r = reach_bottom u x y w n in
     elim (decided x y r not_clear) [
       | inl below ↦ inl (less_of (u.y *ℤ w +ℤ y) (n *ℤ w) r (bottom_far u x y w n) below)
@@ -298,10 +293,10 @@ passes_bottom u x y w n h not_clear = let r = reach_bottom u x y w n in
     ]
 
 bottom_gap : (u : Point) (x y w n : ℤ) (h : pos 0 <ℤ w) (q : Fraction)
-    → gap (at_way u x y w h) q *ℤ (pos 1 *ℤ pos 1)
+    → gap (at_vector u x y w h) q *ℤ (pos 1 *ℤ pos 1)
     ≡ (q.w *ℤ reach_bottom u x y w n +ℤ w *ℤ (n *ℤ q.w -ℤ q.y))
     *ℤ (q.w *ℤ reach_bottom u x y w n +ℤ w *ℤ (n *ℤ q.w -ℤ q.y))
-    +ℤ run (at_way u x y w h) q *ℤ run (at_way u x y w h) q
+    +ℤ run (at_vector u x y w h) q *ℤ run (at_vector u x y w h) q
 bottom_gap u x y w n h q = ring_in (u.x ∷ u.y ∷ x ∷ y ∷ w ∷ n ∷ q.x ∷ q.y ∷ q.w ∷ [])
     (λ a b x y w n k l m. squareᵖ (k ⊗ w ⊖ (a ⊗ w ⊕ x) ⊗ m) (l ⊗ w ⊖ (b ⊗ w ⊕ y) ⊗ m) ⊗ (num 1 ⊗ num 1))
     (λ a b x y w n k l m. (m ⊗ (y ⊕ (b ⊖ n) ⊗ w) ⊕ w ⊗ (n ⊗ m ⊖ l)) ⊗ (m ⊗ (y ⊕ (b ⊖ n) ⊗ w) ⊕ w ⊗ (n ⊗ m ⊖ l))
@@ -309,13 +304,13 @@ bottom_gap u x y w n h q = ring_in (u.x ∷ u.y ∷ x ∷ y ∷ w ∷ n ∷ q.x 
 
 within_bottom : (u : Point) (x y w n : ℤ) (h : pos 0 <ℤ w)
     → IsClear x y (reach_bottom u x y w n) → (q : Fraction)
-    → ¬ IsNearer (at_way u x y w h) (whole u) q → (n *ℤ q.w) ≤ℤ q.y
+    → ¬ IsNearer (at_vector u x y w h) (whole u) q → (n *ℤ q.w) ≤ℤ q.y
 within_bottom u x y w n h clear q far = let r = reach_bottom u x y w n in
     elim (lt_or_ge_ℤ (q.y) (n *ℤ q.w)) [
       | inl beyond ↦ absurd (out_of_reach (q.w *ℤ r) (w *ℤ (n *ℤ q.w -ℤ q.y))
-          (run (at_way u x y w h) q) ((q.w *ℤ q.w) *ℤ (x *ℤ x +ℤ y *ℤ y))
+          (run (at_vector u x y w h) q) ((q.w *ℤ q.w) *ℤ (x *ℤ x +ℤ y *ℤ y))
           (mul-nonneg_ℤ {a = q.w} {b = r} (not_negative q.w q.positive) clear.0)
-          (mul-pos_ℤ {a = w} {b = n *ℤ q.w -ℤ q.y} h (positive_way (q.y) (n *ℤ q.w) beyond))
+          (mul-pos_ℤ {a = w} {b = n *ℤ q.w -ℤ q.y} h (positive_vector (q.y) (n *ℤ q.w) beyond))
           (subst (λ z. z ≤ℤ ((q.w *ℤ q.w) *ℤ (x *ℤ x +ℤ y *ℤ y))) (bottom_gap u x y w n h q)
           (as_near u x y w h q far))
           (subst (λ z. ((q.w *ℤ q.w) *ℤ (x *ℤ x +ℤ y *ℤ y)) ≤ℤ z) (squared_product q.w r)
@@ -332,14 +327,14 @@ top_far u x y w n = ring_in (u.x ∷ u.y ∷ x ∷ y ∷ w ∷ n ∷ [])
     (λ a b x y w n. (num 0 ⊖ y) ⊕ (n ⊖ b) ⊗ w) (λ a b x y w n. n ⊗ w ⊖ (b ⊗ w ⊕ y)) tt
 
 top_foot : (u : Point) (x y w n : ℤ) (h : pos 0 <ℤ w)
-    → gap (at_way u x y w h) (level (at_way u x y w h) n) *ℤ (pos 1 *ℤ pos 1)
+    → gap (at_vector u x y w h) (level (at_vector u x y w h) n) *ℤ (pos 1 *ℤ pos 1)
     ≡ (w *ℤ w) *ℤ (reach_top u x y w n *ℤ reach_top u x y w n)
 top_foot u x y w n h = ring_in (u.x ∷ u.y ∷ x ∷ y ∷ w ∷ n ∷ [])
     (λ a b x y w n. squareᵖ ((a ⊗ w ⊕ x) ⊗ w ⊖ (a ⊗ w ⊕ x) ⊗ w) ((n ⊗ w) ⊗ w ⊖ (b ⊗ w ⊕ y) ⊗ w) ⊗ (num 1 ⊗ num 1))
     (λ a b x y w n. (w ⊗ w) ⊗ (((num 0 ⊖ y) ⊕ (n ⊖ b) ⊗ w) ⊗ ((num 0 ⊖ y) ⊕ (n ⊖ b) ⊗ w))) tt
 
 pub passes_top : (u : Point) (x y w n : ℤ) (h : pos 0 <ℤ w)
-    → ¬ IsClear x y (reach_top u x y w n) → PassesTop (at_way u x y w h) u n
+    → ¬ IsClear x y (reach_top u x y w n) → PassesTop (at_vector u x y w h) u n
 passes_top u x y w n h not_clear = let r = reach_top u x y w n in
     elim (decided x y r not_clear) [
       | inl below ↦ inl (less_of (n *ℤ w) (u.y *ℤ w +ℤ y) r (top_far u x y w n) below)
@@ -351,10 +346,10 @@ passes_top u x y w n h not_clear = let r = reach_top u x y w n in
     ]
 
 top_gap : (u : Point) (x y w n : ℤ) (h : pos 0 <ℤ w) (q : Fraction)
-    → gap (at_way u x y w h) q *ℤ (pos 1 *ℤ pos 1)
+    → gap (at_vector u x y w h) q *ℤ (pos 1 *ℤ pos 1)
     ≡ (q.w *ℤ reach_top u x y w n +ℤ w *ℤ (q.y -ℤ n *ℤ q.w))
     *ℤ (q.w *ℤ reach_top u x y w n +ℤ w *ℤ (q.y -ℤ n *ℤ q.w))
-    +ℤ run (at_way u x y w h) q *ℤ run (at_way u x y w h) q
+    +ℤ run (at_vector u x y w h) q *ℤ run (at_vector u x y w h) q
 top_gap u x y w n h q = ring_in (u.x ∷ u.y ∷ x ∷ y ∷ w ∷ n ∷ q.x ∷ q.y ∷ q.w ∷ [])
     (λ a b x y w n k l m. squareᵖ (k ⊗ w ⊖ (a ⊗ w ⊕ x) ⊗ m) (l ⊗ w ⊖ (b ⊗ w ⊕ y) ⊗ m) ⊗ (num 1 ⊗ num 1))
     (λ a b x y w n k l m. (m ⊗ ((num 0 ⊖ y) ⊕ (n ⊖ b) ⊗ w) ⊕ w ⊗ (l ⊖ n ⊗ m)) ⊗ (m ⊗ ((num 0 ⊖ y) ⊕ (n ⊖ b) ⊗ w) ⊕ w ⊗ (l ⊖ n ⊗ m))
@@ -362,13 +357,13 @@ top_gap u x y w n h q = ring_in (u.x ∷ u.y ∷ x ∷ y ∷ w ∷ n ∷ q.x ∷
 
 within_top : (u : Point) (x y w n : ℤ) (h : pos 0 <ℤ w)
     → IsClear x y (reach_top u x y w n) → (q : Fraction)
-    → ¬ IsNearer (at_way u x y w h) (whole u) q → q.y ≤ℤ (n *ℤ q.w)
+    → ¬ IsNearer (at_vector u x y w h) (whole u) q → q.y ≤ℤ (n *ℤ q.w)
 within_top u x y w n h clear q far = let r = reach_top u x y w n in
     elim (lt_or_ge_ℤ (n *ℤ q.w) (q.y)) [
       | inl beyond ↦ absurd (out_of_reach (q.w *ℤ r) (w *ℤ (q.y -ℤ n *ℤ q.w))
-          (run (at_way u x y w h) q) ((q.w *ℤ q.w) *ℤ (x *ℤ x +ℤ y *ℤ y))
+          (run (at_vector u x y w h) q) ((q.w *ℤ q.w) *ℤ (x *ℤ x +ℤ y *ℤ y))
           (mul-nonneg_ℤ {a = q.w} {b = r} (not_negative q.w q.positive) clear.0)
-          (mul-pos_ℤ {a = w} {b = q.y -ℤ n *ℤ q.w} h (positive_way (n *ℤ q.w) (q.y) beyond))
+          (mul-pos_ℤ {a = w} {b = q.y -ℤ n *ℤ q.w} h (positive_vector (n *ℤ q.w) (q.y) beyond))
           (subst (λ z. z ≤ℤ ((q.w *ℤ q.w) *ℤ (x *ℤ x +ℤ y *ℤ y))) (top_gap u x y w n h q)
           (as_near u x y w h q far))
           (subst (λ z. ((q.w *ℤ q.w) *ℤ (x *ℤ x +ℤ y *ℤ y)) ≤ℤ z) (squared_product q.w r)
@@ -383,7 +378,7 @@ pub holds_disk : (s : Sides) (u : Point) (x y w : ℤ) (h : pos 0 <ℤ w)
     → ((n : ℤ) → s.right ≡ Some n → IsClear x y (reach_right u x y w n))
     → ((n : ℤ) → s.bottom ≡ Some n → IsClear x y (reach_bottom u x y w n))
     → ((n : ℤ) → s.top ≡ Some n → IsClear x y (reach_top u x y w n))
-    → HoldsDisk s (at_way u x y w h) u
+    → HoldsDisk s (at_vector u x y w h) u
 holds_disk s u x y w h left right bottom top q far = record {
   left = λ n e. within_left u x y w n h (left n e) q far;
   right = λ n e. within_right u x y w n h (right n e) q far;
@@ -413,64 +408,66 @@ upper_known x y along along' a a' w side t e d told =
     subst₂ (λ (k l : ℤ). TellsClear x y (λ n. k +ℤ (n -ℤ l) *ℤ w) side t) e d told
 
 module _ (s : Sides) (u v p : Point) (turns : TurnsLeft (whole u) (whole v) (whole p))
-    (x y w : ℤ) (is_x : x ≡ way_x u v p) (is_y : y ≡ way_y u v p) (is_w : w ≡ scale u v p) where
-  positive : pos 0 <ℤ w
-  positive = subst (λ z. pos 0 <ℤ z) (sym is_w)
-      (twice_positive (turn_at u v p) ((side_by_area u v p).0.0 turns))
+    (x y w : ℤ) (is_x : x ≡ vector_x u v p) (is_y : y ≡ vector_y u v p) (is_w : w ≡ scale u v p)
+  where
+    positive : pos 0 <ℤ w
+    positive = subst (λ z. pos 0 <ℤ z) (sym is_w)
+        (twice_positive (turn_at u v p) ((side_by_area u v p).0.0 turns))
 
-  is_centre : IsCentre (whole u) (whole v) (whole p) (at_way u x y w positive)
-  is_centre = record {
-    first = far_if_line (at_way u x y w positive) u v (rw (is_x, is_y, is_w) (first_line u v p));
-    second = far_if_line (at_way u x y w positive) v p (rw (is_x, is_y, is_w) (second_line u v p));
-  }
+    is_centre : IsCentre (whole u) (whole v) (whole p) (at_vector u x y w positive)
+    is_centre = record {
+      first = far_if_line (at_vector u x y w positive) u v (rw (is_x, is_y, is_w) (first_line u v p));
+      second = far_if_line (at_vector u x y w positive) v p
+          (rw (is_x, is_y, is_w) (second_line u v p));
+    }
 
-  passed : PassesSome s (at_way u x y w positive) u → TellsDisk s u v p false
-  passed some = record {
-    centre = at_way u x y w positive;
-    is_centre = is_centre;
-    told = inr (refl, some);
-  }
+    passed : PassesSome s (at_vector u x y w positive) u → TellsDisk s u v p false
+    passed some = record {
+      centre = at_vector u x y w positive;
+      is_centre = is_centre;
+      told = inr (refl, some);
+    }
 
-  pub left_passed : (t : Bool) → TellsClear x y (reach_left u x y w) s.left t → t ≡ false
-      → TellsDisk s u v p false
-  left_passed t told e = passed (inl (inl (some_and s.left
-      (λ n h. passes_left u x y w n positive h) (side_passed x y (reach_left u x y w) s.left t told
-      e))))
+    pub left_passed : (t : Bool) → TellsClear x y (reach_left u x y w) s.left t → t ≡ false
+        → TellsDisk s u v p false
+    left_passed t told e = passed (inl (inl (some_and s.left
+        (λ n h. passes_left u x y w n positive h) (side_passed x y (reach_left u x y w) s.left t told
+        e))))
 
-  pub right_passed : (t : Bool) → TellsClear x y (reach_right u x y w) s.right t → t ≡ false
-      → TellsDisk s u v p false
-  right_passed t told e = passed (inl (inr (some_and s.right
-      (λ n h. passes_right u x y w n positive h) (side_passed x y (reach_right u x y w) s.right t
-      told e))))
+    pub right_passed : (t : Bool) → TellsClear x y (reach_right u x y w) s.right t → t ≡ false
+        → TellsDisk s u v p false
+    right_passed t told e = passed (inl (inr (some_and s.right
+        (λ n h. passes_right u x y w n positive h) (side_passed x y (reach_right u x y w) s.right t
+        told e))))
 
-  pub bottom_passed : (t : Bool) → TellsClear x y (reach_bottom u x y w) s.bottom t → t ≡ false
-      → TellsDisk s u v p false
-  bottom_passed t told e = passed (inr (inl (some_and s.bottom
-      (λ n h. passes_bottom u x y w n positive h) (side_passed x y (reach_bottom u x y w) s.bottom t
-      told e))))
+    pub bottom_passed : (t : Bool) → TellsClear x y (reach_bottom u x y w) s.bottom t → t ≡ false
+        → TellsDisk s u v p false
+    bottom_passed t told e = passed (inr (inl (some_and s.bottom
+        (λ n h. passes_bottom u x y w n positive h) (side_passed x y (reach_bottom u x y w) s.bottom t
+        told e))))
 
-  top_passed : (t : Bool) → TellsClear x y (reach_top u x y w) s.top t → t ≡ false
-      → TellsDisk s u v p false
-  top_passed t told e = passed (inr (inr (some_and s.top
-      (λ n h. passes_top u x y w n positive h) (side_passed x y (reach_top u x y w) s.top t told
-      e))))
+    top_passed : (t : Bool) → TellsClear x y (reach_top u x y w) s.top t → t ≡ false
+        → TellsDisk s u v p false
+    top_passed t told e = passed (inr (inr (some_and s.top
+        (λ n h. passes_top u x y w n positive h) (side_passed x y (reach_top u x y w) s.top t told
+        e))))
 
-  -- all sides but the top one are clear, and that is told
-  pub told_by_top : (l r b t : Bool) → TellsClear x y (reach_left u x y w) s.left l → IsTrue l
-      → TellsClear x y (reach_right u x y w) s.right r → IsTrue r
-      → TellsClear x y (reach_bottom u x y w) s.bottom b → IsTrue b
-      → TellsClear x y (reach_top u x y w) s.top t → TellsDisk s u v p t
-  told_by_top l r b false left is_left right is_right bottom is_bottom top =
-      top_passed false top refl
-  told_by_top l r b true left is_left right is_right bottom is_bottom top = record {
-    centre = at_way u x y w positive;
-    is_centre = is_centre;
-    told = inl (
-      refl,
-      holds_disk s u x y w positive
-          (side_cleared x y (reach_left u x y w) s.left l left is_left)
-          (side_cleared x y (reach_right u x y w) s.right r right is_right)
-          (side_cleared x y (reach_bottom u x y w) s.bottom b bottom is_bottom)
-          (side_cleared x y (reach_top u x y w) s.top true top refl),
-    );
-  }
+    -- all sides but the top one are clear, and that is told
+    pub told_by_top : (l r b t : Bool) → TellsClear x y (reach_left u x y w) s.left l → IsTrue l
+        → TellsClear x y (reach_right u x y w) s.right r → IsTrue r
+        → TellsClear x y (reach_bottom u x y w) s.bottom b → IsTrue b
+        → TellsClear x y (reach_top u x y w) s.top t → TellsDisk s u v p t
+    told_by_top l r b false left is_left right is_right bottom is_bottom top =
+        top_passed false top refl
+    told_by_top l r b true left is_left right is_right bottom is_bottom top = record {
+      centre = at_vector u x y w positive;
+      is_centre = is_centre;
+      told = inl (
+        refl,
+        holds_disk s u x y w positive
+            (side_cleared x y (reach_left u x y w) s.left l left is_left)
+            (side_cleared x y (reach_right u x y w) s.right r right is_right)
+            (side_cleared x y (reach_bottom u x y w) s.bottom b bottom is_bottom)
+            (side_cleared x y (reach_top u x y w) s.top true top refl),
+      );
+    }

@@ -1,5 +1,5 @@
 -- Sums of two squares, by halves of their digits, and the order of ways by them.
--- Lemmas: squares_by_halves, short_way, clear_by_squares, not_clear_behind.
+-- Lemmas: squares_by_halves, short_vector, clear_by_squares, not_clear_behind.
 use Rattle.std.proofs.Common.{◌≡◌, ◌∙◌, ◌≤◌, ◌+◌, ◌*◌, ◌/◌, ◌%◌, ℕ, [], ◌∷◌, ap, subst, arith}
 use Rattle.std.proofs.Common.{mul-le-mul}
 use mathlib.Core.Path.{refl}
@@ -7,7 +7,7 @@ use Rattle.std.specs.Prelude.{ℤ, pos, negsuc, ◌+ℤ◌, ◌*ℤ◌, ◌≤�
 use Rattle.std.specs.Prelude.{Bool, IsTrue}
 use Rattle.std.proofs.lemmas.Int.{ints}
 use Rattle.std.proofs.lemmas.Nat.{div-add-mod'}
-use Rattle.plane.proofs.Solver.{num, ◌⊕◌, ◌⊗◌, ring_in, ring_in_from}
+use Rattle.plane.proofs.{◌⊕◌, ◌⊗◌, num, ring_in, ring_in_from}
 use Rattle.exact_predicates.specs.Disks.{IsClear}
 
 same_naturals : (a b : ℕ) → pos a ≡ pos b → a ≡ b
@@ -61,8 +61,8 @@ below_sum : (s a b p : ℕ) → s ≡ a + b → s ≤ p → a ≤ p
 below_sum s a b p e h = omega (arith, e, h)
 
 -- a way is at most as long as both its parts together
-pub short_way : (x y l : ℕ) → x + y ≤ l → x * x + y * y ≤ l * l
-short_way x y l h = below_sum ((x + y) * (x + y)) (x * x + y * y) (x * y + x * y) (l * l)
+pub short_vector : (x y l : ℕ) → x + y ≤ l → x * x + y * y ≤ l * l
+short_vector x y l h = below_sum ((x + y) * (x + y)) (x * x + y * y) (x * y + x * y) (l * l)
     (spread_naturals x y) (mul-le-mul h h)
 
 -- ---- the same of whole numbers

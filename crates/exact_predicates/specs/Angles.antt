@@ -1,6 +1,6 @@
 -- The angle between the ways from a point to two others.
 use Rattle.std.specs.Prelude.{ℤ, ◌+ℤ◌, ◌-ℤ◌, ◌*ℤ◌}
-use Rattle.plane.specs.Fraction.{Point}
+use Rattle.plane.specs.{Point}
 
 -- the scalar product of the ways from q to u and from q to v
 abbrev pub dot_at : Point → Point → Point → ℤ

@@ -1,8 +1,7 @@
 -- Whether the closed disk of a circle stays within some sides.
 use Rattle.std.specs.Prelude.{◌≡◌, ◌⊎◌, ◌↔◌, ℤ, pos, Bool, true, false, Option, Some, IsSomeAnd}
 use Rattle.std.specs.Prelude.{◌+ℤ◌, ◌*ℤ◌, ◌<ℤ◌, ◌≤ℤ◌, IsTrue, MatchOption}
-use Rattle.plane.specs.Fraction.{Point, Fraction, whole}
-use Rattle.plane.specs.Circle.{IsNearer, IsCentre}
+use Rattle.plane.specs.{Fraction, IsCentre, IsNearer, Point, whole}
 use Rattle.exact_predicates.specs.declared.disks.Sides.{Sides}
 
 -- the point of the line x = n, and of the line y = n, that is nearest to c

@@ -1,12 +1,8 @@
 //! Whether the disk of a circle stays within some sides.
 ghost use Rattle.std.specs.Prelude.{◌≡◌, ◌↔◌, ◌<◌, ◌≤◌, ◌+◌, ◌*◌, ◌+ℤ◌, ◌-ℤ◌, ◌*ℤ◌, ◌<ℤ◌};
 ghost use Rattle.std.specs.Prelude.{IsTrue, pos, unsigned_abs};
-ghost use Rattle.plane.specs.Fraction.{whole as fraction};
-ghost use Rattle.plane.specs.Side.{TurnsLeft};
-ghost use Rattle.plane.specs.Laws.{turn_at};
-ghost use Rattle.plane.specs.Tests.{InRange, IsCoordinate};
-ghost use Rattle.delaunay_core.specs.Place.{place_of};
-ghost use Rattle.exact_predicates.specs.Angles.{dot_at};
+ghost use Rattle.plane.specs.{InRange, IsCoordinate, turn_at, TurnsLeft, whole as fraction};
+ghost use Rattle.{delaunay_core.specs.place_of, exact_predicates.specs.Angles.dot_at};
 ghost use Rattle.exact_predicates.specs.Disks.{IsClear, TellsClear, TellsDisk};
 
 use crate::{difference, dot_at, turn_at};
@@ -135,8 +131,8 @@ fn is_at_most(x: u128, y: u128, length: u128) -> bool
     if x + y <= length {
         return true;
     }
-    let (way, whole) = (squares(x, y), squares(length, 0));
-    way.high < whole.high || way.high == whole.high && way.low <= whole.low
+    let (vector, whole) = (squares(x, y), squares(length, 0));
+    vector.high < whole.high || vector.high == whole.high && vector.low <= whole.low
 }
 
 impl Centre {

@@ -10,13 +10,9 @@
 #![tactic(auto)]
 
 ghost use Rattle.std.specs.Prelude.{◌≡◌, ◌↔◌, ◌≤◌, ◌-ℤ◌, ◌*ℤ◌, IsTrue, unsigned_abs};
-ghost use Rattle.plane.specs.Fraction.{whole as fraction};
-ghost use Rattle.plane.specs.Side.{side, TurnsLeft};
-ghost use Rattle.plane.specs.Circle.{InsideCircle};
-ghost use Rattle.plane.specs.Laws.{turn_at, lifted_determinant};
-ghost use Rattle.plane.specs.Tests.{IsCoordinate, InRange};
-ghost use Rattle.delaunay_core.specs.Place.{place_of};
-ghost use Rattle.exact_predicates.specs.Angles.{dot_at};
+ghost use Rattle.plane.specs.{InRange, InsideCircle, IsCoordinate, lifted_determinant, side};
+ghost use Rattle.plane.specs.{turn_at, TurnsLeft, whole as fraction};
+ghost use Rattle.{delaunay_core.specs.place_of, exact_predicates.specs.Angles.dot_at};
 
 mod disks;
 

@@ -1,14 +1,10 @@
 -- Rounds that are taken from behind.
 -- Lemmas: round_before, loop_before.
 use Rattle.std.proofs.Common.{◌≡◌, ◌-◌, ◌<◌, ◌==◌, if◌then◌else◌, ◌∙◌, ℕ, length, ap, subst}
-use Rattle.half_edge_dcel.specs.half_edge_links.Mesh.{Mesh, IsValidMesh, next, prev, rev}
-use Rattle.half_edge_dcel.specs.half_edge_links.Peel.{turn}
-use Rattle.half_edge_dcel.proofs.half_edge_links_lemmas.Lists.Rev.{rev-rev, rev_within}
-use Rattle.half_edge_dcel.proofs.half_edge_links_lemmas.Removing.Conditions.{turn_in}
-use Rattle.half_edge_dcel.specs.Contents.{IsMeshWithData}
-use Rattle.half_edge_dcel.specs.declared.edge_walk.EdgeWalk.{EdgeWalk}
-use Rattle.half_edge_dcel.specs.Walks.{IsEnding}
-use Rattle.half_edge_dcel.proofs.Walks.{Undoes, EndsBefore, ends_before}
+use Rattle.half_edge_links.specs.{IsValidMesh, Mesh, next, prev, rev, turn}
+use Rattle.half_edge_links.proofs.{rev-rev, rev_within, turn_in}
+use Rattle.half_edge_dcel.specs.{EdgeWalk, IsEnding, IsMeshWithData}
+use Rattle.half_edge_dcel.proofs.Walks.{ends_before, EndsBefore, Undoes}
 
 -- the edge before one, round the vertex where it starts, against the clock
 turn_back : Mesh → ℕ → ℕ

@@ -3,17 +3,12 @@
 use Rattle.std.proofs.Common.{◌≡◌, ◌-◌, ◌<◌, ◌≤◌, [], ◌∷◌, ◌∙◌}
 use Rattle.std.proofs.Common.{ℕ, zero, suc, List, length, map, refl, sym, ap, inl, inr, arith}
 use Rattle.std.proofs.lemmas.Bool.{cases_eq}
-use Rattle.half_edge_links.specs.Mesh.{Mesh, face, rev, AreSoundLinks}
-use Rattle.half_edge_links.specs.Move.{MovesVertex}
-use Rattle.half_edge_links.specs.Renames.{moved}
-use Rattle.half_edge_links.specs.Flow.{outer_among, outline}
-use Rattle.half_edge_links.specs.Outline.{Ends, ends}
+use Rattle.half_edge_links.specs.{AreSoundLinks, Ends, ends, face, Mesh, moved, MovesVertex}
+use Rattle.half_edge_links.specs.{outer_among, outline, rev, Triangle, triangles}
 use Rattle.half_edge_links.specs.Taken.{MovesEnds, MovesTriangles}
-use Rattle.half_edge_links.specs.Triangles.{Triangle, triangles}
-use Rattle.half_edge_links.proofs.Lists.Rev.{rev_within}
+use Rattle.half_edge_dcel.specs.{full_edges_of, full_faces_of, renumbered_edge, renumbered_face}
+use Rattle.{half_edge_dcel.specs.Removal.renumbered_ends, half_edge_links.proofs.rev_within}
 use Rattle.half_edge_dcel.proofs.Outlines.{listed, passed_over}
-use Rattle.half_edge_dcel.specs.Removal.{full_edges_of, full_faces_of, renumbered_edge}
-use Rattle.half_edge_dcel.specs.Removal.{renumbered_face, renumbered_ends}
 
 -- corners under new indexes, where vertex v has gone and the last one has taken its index
 abbrev pub renumbered_triangle : ℕ → ℕ → Triangle → Triangle

@@ -9,13 +9,10 @@ use Rattle.std.specs.Prelude.{slice_get}
 use Rattle.std.proofs.lemmas.List.{length-map, length-set, set-append_left}
 use Rattle.std.proofs.lemmas.Grind.{common_steps}
 use Rattle.std.proofs.lemmas.Option.{gets}
-use Rattle.half_edge_links.specs.Mesh.{Mesh, rev}
-use Rattle.half_edge_links.specs.Outline.{Ends, origins, ends, along}
-use Rattle.half_edge_links.proofs.Lists.Rev.{rev_differs, rev_within}
-use Rattle.half_edge_links.proofs.Sound.Ends.{length-paired}
-use Rattle.half_edge_dcel.specs.Contents.{FitsMesh, edge_with, edges_of}
-use Rattle.half_edge_dcel.specs.Growth.{Grows, MovesItem, AddsEdges, SplitsEdge, with_ends}
-use Rattle.half_edge_dcel.specs.Growth.{MovesTwoItems}
+use Rattle.half_edge_links.specs.{along, Ends, ends, Mesh, origins, rev}
+use Rattle.half_edge_links.proofs.{rev_differs, rev_within, Sound.Ends.length-paired}
+use Rattle.half_edge_dcel.specs.{AddsEdges, edge_with, edges_of, FitsMesh, Grows, SplitsEdge}
+use Rattle.half_edge_dcel.specs.{Growth.MovesItem, Growth.MovesTwoItems, with_ends}
 
 -- edges with their data of two lists in a row are those of the first and then those of the second
 edges_of-append : {U : Type 0} (es fs : List Ends) (us vs : List U) → length us ≡ length es

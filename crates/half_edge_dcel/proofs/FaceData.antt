@@ -2,8 +2,7 @@
 use Rattle.std.proofs.Common.{◌≡◌, ℕ, suc, ◌<◌, List, ◌∷◌, length, get_or, Some, refl}
 use Rattle.std.specs.Prelude.{slice_get, slice_set}
 use Rattle.std.proofs.lemmas.Option.{slice_get_read}
-use Rattle.half_edge_dcel.specs.Contents.{Contents}
-use Rattle.half_edge_dcel.specs.Writing.{with_face}
+use Rattle.half_edge_dcel.specs.{Contents, with_face}
 
 -- what is read behind a first item
 pub slice_get_behind : {X : Type 0} (o : X) (xs : List X) (i k : ℕ) (x : X) → suc k ≡ i

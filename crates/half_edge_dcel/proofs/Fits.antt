@@ -5,13 +5,10 @@
 use Rattle.std.proofs.Common.{◌≡◌, ℕ, ◌+◌, List, [], ◌∷◌, ◌++◌, ◌∙◌, length, arith, set, ap}
 use Rattle.std.proofs.Common.{length-append}
 use Rattle.std.proofs.lemmas.List.{length-set, length_push}
-use Rattle.half_edge_links.specs.Mesh.{Mesh, with_vertex, connected}
-use Rattle.half_edge_links.specs.Flip.{flipped, flip_by}
-use Rattle.half_edge_links.specs.Insert.{inserted, insert_by}
-use Rattle.half_edge_links.specs.Grow.{hung, hung_edges, closed, closed_edges, with_next, with_prev}
-use Rattle.half_edge_links.specs.Grow.{with_face, with_origin, slid, slid_edges}
-use Rattle.half_edge_dcel.specs.Contents.{FitsMesh}
-use Rattle.half_edge_dcel.specs.Growth.{Grows, MovesItem}
+use Rattle.half_edge_links.specs.{closed, closed_edges, connected, flip_by, flipped, hung}
+use Rattle.half_edge_links.specs.{hung_edges, insert_by, inserted, Mesh, slid, slid_edges}
+use Rattle.half_edge_links.specs.{with_face, with_next, with_origin, with_prev, with_vertex}
+use Rattle.half_edge_dcel.specs.{FitsMesh, Grows, Growth.MovesItem}
 
 -- a list that has grown by so many items is so much longer
 pub length-grown : {X : Type 0} (P : X → Type 0) (old new : List X) (more : ℕ)

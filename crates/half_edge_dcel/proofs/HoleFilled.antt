@@ -15,27 +15,21 @@ use Rattle.std.proofs.lemmas.List.Sorted.{All-permutation, Contains-permutation,
 use Rattle.std.proofs.lemmas.List.Sorted.{IsPermutation-trans, IsPermutation-cons}
 use Rattle.std.proofs.lemmas.List.Sorted.{IsPermutation-append_left, IsPermutation-append_right}
 use Rattle.std.proofs.lemmas.List.Sorted.{IsPermutation-filter_both, IsPermutation-middle}
-use Rattle.half_edge_links.specs.Flow.{total, along}
-use Rattle.half_edge_links.specs.Mesh.{Mesh, origin, next, prev, face_edge, out_edge, AreSoundLinks}
-use Rattle.half_edge_links.specs.Mesh.{IsAlone, IsInner}
-use Rattle.half_edge_links.specs.Outline.{Ends, ends}
-use Rattle.half_edge_links.specs.Round.{neighbour}
-use Rattle.half_edge_links.specs.Triangles.{Triangle, triangle_at}
-use Rattle.half_edge_links.proofs.Removing.TakenLists.{ends_at, count_ends}
-use Rattle.half_edge_dcel.specs.Contents.{Contents, IsMeshWithData}
-use Rattle.half_edge_dcel.specs.Growth.{joins}
-use Rattle.half_edge_dcel.specs.Removal.{FullEdge, FullFace, Connects, HasCorners, FillsHole}
-use Rattle.half_edge_dcel.specs.Removal.{full_edges, full_faces, spokes_to, faces_between}
-use Rattle.half_edge_dcel.proofs.TakenEdges.{listed_face}
-use Rattle.half_edge_dcel.proofs.TakenOut.{length-full_edges, get_or-full_edges}
-use Rattle.half_edge_dcel.specs.Hole.{IsHub, HasFreeTip, HasDataOf, FillsWithFan}
-use Rattle.half_edge_dcel.proofs.Filtered.{sorted_out, Contains-filter}
-use Rattle.half_edge_dcel.proofs.Hubs.{no_face_of, count_faces, round_faces, round_faces_are}
-use Rattle.half_edge_dcel.proofs.Hubs.{faces_round}
-use Rattle.half_edge_dcel.proofs.Touching.{has_corner, lacks_corner, touches, misses, touches_it}
-use Rattle.half_edge_dcel.proofs.Touching.{corner_there, corners_off, ends_off}
-use Rattle.half_edge_dcel.proofs.TurnedEdge.{HasTurned, value_at}
-use Rattle.half_edge_dcel.proofs.Turning.{all_zip-push}
+use Rattle.half_edge_links.specs.{AreSoundLinks, Ends, ends, face_edge, IsAlone, IsInner, Mesh}
+use Rattle.half_edge_links.specs.{neighbour, next, origin, out_edge, prev, total, Triangle}
+use Rattle.{half_edge_links.specs.Flow.along, half_edge_links.specs.triangle_at}
+use Rattle.half_edge_links.proofs.{count_ends, ends_at}
+use Rattle.half_edge_dcel.specs.{Connects, Contents, faces_between, FillsHole, full_edges}
+use Rattle.half_edge_dcel.specs.{full_faces, FullEdge, FullFace, HasCorners, HasFreeTip, IsHub}
+use Rattle.half_edge_dcel.specs.{IsMeshWithData, joins, spokes_to}
+use Rattle.half_edge_dcel.specs.Hole.{FillsWithFan, HasDataOf}
+use Rattle.half_edge_dcel.proofs.Filtered.{Contains-filter, sorted_out}
+use Rattle.half_edge_dcel.proofs.Hubs.{count_faces, faces_round, no_face_of, round_faces}
+use Rattle.half_edge_dcel.proofs.{Hubs.round_faces_are, Turning.all_zip-push}
+use Rattle.half_edge_dcel.proofs.{TakenEdges.listed_face, TurnedEdge.HasTurned, TurnedEdge.value_at}
+use Rattle.half_edge_dcel.proofs.TakenOut.{get_or-full_edges, length-full_edges}
+use Rattle.half_edge_dcel.proofs.Touching.{corner_there, corners_off, ends_off, has_corner}
+use Rattle.half_edge_dcel.proofs.Touching.{lacks_corner, misses, touches, touches_it}
 
 -- ---- a vertex without edges
 module _ {V D U F : Type 0} (c : Contents V D U F) (v : ℕ) (whole : IsMeshWithData c)

@@ -9,36 +9,27 @@ use Rattle.std.specs.List.Sorted.{IsPermutation}
 use Rattle.std.proofs.lemmas.Int.{ints}
 use Rattle.std.proofs.lemmas.List.Sorted.{IsPermutation-trans, IsPermutation-cons}
 use Rattle.std.proofs.lemmas.List.Sorted.{IsPermutation-to_front}
-use Rattle.half_edge_links.specs.Flow.{total, around, both_ways}
-use Rattle.half_edge_links.specs.Hull.{KeepsOneOutline}
-use Rattle.half_edge_links.specs.Mesh.{Mesh, origin, next, prev, face, face_edge, rev}
-use Rattle.half_edge_links.specs.Mesh.{AreSoundLinks, IsAlone}
-use Rattle.half_edge_links.specs.Peel.{IsPeelable, IsWheel, turn}
-use Rattle.half_edge_links.specs.Remove.{IsOpenTriangle, IsRemovable, after_removal}
-use Rattle.half_edge_links.specs.Round.{neighbour}
-use Rattle.half_edge_links.specs.Triangles.{triangle_at}
+use Rattle.half_edge_links.specs.{after_removal, AreSoundLinks, around, both_ways, face, face_edge}
+use Rattle.half_edge_links.specs.{IsAlone, IsOpenTriangle, IsPeelable, IsRemovable, IsWheel}
+use Rattle.half_edge_links.specs.{KeepsOneOutline, Mesh, neighbour, next, origin, prev, rev, total}
+use Rattle.half_edge_links.specs.{triangle_at, turn}
+use Rattle.half_edge_links.proofs.{OuterLoop.OutlineFilled.outline_filled, rev-rev}
 use Rattle.half_edge_links.proofs.Removing.CollapseLemmas.{open_triangle, removable_last}
+use Rattle.half_edge_links.proofs.Removing.Conditions.{full_wheel, IsFullWheel, peelable, removable}
 use Rattle.half_edge_links.proofs.Removing.PeelLemmas.{peels_faces}
-use Rattle.half_edge_links.proofs.Removing.Conditions.{IsFullWheel, full_wheel, peelable, removable}
-use Rattle.half_edge_links.proofs.OuterLoop.OutlineFilled.{outline_filled}
-use Rattle.half_edge_links.proofs.Lists.Rev.{rev-rev}
-use Rattle.half_edge_links.proofs.Removing.WheelEnds.{IsHoleOfFour, IsHoleOfThree, hole_of_four}
-use Rattle.half_edge_links.proofs.Removing.WheelEnds.{hole_of_three, closed_corners}
-use Rattle.half_edge_links.proofs.Removing.WheelLemmas as wheel
-use Rattle.half_edge_dcel.specs.Contents.{Contents, IsMeshWithData, KeepsVertices}
-use Rattle.half_edge_dcel.specs.Growth.{joins}
-use Rattle.half_edge_dcel.specs.Removal.{FullFace, Connects, HasCorners, LosesEdges, LosesFaces}
-use Rattle.half_edge_dcel.specs.Removal.{OuterSumsChange, FillsHole, full_edges}
-use Rattle.half_edge_dcel.specs.Removal.{full_edges_of, full_faces, full_faces_of, spokes_to}
-use Rattle.half_edge_dcel.specs.Removal.{faces_between}
+use Rattle.half_edge_links.proofs.Removing.WheelEnds.{closed_corners, hole_of_four, hole_of_three}
+use Rattle.half_edge_links.proofs.Removing.WheelEnds.{IsHoleOfFour, IsHoleOfThree}
+use Rattle.half_edge_dcel.specs.{Connects, Contents, faces_between, FillsHole, full_edges}
+use Rattle.half_edge_dcel.specs.{full_edges_of, full_faces, full_faces_of, FullFace, HasCorners}
+use Rattle.half_edge_dcel.specs.{IsMeshWithData, joins, LosesEdges, LosesFaces, OuterSumsChange}
+use Rattle.half_edge_dcel.specs.{MeshContents.KeepsVertices, RemovesFullEdge, spokes_to}
 use Rattle.half_edge_dcel.specs.Taking.{ClosesFullFace, OpensFullFace, PeelsFullEdge}
-use Rattle.half_edge_dcel.specs.Taking.{RemovesFullEdge}
 use Rattle.half_edge_dcel.proofs.LineSteps.{alone_after}
-use Rattle.half_edge_dcel.proofs.OuterSums.{ends_sum, total_faces, total_lost_faces}
-use Rattle.half_edge_dcel.proofs.OuterSums.{total-permutation, total-append, any_corner, outer_sum}
-use Rattle.half_edge_dcel.proofs.StripSteps.{same_but, same_but_edges, same_but_faces}
-use Rattle.half_edge_dcel.proofs.StripSteps.{one_more_gone, none_gone}
-use Rattle.half_edge_dcel.proofs.TakenEdges.{named_corners}
+use Rattle.half_edge_dcel.proofs.OuterSums.{any_corner, ends_sum, outer_sum, total-append}
+use Rattle.half_edge_dcel.proofs.OuterSums.{total-permutation, total_faces, total_lost_faces}
+use Rattle.half_edge_dcel.proofs.StripSteps.{none_gone, one_more_gone, same_but, same_but_edges}
+use Rattle.half_edge_dcel.proofs.{StripSteps.same_but_faces, TakenEdges.named_corners}
+use Rattle.half_edge_links.proofs.Removing.WheelLemmas as wheel
 
 -- the corners of a face at a vertex with three faces
 module _ (m : Mesh) (o : ℕ) (s : AreSoundLinks m) (w : IsFullWheel m o) where

@@ -10,27 +10,19 @@ use Rattle.std.specs.List.{AllZip, filter}
 use Rattle.std.specs.List.Sorted.{IsPermutation}
 use Rattle.std.proofs.lemmas.Bool.{cases_eq}
 use Rattle.std.proofs.lemmas.List.{length-map}
-use Rattle.half_edge_links.specs.declared.records.HalfEdge.{HalfEdge}
-use Rattle.half_edge_links.specs.Flip.{IsFlippable, Flips}
-use Rattle.half_edge_links.specs.Mesh.{Mesh, edge_at, origin, next, prev, face, face_edge, rev}
-use Rattle.half_edge_links.specs.Mesh.{AreSoundLinks, IsValidMesh, IsInner}
-use Rattle.half_edge_links.specs.Peel.{turn, spoke}
-use Rattle.half_edge_links.specs.Round.{neighbour}
-use Rattle.half_edge_links.specs.Triangles.{Triangle, triangles, triangle_at}
-use Rattle.half_edge_links.proofs.Removing.Conditions.{flippable, spoke_at, turn_in, turn_one}
-use Rattle.half_edge_links.proofs.Removing.Conditions.{turned_apart, same_spoke}
-use Rattle.half_edge_links.proofs.Faces.FlipSound.{origin_kept}
-use Rattle.half_edge_links.proofs.Lists.Rev.{rev-rev}
-use Rattle.half_edge_links.proofs.Sound.Triangles.{IsTriangle, triangle_at as loop_at}
-use Rattle.half_edge_links.proofs.Lists.Walks.{among_steps, to_steps, from_steps, steps_closed}
-use Rattle.half_edge_dcel.specs.Contents.{Contents, IsMeshWithData}
-use Rattle.half_edge_dcel.specs.Removal.{FullFace, HasCorners, full_faces, full_faces_of}
-use Rattle.half_edge_dcel.specs.Removal.{faces_between}
-use Rattle.half_edge_dcel.specs.Hole.{IsHub, HasFreeTip}
+use Rattle.half_edge_links.specs.{AreSoundLinks, edge_at, face, face_edge, Flips, HalfEdge}
+use Rattle.half_edge_links.specs.{IsFlippable, IsInner, IsValidMesh, Mesh, neighbour, next, origin}
+use Rattle.half_edge_links.specs.{prev, rev, spoke, Triangle, triangle_at, triangles, turn}
+use Rattle.half_edge_links.proofs.{IsTriangle, origin_kept, rev-rev, spoke_at}
+use Rattle.half_edge_links.proofs.{triangle_at as loop_at, turn_in}
+use Rattle.half_edge_links.proofs.Lists.Walks.{among_steps, from_steps, steps_closed, to_steps}
+use Rattle.half_edge_links.proofs.Removing.Conditions.{flippable, same_spoke, turn_one}
+use Rattle.half_edge_links.proofs.Removing.Conditions.{turned_apart}
+use Rattle.half_edge_dcel.specs.{Contents, faces_between, full_faces, full_faces_of, FullFace}
+use Rattle.half_edge_dcel.specs.{HasCorners, HasFreeTip, IsHub, IsMeshWithData}
+use Rattle.half_edge_dcel.proofs.{Filtered.items_at, Filtered.taken_all, TakenOut.length-full_faces}
 use Rattle.half_edge_dcel.proofs.TakenEdges.{listed_face, named_corners}
-use Rattle.half_edge_dcel.proofs.TakenOut.{length-full_faces}
-use Rattle.half_edge_dcel.proofs.Filtered.{items_at, taken_all}
-use Rattle.half_edge_dcel.proofs.Touching.{has_corner, corner_there, corners_off, which_corner}
+use Rattle.half_edge_dcel.proofs.Touching.{corner_there, corners_off, has_corner, which_corner}
 
 -- the edge after one between two inner faces can be turned
 module _ (m : Mesh) (o : ℕ) (v : IsValidMesh m) (within : o < length m.half_edges)

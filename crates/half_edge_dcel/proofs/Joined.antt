@@ -4,13 +4,9 @@
 use Rattle.std.proofs.Common.{◌≡◌, ◌≢◌, ◌+◌, ◌-◌, ◌<◌, ◌≤◌, ◌∙◌}
 use Rattle.std.proofs.Common.{ℕ, zero, suc, length, Some, sym, ap, inl, inr, arith}
 use Rattle.std.proofs.lemmas.Bool.{cases_lt}
-use Rattle.half_edge_dcel.specs.half_edge_links.Mesh.{Mesh, origin, prev, rev, out_edge}
-use Rattle.half_edge_dcel.specs.half_edge_links.Peel.{turn, spoke}
-use Rattle.half_edge_dcel.proofs.half_edge_links_lemmas.Lists.Rev.{rev-rev}
-use Rattle.half_edge_dcel.proofs.half_edge_links_lemmas.Removing.Conditions.{spoke_at}
-use Rattle.half_edge_dcel.proofs.half_edge_links_lemmas.Lists.OneOrbit.{edges_go_round}
-use Rattle.half_edge_dcel.proofs.half_edge_links_lemmas.Lists.Orbits.{step_add}
-use Rattle.half_edge_dcel.specs.Contents.{Contents, IsMeshWithData}
+use Rattle.half_edge_links.specs.{Mesh, origin, out_edge, prev, rev, spoke, turn}
+use Rattle.half_edge_links.proofs.{Lists.OneOrbit.edges_go_round, rev-rev, spoke_at, step_add}
+use Rattle.half_edge_dcel.specs.{Contents, IsMeshWithData}
 use Rattle.half_edge_dcel.proofs.Loops.{round_fits}
 
 -- one turn further round the vertex

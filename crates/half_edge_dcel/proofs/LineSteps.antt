@@ -8,32 +8,23 @@ use Rattle.std.proofs.lemmas.Bool.{cases_eq}
 use Rattle.std.proofs.lemmas.Bool.Decides.{nat_tests}
 use Rattle.std.proofs.lemmas.Int.{ints}
 use Rattle.std.specs.Prelude.{ℤ, pos, ◌+ℤ◌}
-use Rattle.half_edge_links.specs.Flow.{total, around, both_ways}
-use Rattle.half_edge_links.specs.Hull.{IsPendant}
-use Rattle.half_edge_links.specs.Mesh.{Mesh, origin, next, prev, face, out_edge, rev, AreSoundLinks}
-use Rattle.half_edge_links.specs.Mesh.{IsValidMesh}
-use Rattle.half_edge_links.specs.Outline.{Ends, ends, along, MovesEdge}
-use Rattle.half_edge_links.specs.Pass.{IsPassable, Passes}
-use Rattle.half_edge_links.specs.Peel.{turn}
-use Rattle.half_edge_links.specs.Remove.{Removes, IsRemovable, out_after}
-use Rattle.half_edge_links.specs.Renames.{renamed}
-use Rattle.half_edge_links.specs.Triangles.{triangles, triangle_at}
-use Rattle.half_edge_links.proofs.Sound.Parts.{rev_of_even, rev_of_odd}
-use Rattle.half_edge_links.proofs.Lists.Rev.{rev-rev, rev_within, rev_differs}
-use Rattle.half_edge_links.proofs.Growing.Passing.{IsBeside, beside}
-use Rattle.half_edge_links.proofs.Removing.TakenLists.{count_ends}
-use Rattle.half_edge_dcel.specs.Contents.{Contents, IsMeshWithData}
-use Rattle.half_edge_dcel.specs.Growth.{joins}
-use Rattle.half_edge_dcel.specs.Removal.{TakesOut, FullEdge, full_edges, full_edges_of, Connects}
-use Rattle.half_edge_dcel.specs.Removal.{HasFewEdges, JoinsNeighbours, OuterSumsChange, LeavesLine}
-use Rattle.half_edge_dcel.specs.Taking.{IsMiddle, PassesVertex, RemovesFullEdge}
+use Rattle.half_edge_links.specs.{along, AreSoundLinks, around, both_ways, Ends, ends, face}
+use Rattle.half_edge_links.specs.{IsPendant, IsRemovable, IsValidMesh, Mesh, MovesEdge, next}
+use Rattle.half_edge_links.specs.{origin, out_edge, Passes, prev, Removes, renamed, rev, total}
+use Rattle.half_edge_links.specs.{Pass.IsPassable, Remove.out_after, triangle_at, triangles, turn}
+use Rattle.half_edge_links.proofs.{count_ends, rev-rev, rev_differs, rev_of_odd, rev_within}
+use Rattle.half_edge_links.proofs.Growing.Passing.{beside, IsBeside}
+use Rattle.half_edge_links.proofs.Sound.Parts.{rev_of_even}
+use Rattle.half_edge_dcel.specs.{Connects, Contents, full_edges, full_edges_of, FullEdge}
+use Rattle.half_edge_dcel.specs.{HasFewEdges, IsMeshWithData, joins, OuterSumsChange}
+use Rattle.half_edge_dcel.specs.{RemovesFullEdge, TakesOut, Taking.IsMiddle, Taking.PassesVertex}
+use Rattle.half_edge_dcel.specs.Removal.{JoinsNeighbours, LeavesLine}
+use Rattle.half_edge_dcel.proofs.OuterSums.{edge_ends, either_way, ends_sum, outer_sum}
+use Rattle.half_edge_dcel.proofs.OuterSums.{total-permutation, total_edges}
+use Rattle.half_edge_dcel.proofs.{Outlines.empty_list, TakenEdges.between, TakenEdges.listed_ends}
 use Rattle.half_edge_dcel.proofs.TakenOut.{length-full_edges}
-use Rattle.half_edge_dcel.proofs.TakenEdges.{listed_ends, between}
+use Rattle.half_edge_dcel.proofs.Touching.{full_edges-set, with_other_ends}
 use Rattle.half_edge_dcel.proofs.TwoEdges.{item_at, one_written_one_taken}
-use Rattle.half_edge_dcel.proofs.Touching.{with_other_ends, full_edges-set}
-use Rattle.half_edge_dcel.proofs.OuterSums.{total-permutation, total_edges, either_way, edge_ends}
-use Rattle.half_edge_dcel.proofs.OuterSums.{outer_sum, ends_sum}
-use Rattle.half_edge_dcel.proofs.Outlines.{empty_list}
 
 out_self : (e : ℕ) → out_after e e ≡ None
 out_self e = grind (arith, nat_tests)

@@ -5,23 +5,15 @@ use Rattle.std.proofs.Common.{ℕ, zero, suc, length, Option, Some, None, IfSome
 use Rattle.std.proofs.Common.{sym, ap, subst, inl, inr, arith}
 use Rattle.std.specs.Borrow.{Bor}
 use Rattle.std.proofs.lemmas.Bool.{cases_eq, cases_lt}
-use Rattle.half_edge_dcel.specs.half_edge_links.Mesh.{Mesh, AreSoundLinks, IsValidMesh, next, prev}
-use Rattle.half_edge_dcel.specs.half_edge_links.Mesh.{face, out_edge, iterate}
-use Rattle.half_edge_dcel.specs.half_edge_links.Hull.{HasOneOutline, IsClosedAlong}
-use Rattle.half_edge_dcel.specs.half_edge_links.Peel.{turn}
-use Rattle.half_edge_dcel.specs.half_edge_links.Round.{IsRound}
-use Rattle.half_edge_dcel.proofs.half_edge_links_lemmas.Lists.Walks.{among_steps, to_steps}
-use Rattle.half_edge_dcel.proofs.half_edge_links_lemmas.Lists.Walks.{from_steps, steps_closed}
-use Rattle.half_edge_dcel.proofs.half_edge_links_lemmas.Lists.Orbits.{comes_back}
-use Rattle.half_edge_dcel.proofs.half_edge_links_lemmas.Lists.OneOrbit.{edges_go_round}
-use Rattle.half_edge_dcel.proofs.half_edge_links_lemmas.Removing.Conditions.{turn_in, turn_one}
-use Rattle.half_edge_dcel.specs.Contents.{Contents, IsMeshWithData}
-use Rattle.half_edge_dcel.specs.Left.{each_in}
-use Rattle.half_edge_dcel.specs.Rounds.{GivesRound, IsOuterLoop, GivesOuterLoop}
-use Rattle.half_edge_dcel.specs.Walks.{walk, walk_left, IsEnding}
-use Rattle.half_edge_dcel.specs.declared.edge_walk.EdgeWalk.{EdgeWalk}
-use Rattle.half_edge_dcel.proofs.Walks.{walk-list, comes_round, walk_left_is, none_left, ended}
+use Rattle.half_edge_links.specs.{AreSoundLinks, face, HasOneOutline, IsClosedAlong, IsRound}
+use Rattle.half_edge_links.specs.{IsValidMesh, iterate, Mesh, next, out_edge, prev, turn}
+use Rattle.{half_edge_links.proofs.Lists.Orbits.comes_back, half_edge_links.proofs.turn_in}
+use Rattle.half_edge_links.proofs.{Lists.OneOrbit.edges_go_round, Removing.Conditions.turn_one}
+use Rattle.half_edge_links.proofs.Lists.Walks.{among_steps, from_steps, steps_closed, to_steps}
+use Rattle.half_edge_dcel.specs.{Contents, each_in, EdgeWalk, GivesOuterLoop, GivesRound, IsEnding}
+use Rattle.half_edge_dcel.specs.{IsMeshWithData, Rounds.IsOuterLoop, walk, Walks.walk_left}
 use Rattle.half_edge_dcel.proofs.Ranges.{out_edge-within, outer_edge-within}
+use Rattle.half_edge_dcel.proofs.Walks.{comes_round, ended, none_left, walk-list, walk_left_is}
 
 -- a round has no more edges than the mesh
 pub round_fits : (m : Mesh) (u first count : ℕ) → IsValidMesh m → IsRound m u first count

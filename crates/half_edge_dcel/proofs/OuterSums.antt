@@ -13,16 +13,12 @@ use Rattle.std.proofs.lemmas.Bool.{cases_eq}
 use Rattle.std.proofs.lemmas.Int.{ints}
 use Rattle.std.proofs.lemmas.List.{length-map, length-set, get_or-set_same, get_or-set_other}
 use Rattle.std.proofs.lemmas.List.Sorted.{IsPermutation-keeps}
-use Rattle.half_edge_links.specs.Mesh.{Mesh, IsValidMesh}
-use Rattle.half_edge_links.specs.Flow.{total, around, along, both_ways, outline}
-use Rattle.half_edge_links.specs.Outline.{Ends, ends}
-use Rattle.half_edge_links.specs.Triangles.{Triangle, triangles, triangle_at}
-use Rattle.half_edge_links.proofs.Sound.Flow.{sides_add_up}
-use Rattle.half_edge_links.proofs.Removing.TakenLists.{count_ends}
-use Rattle.half_edge_dcel.specs.Contents.{Contents, IsMeshWithData}
-use Rattle.half_edge_dcel.specs.Removal.{FullEdge, full_edges, full_edges_of, FullFace, full_faces}
-use Rattle.half_edge_dcel.specs.Removal.{full_faces_of, Connects, HasCorners, LosesEdges}
-use Rattle.half_edge_dcel.specs.Removal.{LosesFaces}
+use Rattle.half_edge_links.specs.{around, both_ways, Ends, ends, IsValidMesh, Mesh, outline, total}
+use Rattle.half_edge_links.specs.{Flow.along, Triangle, triangle_at, triangles}
+use Rattle.half_edge_links.proofs.{count_ends, Sound.Flow.sides_add_up}
+use Rattle.half_edge_dcel.specs.{Connects, Contents, full_edges, full_edges_of, full_faces}
+use Rattle.half_edge_dcel.specs.{full_faces_of, FullEdge, FullFace, HasCorners, IsMeshWithData}
+use Rattle.half_edge_dcel.specs.{LosesEdges, LosesFaces}
 
 -- ---- totals
 module _ {X : Type 0} (f : X → ℤ) where

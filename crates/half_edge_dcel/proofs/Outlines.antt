@@ -6,11 +6,9 @@ use Rattle.std.proofs.Common.{ℕ, zero, suc, List, length, get_or, Option, None
 use Rattle.std.proofs.Common.{arith}
 use Rattle.std.proofs.lemmas.Bool.{cases_lt}
 use Rattle.std.proofs.lemmas.Bool.Decides.{nat_tests}
-use Rattle.half_edge_links.specs.Flow.{outer_among}
-use Rattle.half_edge_links.specs.Grow.{hung, edge_into, or_zero}
-use Rattle.half_edge_links.specs.Mesh.{Mesh, origin, face, rev, AreSoundLinks, with_vertex}
-use Rattle.half_edge_links.specs.Outline.{IsOuterEdge, OuterChanges, KeepsOuter}
-use Rattle.half_edge_links.specs.Triangles.{triangles}
+use Rattle.half_edge_links.specs.{AreSoundLinks, edge_into, face, hung, IsOuterEdge, KeepsOuter}
+use Rattle.half_edge_links.specs.{Mesh, origin, outer_among, OuterChanges, rev, triangles}
+use Rattle.{half_edge_links.specs.Grow.or_zero, half_edge_links.specs.with_vertex}
 
 outer_in : (m : Mesh) (h a b : ℕ) → IsOuterEdge m h a b → IsOuterEdge (with_vertex m) h a b
 outer_in m h a b o =

@@ -1,8 +1,8 @@
 -- The edges that a mesh names are edges of it.
 -- Lemmas: out_edge-within, outer_edge-within.
 use Rattle.std.proofs.Common.{◌≡◌, ℕ, ◌<◌, length, Option, None, Some, IfSome}
-use Rattle.half_edge_dcel.specs.half_edge_links.Mesh.{out_edge}
-use Rattle.half_edge_dcel.specs.Contents.{Contents, IsMeshWithData}
+use Rattle.half_edge_links.specs.{out_edge}
+use Rattle.half_edge_dcel.specs.{Contents, IsMeshWithData}
 
 -- the edge that a vertex names, if it names one
 pub out_edge-within : {V D U F : Type 0} (c : Contents V D U F) (v : ℕ) (first : Option ℕ)

@@ -9,25 +9,18 @@ use Rattle.std.specs.List.Sorted.{IsPermutation}
 use Rattle.std.proofs.lemmas.Int.{ints}
 use Rattle.std.proofs.lemmas.List.Sorted.{IsPermutation-refl, IsPermutation-trans}
 use Rattle.std.proofs.lemmas.List.Sorted.{IsPermutation-append_right, IsPermutation-middle}
-use Rattle.half_edge_links.specs.Hull.{KeepsOneOutline}
-use Rattle.half_edge_links.specs.Flow.{total, around, along, both_ways}
-use Rattle.half_edge_links.specs.Mesh.{Mesh, origin, prev, rev}
-use Rattle.half_edge_links.specs.Peel.{IsStrip, IsPeelable}
-use Rattle.half_edge_links.specs.Remove.{IsRemovable}
-use Rattle.half_edge_links.specs.Round.{neighbour}
-use Rattle.half_edge_links.specs.Triangles.{triangle_at}
-use Rattle.half_edge_links.proofs.Removing.Conditions.{IsFullStrip, full_strip}
-use Rattle.half_edge_links.proofs.Lists.Rev.{rev-rev}
-use Rattle.half_edge_links.proofs.Removing.StripLemmas.{strip_from, strip_ends, one_more}
-use Rattle.half_edge_links.proofs.Removing.StripLemmas.{removable_strip}
-use Rattle.half_edge_dcel.specs.Contents.{Contents, IsMeshWithData, KeepsVertices}
-use Rattle.half_edge_dcel.specs.Growth.{joins}
-use Rattle.half_edge_dcel.specs.Removal.{Connects, HasCorners, LosesEdges, LosesFaces, LosesStrip}
-use Rattle.half_edge_dcel.specs.Removal.{OuterSumsChange, full_edges, full_faces, full_faces_of}
-use Rattle.half_edge_dcel.specs.Removal.{spokes_to, faces_between, chain}
-use Rattle.half_edge_dcel.specs.Taking.{PeelsFullEdge, RemovesFullEdge}
-use Rattle.half_edge_dcel.proofs.LineSteps.{alone_after}
-use Rattle.half_edge_dcel.proofs.OuterSums.{ends_sum, corners_sum, outer_sum}
+use Rattle.half_edge_links.specs.{around, both_ways, IsPeelable, IsRemovable, IsStrip}
+use Rattle.half_edge_links.specs.{KeepsOneOutline, Mesh, neighbour, origin, prev, rev, total}
+use Rattle.half_edge_links.proofs.{Removing.StripLemmas.strip_from, rev-rev}
+use Rattle.half_edge_links.proofs.Removing.Conditions.{full_strip, IsFullStrip}
+use Rattle.half_edge_links.proofs.Removing.StripLemmas.{one_more, removable_strip, strip_ends}
+use Rattle.half_edge_dcel.specs.{Connects, Contents, faces_between, full_edges, full_faces}
+use Rattle.half_edge_dcel.specs.{full_faces_of, HasCorners, IsMeshWithData, joins, LosesEdges}
+use Rattle.half_edge_dcel.specs.{LosesFaces, LosesStrip, OuterSumsChange, RemovesFullEdge}
+use Rattle.{half_edge_dcel.specs.spokes_to, half_edge_links.specs.Flow.along}
+use Rattle.half_edge_dcel.specs.{MeshContents.KeepsVertices, Removal.chain, Taking.PeelsFullEdge}
+use Rattle.{half_edge_dcel.proofs.LineSteps.alone_after, half_edge_links.specs.triangle_at}
+use Rattle.half_edge_dcel.proofs.OuterSums.{corners_sum, ends_sum, outer_sum}
 
 module _ {V D U F : Type 0} where
   -- one after the other, two changes keep the vertices, the outer face and the room if each does

@@ -8,7 +8,7 @@ use Rattle.std.specs.Borrow.{Bor}
 use Rattle.std.proofs.lemmas.List.{length-map}
 use Rattle.std.proofs.lemmas.List.Elements.{All-nil, All-tail, All-pop}
 use Rattle.std.proofs.lemmas.List.FromFn.{length-range_with_len, get_or-range_with_len}
-use Rattle.half_edge_dcel.specs.Left.{each_in}
+use Rattle.half_edge_dcel.specs.{each_in}
 
 -- indexes in a row are below a bound of their end
 pub row_below : (a n b : ℕ) (xs : List ℕ) → xs ≡ range_with_len a n → a + n ≤ b

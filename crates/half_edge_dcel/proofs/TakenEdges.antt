@@ -7,19 +7,15 @@ use Rattle.std.proofs.lemmas.Bool.{cases_eq}
 use Rattle.std.proofs.lemmas.List.{length-map, get_or-map}
 use Rattle.std.specs.List.{AllZip, swap_remove}
 use Rattle.std.specs.List.Sorted.{IsPermutation}
-use Rattle.half_edge_links.specs.Mesh.{Mesh, origin, next, prev, face, face_edge, rev}
-use Rattle.half_edge_links.specs.Mesh.{AreSoundLinks, IsInner}
-use Rattle.half_edge_links.specs.Outline.{Ends, ends}
-use Rattle.half_edge_links.specs.Taken.{RemovesEnds, RemovesTriangle, no_ends, no_triangle}
-use Rattle.half_edge_links.specs.Triangles.{triangles, triangle_at}
-use Rattle.half_edge_links.proofs.Sound.Parts.{rev_of_even, rev_of_odd}
-use Rattle.half_edge_links.proofs.Removing.TakenLists.{ends_at, count_ends}
-use Rattle.half_edge_links.proofs.Sound.Triangles.{IsTriangle, triangle_at as loop_at}
-use Rattle.half_edge_dcel.specs.Growth.{joins}
-use Rattle.half_edge_dcel.specs.Removal.{TakesOut, TakesOutPair, FullEdge, full_edges_of, FullFace}
-use Rattle.half_edge_dcel.specs.Removal.{full_faces_of, Connects, HasCorners}
-use Rattle.half_edge_dcel.proofs.TakenOut.{takes_out, permuted, taken_item, full_edges_taken}
-use Rattle.half_edge_dcel.proofs.TakenOut.{get_or-full_edges, full_faces_taken, get_or-full_faces}
+use Rattle.half_edge_links.specs.{AreSoundLinks, Ends, ends, face, face_edge, IsInner, Mesh, next}
+use Rattle.half_edge_links.specs.{no_ends, no_triangle, origin, prev, rev, triangle_at, triangles}
+use Rattle.half_edge_links.specs.Taken.{RemovesEnds, RemovesTriangle}
+use Rattle.half_edge_links.proofs.{count_ends, ends_at, IsTriangle, rev_of_odd}
+use Rattle.half_edge_links.proofs.{Sound.Parts.rev_of_even, triangle_at as loop_at}
+use Rattle.half_edge_dcel.specs.{Connects, full_edges_of, full_faces_of, FullEdge, FullFace}
+use Rattle.half_edge_dcel.specs.{HasCorners, joins, Removal.TakesOutPair, TakesOut}
+use Rattle.half_edge_dcel.proofs.TakenOut.{full_edges_taken, full_faces_taken, get_or-full_edges}
+use Rattle.half_edge_dcel.proofs.TakenOut.{get_or-full_faces, permuted, taken_item, takes_out}
 
 module _ {D U : Type 0} (m new : Mesh) (us us' : List U) (ds ds' : List D) (e : ℕ)
     (s : AreSoundLinks m) (directed_fit : length ds ≡ length m.half_edges)

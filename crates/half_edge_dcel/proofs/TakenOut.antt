@@ -10,12 +10,11 @@ use Rattle.std.proofs.lemmas.List.{same_lists, get_or_default}
 use Rattle.std.proofs.lemmas.List.Sorted.{IsPermutation-swap_remove}
 use Rattle.std.specs.List.{swap_remove}
 use Rattle.std.specs.List.Sorted.{IsPermutation}
-use Rattle.half_edge_links.specs.Outline.{Ends}
-use Rattle.half_edge_links.specs.Triangles.{Triangle}
-use Rattle.half_edge_links.proofs.Removing.OpenSound.{swap_remove_default, get_or-swap_remove_same}
-use Rattle.half_edge_links.proofs.Removing.OpenSound.{get_or-swap_remove_other, length-swap_remove}
-use Rattle.half_edge_dcel.specs.Removal.{TakesOut, TakesOutPair, FullEdge, full_edges_of, FullFace}
-use Rattle.half_edge_dcel.specs.Removal.{full_faces_of}
+use Rattle.half_edge_links.specs.{Ends, Triangle}
+use Rattle.half_edge_links.proofs.{get_or-swap_remove_same, length-swap_remove, swap_remove_default}
+use Rattle.half_edge_links.proofs.Removing.OpenSound.{get_or-swap_remove_other}
+use Rattle.half_edge_dcel.specs.{full_edges_of, full_faces_of, FullEdge, FullFace, TakesOut}
+use Rattle.half_edge_dcel.specs.Removal.{TakesOutPair}
 
 -- once item k is taken out, the last item is in its place, and the others are where they were
 pub takes_out : {X : Type 0} (xs : List X) (k : ℕ) (d : X) → k < length xs

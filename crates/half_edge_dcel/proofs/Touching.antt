@@ -8,11 +8,9 @@ use Rattle.std.proofs.Common.{ℕ, zero, suc, Bool, true, false, not, List, leng
 use Rattle.std.proofs.Common.{ap, inl, inr, arith}
 use Rattle.std.proofs.lemmas.Bool.{cases_eq}
 use Rattle.std.proofs.lemmas.Bool.Decides.{nat_tests}
-use Rattle.half_edge_links.specs.Outline.{Ends, along}
-use Rattle.half_edge_links.specs.Triangles.{Triangle}
-use Rattle.half_edge_dcel.specs.Growth.{joins}
-use Rattle.half_edge_dcel.specs.Removal.{FullEdge, FullFace, Connects, HasCorners, full_edges_of}
-use Rattle.half_edge_dcel.specs.Removal.{full_faces_of}
+use Rattle.half_edge_links.specs.{along, Ends, Triangle}
+use Rattle.half_edge_dcel.specs.{Connects, full_edges_of, full_faces_of, FullEdge, FullFace}
+use Rattle.half_edge_dcel.specs.{HasCorners, joins}
 
 -- ---- tests
 one_of_three : ℕ → ℕ → ℕ → ℕ → Bool

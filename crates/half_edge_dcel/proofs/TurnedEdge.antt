@@ -15,35 +15,26 @@ use Rattle.std.proofs.lemmas.List.Sorted.{IsPermutation-cons, IsPermutation-appe
 use Rattle.std.proofs.lemmas.List.Sorted.{IsPermutation-middle}
 use Rattle.std.proofs.lemmas.List.Elements.{All-cons, All-nil, All-weaker, Contains-append_right}
 use Rattle.std.proofs.lemmas.List.Elements.{Contains-get_or}
-use Rattle.half_edge_links.specs.Flow.{outer_among, outline}
-use Rattle.half_edge_links.specs.Mesh.{Mesh, origin, next, prev, face, rev, AreSoundLinks, IsInner}
-use Rattle.half_edge_links.specs.Outline.{Ends, ends, along, KeepsOuter, MovesEdge}
-use Rattle.half_edge_links.specs.Peel.{turn, spoke, IsWheel}
-use Rattle.half_edge_links.specs.Round.{neighbour}
-use Rattle.half_edge_links.specs.Triangles.{Triangle, triangles, triangle_at, FlipsTriangles}
-use Rattle.half_edge_links.proofs.Removing.Conditions.{spoke_at, faces_apart}
-use Rattle.half_edge_links.proofs.Lists.Rev.{rev-rev}
-use Rattle.half_edge_links.proofs.Removing.TakenLists.{count_ends}
-use Rattle.half_edge_links.proofs.Sound.Triangles.{IsTriangle, triangle_at as loop_at}
-use Rattle.half_edge_links.specs.Hull.{KeepsOneOutline}
-use Rattle.half_edge_dcel.specs.Contents.{Contents, IsMeshWithData}
-use Rattle.half_edge_dcel.specs.Growth.{joins}
-use Rattle.half_edge_dcel.specs.Removal.{FullEdge, FullFace, Connects, HasCorners, full_edges}
-use Rattle.half_edge_dcel.specs.Removal.{full_edges_of, full_faces, full_faces_of, spokes_to}
-use Rattle.half_edge_dcel.proofs.TakenEdges.{listed_face, between, named_corners}
-use Rattle.half_edge_dcel.proofs.TakenOut.{length-full_edges, get_or-full_faces}
-use Rattle.half_edge_dcel.proofs.TwoEdges.{item_at}
-use Rattle.half_edge_dcel.specs.Hole.{CanTurnAway, IsHub, HasDataOf, HasFreeTip, TurnsAway}
-use Rattle.half_edge_dcel.specs.Hole.{fan_edges, fan_faces}
-use Rattle.half_edge_dcel.proofs.Outlines.{listed, passed_over}
-use Rattle.half_edge_dcel.proofs.Filtered.{filter_gains, filter_loses, filter_stays}
-use Rattle.half_edge_dcel.proofs.Filtered.{Contains-filter}
-use Rattle.half_edge_dcel.proofs.Touching.{has_corner, lacks_corner, touches, misses, touches_it}
-use Rattle.half_edge_dcel.proofs.Touching.{touches_not, corner_there, corner_missing}
-use Rattle.half_edge_dcel.proofs.Touching.{with_other_ends, with_other_corners, full_edges-set}
-use Rattle.half_edge_dcel.proofs.Touching.{full_faces-set, along_between}
-use Rattle.half_edge_dcel.proofs.Hubs.{count_faces, no_face_of, hub_after, start_after, tip_after}
-use Rattle.half_edge_dcel.proofs.Hubs.{ends_after}
+use Rattle.half_edge_links.specs.{along, AreSoundLinks, Ends, ends, face, FlipsTriangles, IsInner}
+use Rattle.half_edge_links.specs.{IsWheel, KeepsOneOutline, KeepsOuter, Mesh, MovesEdge, neighbour}
+use Rattle.half_edge_links.specs.{next, origin, outer_among, outline, prev, rev, spoke, Triangle}
+use Rattle.half_edge_links.specs.{triangle_at, triangles, turn}
+use Rattle.half_edge_links.proofs.{count_ends, IsTriangle, rev-rev, spoke_at}
+use Rattle.half_edge_links.proofs.{Removing.Conditions.faces_apart, triangle_at as loop_at}
+use Rattle.half_edge_dcel.specs.{Connects, Contents, full_edges, full_edges_of, full_faces}
+use Rattle.half_edge_dcel.specs.{full_faces_of, FullEdge, FullFace, HasCorners, HasFreeTip, IsHub}
+use Rattle.half_edge_dcel.specs.{IsMeshWithData, joins, spokes_to}
+use Rattle.half_edge_dcel.specs.Hole.{CanTurnAway, fan_edges, fan_faces, HasDataOf, TurnsAway}
+use Rattle.half_edge_dcel.proofs.Filtered.{Contains-filter, filter_gains, filter_loses}
+use Rattle.half_edge_dcel.proofs.{Filtered.filter_stays, Outlines.listed, Outlines.passed_over}
+use Rattle.half_edge_dcel.proofs.Hubs.{count_faces, ends_after, hub_after, no_face_of, start_after}
+use Rattle.{half_edge_dcel.proofs.Hubs.tip_after, half_edge_dcel.proofs.TwoEdges.item_at}
+use Rattle.half_edge_dcel.proofs.TakenEdges.{between, listed_face, named_corners}
+use Rattle.half_edge_dcel.proofs.TakenOut.{get_or-full_faces, length-full_edges}
+use Rattle.half_edge_dcel.proofs.Touching.{along_between, corner_missing, corner_there}
+use Rattle.half_edge_dcel.proofs.Touching.{full_edges-set, full_faces-set, has_corner, lacks_corner}
+use Rattle.half_edge_dcel.proofs.Touching.{misses, touches, touches_it, touches_not}
+use Rattle.half_edge_dcel.proofs.Touching.{with_other_corners, with_other_ends}
 
 other_way : {D U : Type 0} (e : FullEdge D U) (a b : ℕ) → Connects e (joins a b)
     → Connects e (joins b a)

@@ -9,8 +9,7 @@ use Rattle.std.proofs.lemmas.List.Sorted.{IsPermutation-cons}
 use Rattle.std.proofs.lemmas.Grind.{common_steps}
 use Rattle.std.specs.List.{remove}
 use Rattle.std.specs.List.Sorted.{IsPermutation}
-use Rattle.half_edge_dcel.specs.Removal.{TakesOut}
-use Rattle.half_edge_dcel.proofs.TakenOut.{permuted}
+use Rattle.{half_edge_dcel.proofs.TakenOut.permuted, half_edge_dcel.specs.TakesOut}
 
 remove-set : {X : Type 0} (xs : List X) (i : ℕ) (y : X) → remove (set xs i y) i ≡ remove xs i
 remove-set xs i y = grind (arith, common_steps)

@@ -9,13 +9,10 @@ use Rattle.std.proofs.lemmas.Bool.{cases_eq, eq-eqb}
 use Rattle.std.proofs.lemmas.List.{map-append, length_push}
 use Rattle.std.proofs.lemmas.Bool.Decides.{eqb_tells}
 use Rattle.std.specs.Borrow.{Bor}
-use Rattle.half_edge_dcel.specs.half_edge_links.Mesh.{Mesh, iterate}
-use Rattle.half_edge_dcel.proofs.half_edge_links_lemmas.Lists.Orbits.{step_add}
-use Rattle.half_edge_dcel.specs.Contents.{Contents}
-use Rattle.half_edge_dcel.specs.declared.edge_walk.EdgeWalk.{EdgeWalk}
-use Rattle.half_edge_dcel.specs.Left.{each_in}
-use Rattle.half_edge_dcel.specs.Walks.{walk, walk_left, comes_to, IsEnding}
-use Rattle.half_edge_dcel.proofs.half_edge_links_lemmas.Steps.{map_range_step}
+use Rattle.half_edge_links.specs.{iterate, Mesh}
+use Rattle.{half_edge_links.proofs.step_add, half_edge_links.proofs.Steps.map_range_step}
+use Rattle.half_edge_dcel.specs.{Contents, each_in, EdgeWalk, IsEnding, walk}
+use Rattle.half_edge_dcel.specs.Walks.{comes_to, walk_left}
 
 -- one place of a walk, where so many are left afterwards
 walk_step : (f : ℕ → ℕ) (stop k h : ℕ) → 0 < k

@@ -1,7 +1,7 @@
 -- A copy of a mesh with data.
 use Rattle.std.specs.Prelude.{◌≡◌}
 use Rattle.std.specs.List.{AllZip}
-use Rattle.half_edge_dcel.specs.Contents.{Contents, HasRoom}
+use Rattle.half_edge_dcel.specs.MeshContents.{Contents, HasRoom}
 
 -- the same vertices, edges and faces, the data of each as these relations say of the former ones,
 -- and room for all

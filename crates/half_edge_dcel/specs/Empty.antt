@@ -1,7 +1,6 @@
 -- A mesh as it is at first.
 use Rattle.std.specs.Prelude.{◌≡◌, []}
-use Rattle.half_edge_links.specs.Mesh.{empty}
-use Rattle.half_edge_dcel.specs.Contents.{Contents}
+use Rattle.{half_edge_dcel.specs.MeshContents.Contents, half_edge_links.specs.empty}
 
 -- no vertex and no edge, and the outer face with data that are as they are at first
 pub record IsEmptyMesh {V D U F : Type 0} (IsFirst : F → Type 0)

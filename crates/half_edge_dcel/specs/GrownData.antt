@@ -1,9 +1,9 @@
 -- How all data of a mesh change where it grows. New data are as D, U and F say, for directed edges,
 -- undirected edges and faces; data of the outer face and room stay, and the mesh is whole.
 use Rattle.std.specs.Prelude.{◌≡◌, ℕ, ◌/◌, List}
-use Rattle.half_edge_links.specs.Mesh.{rev}
-use Rattle.half_edge_dcel.specs.Contents.{Contents, IsMeshWithData}
+use Rattle.half_edge_links.specs.{rev}
 use Rattle.half_edge_dcel.specs.Growth.{Grows, MovesItem, MovesTwoItems}
+use Rattle.half_edge_dcel.specs.MeshContents.{Contents, IsMeshWithData}
 
 module _ {V DE UE FA : Type 0} where
   -- these vertex data, and so many more directed edges, undirected edges and faces

@@ -1,8 +1,8 @@
 -- How the data of a mesh change where it grows.
 use Rattle.std.specs.Prelude.{◌≡◌, [], ◌∷◌, ◌++◌}
 use Rattle.std.specs.Prelude.{ℕ, zero, suc, List, length, All, Some, slice_get, slice_set}
-use Rattle.half_edge_links.specs.Outline.{Ends}
-use Rattle.half_edge_dcel.specs.Contents.{Edge, edge_with, edges_of}
+use Rattle.half_edge_links.specs.{Ends}
+use Rattle.half_edge_dcel.specs.MeshContents.{Edge, edge_with, edges_of}
 
 -- the old list, and so many new items, each of which is as P says
 pub record Grows {X : Type 0} (P : X → Type 0) (old new : List X) (more : ℕ) : Type 0 where

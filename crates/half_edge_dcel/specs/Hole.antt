@@ -3,18 +3,13 @@ use Rattle.std.specs.Prelude.{◌≡◌, ◌≢◌, ◌-◌, ◌<◌, ◌≤◌,
 use Rattle.std.specs.Prelude.{ℕ, zero, suc, List, length, slice_index, All, Contains}
 use Rattle.std.specs.List.{AllZip}
 use Rattle.std.specs.List.Sorted.{IsPermutation}
-use Rattle.half_edge_links.specs.Flip.{Flips}
-use Rattle.half_edge_links.specs.Hull.{KeepsOneOutline}
-use Rattle.half_edge_links.specs.Mesh.{Mesh, origin, next, prev, face, rev, IsAlone}
-use Rattle.half_edge_links.specs.Outline.{Ends, KeepsOuter, MovesEdge}
-use Rattle.half_edge_links.specs.Peel.{spoke, turn}
-use Rattle.half_edge_links.specs.Round.{neighbour}
-use Rattle.half_edge_links.specs.Triangles.{FlipsTriangles, Triangle}
-use Rattle.half_edge_dcel.specs.Contents.{Contents, IsMeshWithData}
-use Rattle.half_edge_dcel.specs.Growth.{joins}
-use Rattle.half_edge_dcel.specs.Removal.{FullEdge, FullFace, Connects, HasCorners, OuterSumsChange}
-use Rattle.half_edge_dcel.specs.Removal.{full_edges, full_faces, spokes_to, faces_between}
-use Rattle.half_edge_dcel.specs.Removal.{first_spoke}
+use Rattle.half_edge_links.specs.{Ends, face, Flips, FlipsTriangles, IsAlone, KeepsOneOutline}
+use Rattle.half_edge_links.specs.{KeepsOuter, Mesh, MovesEdge, neighbour, next, origin, prev, rev}
+use Rattle.half_edge_links.specs.{spoke, Triangle, turn}
+use Rattle.half_edge_dcel.specs.{Growth.joins, MeshContents.Contents, MeshContents.IsMeshWithData}
+use Rattle.half_edge_dcel.specs.Removal.{Connects, faces_between, first_spoke, full_edges}
+use Rattle.half_edge_dcel.specs.Removal.{full_faces, FullEdge, FullFace, HasCorners}
+use Rattle.half_edge_dcel.specs.Removal.{OuterSumsChange, spokes_to}
 
 -- a vertex with k inner faces, which follow each other round it from edge o on
 pub record IsHub (m : Mesh) (o k : ℕ) : Type 0 where

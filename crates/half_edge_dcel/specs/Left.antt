@@ -1,11 +1,11 @@
 -- What is left of iterators over the parts of a mesh.
 use Rattle.std.specs.Prelude.{ℕ, List, map}
 use Rattle.std.specs.Borrow.{Bor}
-use Rattle.half_edge_dcel.specs.Contents.{Contents}
-use Rattle.half_edge_dcel.specs.declared.iterators.VertexIterator.{VertexIterator}
+use Rattle.half_edge_dcel.specs.MeshContents.{Contents}
 use Rattle.half_edge_dcel.specs.declared.iterators.DirectedEdgeIterator.{DirectedEdgeIterator}
-use Rattle.half_edge_dcel.specs.declared.iterators.UndirectedEdgeIterator.{UndirectedEdgeIterator}
 use Rattle.half_edge_dcel.specs.declared.iterators.FaceIterator.{FaceIterator}
+use Rattle.half_edge_dcel.specs.declared.iterators.UndirectedEdgeIterator.{UndirectedEdgeIterator}
+use Rattle.half_edge_dcel.specs.declared.iterators.VertexIterator.{VertexIterator}
 
 -- parts of a mesh: the mesh, and their indexes
 abbrev pub each_in : {C : Type 0} → Bor C → List ℕ → List (Bor C × ℕ)

@@ -1,7 +1,7 @@
 -- A mesh whose undirected edges have other data.
 use Rattle.std.specs.Prelude.{◌≡◌}
 use Rattle.std.specs.List.{AllZip}
-use Rattle.half_edge_dcel.specs.Contents.{Contents}
+use Rattle.half_edge_dcel.specs.MeshContents.{Contents}
 
 -- the data of each undirected edge are as R says of the former ones, and all else is as it was, the
 -- room too

@@ -1,18 +1,26 @@
--- What stands after calls that take parts out of a mesh.
+-- A mesh with data after calls that take parts out of it.
+-- FullFace, full_faces: an inner face with corners and data; all of them, by index
+-- FullEdge, full_edges: an undirected edge with its ends and all its data; all of them, by index
+-- HasCorners f t: the face has these corners, in any rotation
+-- Connects e p: the edge has these ends, in either order
+-- faces_between v n k, spokes_to v n k: the first k faces, and edges, at v between the vertices n
+--   0, n 1, ..
+-- LosesEdges, LosesFaces: these edges, or faces, are gone; the others are there with their data
+-- FillsHole old new v n: an inner vertex with three faces loses its edges, and one face takes the
+--   place of the three
+-- LosesStrip old new v n k: a hull vertex loses its edges, and its k faces are gone
+-- DropsVertex old new v value: vertex v, with this data, goes, and the last vertex gets its index
+-- OuterSumsChange old new gone made: the outer edges gone and made, as sums over directed pairs
 use Rattle.std.specs.Prelude.{◌≡◌, ◌≢◌, ◌⊎◌, ◌+◌, ◌-◌, ◌*◌, ◌<◌, [], ◌∷◌, ◌++◌, ◌+ℤ◌}
 use Rattle.std.specs.Prelude.{ℕ, zero, suc, List, length, map, Some, slice_get, slice_index}
 use Rattle.std.specs.Prelude.{slice_index_or, ℤ, Contains}
 use Rattle.std.specs.List.{swap_remove, AllZip}
 use Rattle.std.specs.List.Sorted.{IsPermutation}
-use Rattle.half_edge_links.specs.Mesh.{Mesh, origin, next, prev, out_edge, rev, IsAlone}
-use Rattle.half_edge_links.specs.Flow.{total, along, outline}
-use Rattle.half_edge_links.specs.Outline.{Ends, ends}
-use Rattle.half_edge_links.specs.Hull.{KeepsOneOutline}
-use Rattle.half_edge_links.specs.Peel.{turn, spoke, IsStrip}
-use Rattle.half_edge_links.specs.Renames.{moved}
-use Rattle.half_edge_links.specs.Triangles.{Triangle, triangles}
-use Rattle.half_edge_dcel.specs.Contents.{Contents, IsMeshWithData}
-use Rattle.half_edge_dcel.specs.Growth.{joins}
+use Rattle.half_edge_links.specs.{Ends, ends, IsAlone, IsStrip, KeepsOneOutline, Mesh, moved, next}
+use Rattle.half_edge_links.specs.{origin, out_edge, outline, prev, rev, spoke, total, Triangle}
+use Rattle.half_edge_links.specs.{triangles, turn}
+use Rattle.half_edge_links.specs.Flow.{along}
+use Rattle.half_edge_dcel.specs.{Growth.joins, MeshContents.Contents, MeshContents.IsMeshWithData}
 
 -- item k goes, and the last one takes its place
 pub record TakesOut {X : Type 0} (old new : List X) (k : ℕ) : Type 0 where

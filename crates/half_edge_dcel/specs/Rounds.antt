@@ -3,15 +3,11 @@ use Rattle.std.specs.Prelude.{◌≡◌, ◌≢◌, ◌<◌, []}
 use Rattle.std.specs.Prelude.{ℕ, List, length, map, Some, None}
 use Rattle.std.specs.List.{range_with_len}
 use Rattle.std.specs.Borrow.{Bor}
-use Rattle.half_edge_dcel.specs.half_edge_links.Hull.{HasOneOutline}
-use Rattle.half_edge_dcel.specs.half_edge_links.Mesh.{Mesh, next, face, out_edge, iterate}
-use Rattle.half_edge_dcel.specs.half_edge_links.Peel.{turn, spoke}
-use Rattle.half_edge_dcel.specs.half_edge_links.Round.{IsRound}
-use Rattle.half_edge_dcel.specs.Contents.{Contents}
+use Rattle.half_edge_links.specs.{face, HasOneOutline, IsRound, iterate, Mesh, next, out_edge}
+use Rattle.half_edge_links.specs.{spoke, turn}
 use Rattle.half_edge_dcel.specs.Left.{each_in}
-use Rattle.half_edge_dcel.specs.Walks.{walk_left}
-use Rattle.half_edge_dcel.specs.declared.rounds.CircularIterator.{CircularIterator}
-use Rattle.half_edge_dcel.specs.declared.rounds.HullIterator.{HullIterator}
+use Rattle.half_edge_dcel.specs.{declared.rounds.HullIterator.HullIterator, MeshContents.Contents}
+use Rattle.half_edge_dcel.specs.{declared.rounds.CircularIterator.CircularIterator, Walks.walk_left}
 
 -- the edges of a vertex that an iterator has still to give, against the clock
 abbrev pub out_edges_left : {V D U F : Type 0} → CircularIterator V D U F

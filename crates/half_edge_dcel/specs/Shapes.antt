@@ -1,16 +1,12 @@
 -- What calls that grow a mesh do to its links, the corners of its faces and its outer edges; each
 -- vertex v is new.
 use Rattle.std.specs.Prelude.{◌≡◌, ℕ, ◌+◌, ◌⊎◌, []}
-use Rattle.half_edge_links.specs.Flip.{flipped}
-use Rattle.half_edge_links.specs.Grow.{with_face_beside, closed, half_split, hung, edge_into}
-use Rattle.half_edge_links.specs.Grow.{line_split}
-use Rattle.half_edge_links.specs.Hull.{HasOneOutline, KeepsOneOutline}
-use Rattle.half_edge_links.specs.Insert.{inserted}
-use Rattle.half_edge_links.specs.Mesh.{Mesh, with_vertex, connected, origin, next, rev}
-use Rattle.half_edge_links.specs.Outline.{AddsTriangle, ReplacesOuter, ClosesOuter}
-use Rattle.half_edge_links.specs.Outline.{HalfSplitsTriangles, KeepsOuter}
-use Rattle.half_edge_links.specs.Outline.{OuterChanges, IsThis, ExtendsOuter, SplitsOuter}
-use Rattle.half_edge_links.specs.Triangles.{triangles, InsertsTriangles, SplitsTriangles}
+use Rattle.half_edge_links.specs.{AddsTriangle, closed, ClosesOuter, connected, edge_into, flipped}
+use Rattle.half_edge_links.specs.{HalfSplitsTriangles, HasOneOutline, hung, inserted}
+use Rattle.half_edge_links.specs.{InsertsTriangles, IsThis, KeepsOneOutline, KeepsOuter, Mesh, next}
+use Rattle.half_edge_links.specs.{origin, OuterChanges, ReplacesOuter, rev, SplitsOuter}
+use Rattle.half_edge_links.specs.{Outline.ExtendsOuter, SplitsTriangles, triangles, with_vertex}
+use Rattle.half_edge_links.specs.Grow.{half_split, line_split, with_face_beside}
 
 -- vertex v is put into the face on the left of edge e
 pub record InsertsInFace (old new : Mesh) (v e : ℕ) : Type 0 where

@@ -1,16 +1,11 @@
 -- What single steps that take edges and faces out of a mesh do to it and to its data.
 use Rattle.std.specs.Prelude.{◌≡◌, ◌≢◌, ◌+◌, ◌/◌, ◌<◌, ◌≤◌, [], ◌∷◌, ◌++◌, ℕ, length}
-use Rattle.half_edge_links.specs.Hull.{IsPendant, KeepsOneOutline}
-use Rattle.half_edge_links.specs.Mesh.{Mesh, origin, next, face_edge, rev}
-use Rattle.half_edge_links.specs.Outline.{MovesEdge, ends}
-use Rattle.half_edge_links.specs.Pass.{Passes}
-use Rattle.half_edge_links.specs.Peel.{Peels, turn}
-use Rattle.half_edge_links.specs.Remove.{ClosesLoop, Opens, Removes, after_removal}
-use Rattle.half_edge_links.specs.Triangles.{triangles, triangle_at}
-use Rattle.half_edge_dcel.specs.Contents.{Contents, IsMeshWithData, KeepsVertices}
-use Rattle.half_edge_dcel.specs.Growth.{joins}
-use Rattle.half_edge_dcel.specs.Removal.{GivesFace, LosesEdges, LosesFaces, TakesOut, full_edges}
-use Rattle.half_edge_dcel.specs.Removal.{full_faces}
+use Rattle.half_edge_links.specs.{after_removal, ClosesLoop, ends, face_edge, IsPendant}
+use Rattle.half_edge_links.specs.{KeepsOneOutline, Mesh, MovesEdge, next, Opens, origin, Passes}
+use Rattle.half_edge_links.specs.{Peels, Removes, rev, triangle_at, triangles, turn}
+use Rattle.{half_edge_dcel.specs.Growth.joins, half_edge_dcel.specs.Removal.TakesOut}
+use Rattle.half_edge_dcel.specs.MeshContents.{Contents, IsMeshWithData, KeepsVertices}
+use Rattle.half_edge_dcel.specs.Removal.{full_edges, full_faces, GivesFace, LosesEdges, LosesFaces}
 
 -- the vertex where edge o of a mesh without inner faces starts has two edges, whose other ends
 -- differ

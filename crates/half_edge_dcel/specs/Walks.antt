@@ -2,10 +2,8 @@
 use Rattle.std.specs.Prelude.{◌≡◌, ◌<◌, ◌==◌, [], ◌∷◌, if◌then◌else◌}
 use Rattle.std.specs.Prelude.{ℕ, zero, suc, Bool, true, false, List}
 use Rattle.std.specs.Borrow.{Bor}
-use Rattle.half_edge_dcel.specs.half_edge_links.Mesh.{Mesh}
-use Rattle.half_edge_dcel.specs.Contents.{Contents}
-use Rattle.half_edge_dcel.specs.Left.{each_in}
-use Rattle.half_edge_dcel.specs.declared.edge_walk.EdgeWalk.{EdgeWalk}
+use Rattle.{half_edge_dcel.specs.Left.each_in, half_edge_links.specs.Mesh}
+use Rattle.half_edge_dcel.specs.{declared.edge_walk.EdgeWalk.EdgeWalk, MeshContents.Contents}
 
 -- the places of a walk from h on that ends before it is at `stop`, or after so many places
 abbrev pub walk : (ℕ → ℕ) → ℕ → ℕ → ℕ → List ℕ

@@ -1,6 +1,6 @@
 -- What a mesh ends as, where a reference for writing to its data is given out.
 use Rattle.std.specs.Prelude.{ℕ, zero, suc, slice_set}
-use Rattle.half_edge_dcel.specs.Contents.{Contents}
+use Rattle.half_edge_dcel.specs.MeshContents.{Contents}
 
 module _ {V D U F : Type 0} where
   -- the mesh with other data of a directed edge

@@ -1,7 +1,7 @@
 //! A copy of a mesh with its data.
 ghost use Rattle.half_edge_dcel.specs.Copied.{IsCopied};
 
-use crate::dcel::Dcel;
+use crate::Dcel;
 use std::alloc::AllocError;
 
 impl<V: Clone, DE: Clone, UE: Clone, F: Clone> Clone for Dcel<V, DE, UE, F> {

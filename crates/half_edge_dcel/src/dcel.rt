@@ -1,9 +1,8 @@
 //! The mesh with its data, and reads of them.
 ghost use Rattle.std.specs.Prelude.{◌≡◌, ◌<◌, ◌≤◌, ◌+◌, ◌*◌, ◌∷◌, []};
 ghost use Rattle.std.specs.Prelude.{length, Some, slice_get, slice_set};
-ghost use Rattle.half_edge_links.specs.Mesh.{empty};
-ghost use Rattle.half_edge_links.specs.declared.room.TheConstants.{MAX_ELEMENTS};
-ghost use Rattle.half_edge_dcel.specs.Contents.{IsMeshWithData};
+ghost use Rattle.half_edge_links.specs.{empty, MAX_ELEMENTS};
+ghost use Rattle.half_edge_dcel.specs.MeshContents.{IsMeshWithData};
 
 use half_edge_links::{
     FixedDirectedEdgeHandle, FixedFaceHandle, FixedUndirectedEdgeHandle, FixedVertexHandle, Links,
@@ -25,7 +24,7 @@ pub struct Dcel<V, DE, UE, F> {
 
 impl<V, DE, UE, F> Model for Dcel<V, DE, UE, F> {
     ghost use Rattle.std.specs.Prelude.{◌*◌, min, length, vec_capacity};
-    ghost use Rattle.half_edge_dcel.specs.Contents.{Contents, FitsMesh};
+    ghost use Rattle.half_edge_dcel.specs.MeshContents.{Contents, FitsMesh};
 
     ghost Value = { Contents V DE UE F };
 

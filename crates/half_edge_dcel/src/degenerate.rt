@@ -1,12 +1,11 @@
 //! Vertices that go, without edges or from a line.
 ghost use Rattle.std.specs.Prelude.{◌≡◌, ◌<◌, length};
-ghost use Rattle.half_edge_links.specs.Hull.{KeepsOneOutline};
-ghost use Rattle.half_edge_links.specs.Mesh.{origin, IsAlone};
-ghost use Rattle.half_edge_dcel.specs.Contents.{IsMeshWithData};
+ghost use Rattle.half_edge_links.specs.{IsAlone, KeepsOneOutline, origin};
+ghost use Rattle.half_edge_dcel.specs.MeshContents.{IsMeshWithData};
 ghost use Rattle.half_edge_dcel.specs.Removal.{DropsVertex, HasFewEdges, LeavesLine, LeavesMesh};
 ghost use Rattle.half_edge_dcel.specs.Taking.{IsMiddle, PassesVertex};
 
-use crate::dcel::Dcel;
+use crate::Dcel;
 use half_edge_links::{FixedVertexHandle, reversed};
 
 impl<V, DE, UE, F> Dcel<V, DE, UE, F> {

@@ -2,12 +2,10 @@
 ghost use Rattle.std.specs.Prelude.{◌≡◌, ◌*◌, ◌/◌, ◌<◌, ◌∷◌, [], length};
 ghost use Rattle.std.specs.Prelude.{slice_get, Some, ⊤, All, map, IsNone, IfSome, IsTrue};
 ghost use Rattle.std.specs.Prelude.{◌↔◌};
-ghost use Rattle.half_edge_dcel.specs.half_edge_links.Mesh.{origin, next, prev, face, rev};
-ghost use Rattle.half_edge_dcel.specs.Contents.{IsMeshWithData};
+ghost use Rattle.half_edge_links.specs.{face, next, origin, prev, rev};
+ghost use Rattle.half_edge_dcel.specs.MeshContents.{IsMeshWithData};
 
-use crate::Dcel;
-use crate::face::FaceHandle;
-use crate::vertex::VertexHandle;
+use crate::{Dcel, FaceHandle, VertexHandle};
 use half_edge_links::{FixedDirectedEdgeHandle, FixedUndirectedEdgeHandle, reversed};
 use std::alloc::AllocError;
 

@@ -2,13 +2,10 @@
 ghost use Rattle.std.specs.Prelude.{◌≡◌, ◌<◌, ◌≤◌, ◌∷◌, [], length};
 ghost use Rattle.std.specs.Prelude.{slice_get, Some, ⊤, All, map, IsTrue};
 ghost use Rattle.std.specs.Prelude.{◌↔◌};
-ghost use Rattle.half_edge_dcel.specs.half_edge_links.Mesh.{next, prev, face_edge};
-ghost use Rattle.half_edge_dcel.specs.half_edge_links.Triangles.{triangle_at};
-ghost use Rattle.half_edge_dcel.specs.Contents.{IsMeshWithData};
+ghost use Rattle.half_edge_links.specs.{face_edge, next, prev, triangle_at};
+ghost use Rattle.half_edge_dcel.specs.MeshContents.{IsMeshWithData};
 
-use crate::Dcel;
-use crate::edge::DirectedEdgeHandle;
-use crate::vertex::VertexHandle;
+use crate::{Dcel, DirectedEdgeHandle, VertexHandle};
 use half_edge_links::FixedFaceHandle;
 use std::alloc::AllocError;
 

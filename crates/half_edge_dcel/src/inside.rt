@@ -1,17 +1,14 @@
 //! Changes inside the outer loop.
 ghost use Rattle.std.specs.Prelude.{◌≡◌, ◌≢◌, ◌+◌, ◌*◌, ◌/◌, ◌<◌, ◌≤◌, ◌++◌, ◌∷◌, [], length};
-ghost use Rattle.half_edge_links.specs.Hull.{KeepsOneOutline};
-ghost use Rattle.half_edge_links.specs.Mesh.{origin, next, prev, rev, face, face_edge};
-ghost use Rattle.half_edge_links.specs.Flip.{IsBetweenFaces, flipped};
-ghost use Rattle.half_edge_links.specs.Triangles.{FlipsTriangles};
-ghost use Rattle.half_edge_links.specs.Outline.{KeepsOuter, along};
-ghost use Rattle.half_edge_dcel.specs.Contents.{HasRoom, IsMeshWithData, edges};
-ghost use Rattle.half_edge_dcel.specs.Growth.{AddsEdges};
-ghost use Rattle.half_edge_dcel.specs.Growth.{SplitsEdge, joins, with_ends};
+ghost use Rattle.half_edge_links.specs.{along, face, face_edge, flipped, FlipsTriangles};
+ghost use Rattle.half_edge_links.specs.{IsBetweenFaces, KeepsOneOutline, KeepsOuter, next, origin};
+ghost use Rattle.half_edge_links.specs.{prev, rev};
 ghost use Rattle.half_edge_dcel.specs.GrownData.{AddsData, MovesData};
+ghost use Rattle.half_edge_dcel.specs.Growth.{AddsEdges, joins, SplitsEdge, with_ends};
+ghost use Rattle.half_edge_dcel.specs.MeshContents.{edges, HasRoom, IsMeshWithData};
 ghost use Rattle.half_edge_dcel.specs.Shapes.{InsertsInFace, SplitsBetweenFaces};
 
-use crate::dcel::Dcel;
+use crate::Dcel;
 use crate::growth::{move_item, push_defaults};
 use half_edge_links::{
     FixedDirectedEdgeHandle, FixedFaceHandle, FixedUndirectedEdgeHandle, FixedVertexHandle,

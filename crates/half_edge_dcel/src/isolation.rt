@@ -1,15 +1,12 @@
 //! Vertices that lose their edges.
 ghost use Rattle.std.specs.Prelude.{◌≡◌, ◌<◌, ◌≤◌, length};
-ghost use Rattle.half_edge_links.specs.Mesh.{face, origin};
-ghost use Rattle.half_edge_links.specs.Peel.{IsStrip, IsWheel, turn};
-ghost use Rattle.half_edge_links.specs.Round.{neighbour};
-ghost use Rattle.half_edge_dcel.specs.Contents.{IsMeshWithData};
-ghost use Rattle.half_edge_dcel.specs.Hole.{CanTurnAway, FillsWithFan, HasFreeTip, IsBorder};
-ghost use Rattle.half_edge_dcel.specs.Hole.{IsHub, TurnsAway};
-ghost use Rattle.half_edge_dcel.specs.Removal.{AreSidesOf, FillsHole, LosesStrip, first_spoke};
-ghost use Rattle.half_edge_dcel.specs.Taking.{OpensFullFace};
+ghost use Rattle.half_edge_links.specs.{face, IsStrip, IsWheel, neighbour, origin, turn};
+ghost use Rattle.half_edge_dcel.specs.Hole.{CanTurnAway, FillsWithFan, HasFreeTip, IsBorder, IsHub};
+ghost use Rattle.half_edge_dcel.specs.Hole.{TurnsAway};
+ghost use Rattle.half_edge_dcel.specs.{MeshContents.IsMeshWithData, Taking.OpensFullFace};
+ghost use Rattle.half_edge_dcel.specs.Removal.{AreSidesOf, FillsHole, first_spoke, LosesStrip};
 
-use crate::dcel::Dcel;
+use crate::Dcel;
 use half_edge_links::{FixedDirectedEdgeHandle, FixedVertexHandle};
 
 /// A vertex that has lost its edges.

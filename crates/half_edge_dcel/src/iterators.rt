@@ -4,12 +4,9 @@
 ghost use Rattle.std.specs.Prelude.{◌≡◌, ◌<◌, ◌≤◌, ⊤, All, length};
 ghost use Rattle.std.specs.Iterator.{YieldsFirstBy, YieldsLastBy, item_count};
 
-use crate::edge::{DirectedEdgeHandle, UndirectedEdgeHandle};
-use crate::face::FaceHandle;
-use crate::vertex::VertexHandle;
-use crate::{
-    Dcel, FixedDirectedEdgeIterator, FixedFaceIterator, FixedUndirectedEdgeIterator,
-    FixedVertexIterator,
+use crate::{Dcel, DirectedEdgeHandle, FaceHandle, UndirectedEdgeHandle, VertexHandle};
+use half_edge_links::{
+    FixedDirectedEdgeIterator, FixedFaceIterator, FixedUndirectedEdgeIterator, FixedVertexIterator,
 };
 use std::alloc::AllocError;
 use std::iter::FusedIterator;

@@ -1,14 +1,12 @@
 //! Vertices without edges, the first edge, and a mesh of one line.
 ghost use Rattle.std.specs.Prelude.{◌≡◌, ◌≢◌, ◌+◌, ◌/◌, ◌<◌, ◌++◌, ◌∷◌, [], length, IsSome};
-ghost use Rattle.half_edge_links.specs.Hull.{KeepsOneOutline};
-ghost use Rattle.half_edge_links.specs.Mesh.{with_vertex, origin, rev, out_edge};
-ghost use Rattle.half_edge_links.specs.Outline.{along};
-ghost use Rattle.half_edge_dcel.specs.Contents.{HasRoom, IsMeshWithData, edges};
-ghost use Rattle.half_edge_dcel.specs.Growth.{AddsEdges, joins, with_ends};
+ghost use Rattle.half_edge_links.specs.{along, KeepsOneOutline, origin, out_edge, rev, with_vertex};
 ghost use Rattle.half_edge_dcel.specs.GrownData.{AddsEdgeData};
-ghost use Rattle.half_edge_dcel.specs.Shapes.{JoinsFirst, ExtendsLineTo, SplitsOnLine};
+ghost use Rattle.half_edge_dcel.specs.Growth.{AddsEdges, joins, with_ends};
+ghost use Rattle.half_edge_dcel.specs.MeshContents.{edges, HasRoom, IsMeshWithData};
+ghost use Rattle.half_edge_dcel.specs.Shapes.{ExtendsLineTo, JoinsFirst, SplitsOnLine};
 
-use crate::dcel::Dcel;
+use crate::Dcel;
 use crate::growth::push_defaults;
 use half_edge_links::{FixedDirectedEdgeHandle, FixedVertexHandle};
 

@@ -3,7 +3,7 @@ ghost use Rattle.std.specs.Prelude.{◌≡◌, ◌<◌, ◌≤◌, [], IfOk, IfE
 ghost use Rattle.std.specs.List.{AllZip};
 ghost use Rattle.half_edge_dcel.specs.Mapped.{IsMapped};
 
-use crate::dcel::Dcel;
+use crate::Dcel;
 
 // Each item as `change` turns it, in `into`, which is empty and has room for all.
 fn mapped<A: Drop, B, M: Fn(A) -> B>(items: Vec<A>, mut into: Vec<B>, change: &M) -> Vec<B>

@@ -1,15 +1,12 @@
 //! Growth beside the outer face.
 ghost use Rattle.std.specs.Prelude.{◌≡◌, ◌≢◌, ◌+◌, ◌/◌, ◌<◌, ◌++◌, ◌∷◌, [], length};
-ghost use Rattle.half_edge_links.specs.Mesh.{origin, next, prev, rev, face};
-ghost use Rattle.half_edge_links.specs.Grow.{IsHalfSplittable};
-ghost use Rattle.half_edge_links.specs.Outline.{along};
-ghost use Rattle.half_edge_dcel.specs.Contents.{HasRoom, edges};
-ghost use Rattle.half_edge_dcel.specs.Growth.{AddsEdges};
-ghost use Rattle.half_edge_dcel.specs.Growth.{SplitsEdge, joins};
+ghost use Rattle.half_edge_links.specs.{along, face, IsHalfSplittable, next, origin, prev, rev};
 ghost use Rattle.half_edge_dcel.specs.GrownData.{AddsData, MovesData};
+ghost use Rattle.half_edge_dcel.specs.Growth.{AddsEdges, joins, SplitsEdge};
+ghost use Rattle.half_edge_dcel.specs.MeshContents.{edges, HasRoom};
 ghost use Rattle.half_edge_dcel.specs.Shapes.{AddsFaceTo, ClosesTriangle, SplitsBesideOuter};
 
-use crate::dcel::Dcel;
+use crate::Dcel;
 use crate::growth::{move_item, push_defaults};
 use half_edge_links::{FixedDirectedEdgeHandle, FixedVertexHandle};
 

@@ -1,10 +1,9 @@
 //! Room for a mesh to grow in.
 ghost use Rattle.std.specs.Prelude.{◌≡◌, ◌≤◌, [], OnOk, IfOk, IsOk, Err};
-ghost use Rattle.half_edge_links.specs.Mesh.{empty};
-ghost use Rattle.half_edge_links.specs.Room.{AreFewEnough, HasRoomFor, KeepsRoom};
+ghost use Rattle.half_edge_links.specs.{empty, HasRoomFor, Room.AreFewEnough, Room.KeepsRoom};
 ghost use Rattle.half_edge_dcel.specs.Empty.{IsEmptyMesh};
 
-use crate::dcel::Dcel;
+use crate::Dcel;
 use half_edge_links::ReserveError;
 use std::alloc::Global;
 

@@ -3,14 +3,12 @@
 
 ghost use Rattle.std.specs.Prelude.{⊤};
 ghost use Rattle.std.specs.Iterator.{YieldsFirstBy, YieldsLastBy, item_count};
-ghost use Rattle.half_edge_dcel.specs.half_edge_links.Mesh.{next};
-ghost use Rattle.half_edge_dcel.specs.half_edge_links.Peel.{turn};
+ghost use Rattle.half_edge_links.specs.{next, turn};
 ghost use Rattle.half_edge_dcel.specs.Walks.{IsEnding, IsSameWalk};
 
-use crate::FixedDirectedEdgeHandle;
-use crate::edge::DirectedEdgeHandle;
 use crate::edge_walk::EdgeWalk;
-use crate::views::MeshViews;
+use crate::{DirectedEdgeHandle, MeshViews};
+use half_edge_links::FixedDirectedEdgeHandle;
 use std::alloc::AllocError;
 use std::iter::FusedIterator;
 

@@ -1,14 +1,12 @@
 //! Taking single edges and faces out, with their data.
 ghost use Rattle.std.specs.Prelude.{◌≡◌, ◌+◌, ◌*◌, ◌<◌, ◌≤◌, length, vec_len, vec_capacity};
-ghost use Rattle.half_edge_links.specs.Mesh.{next, IsInner};
-ghost use Rattle.half_edge_links.specs.Peel.{turn, IsPeelable};
-ghost use Rattle.half_edge_links.specs.Remove.{after_removal, IsOpenTriangle, IsRemovable};
-ghost use Rattle.half_edge_dcel.specs.Contents.{IsMeshWithData};
+ghost use Rattle.half_edge_links.specs.{after_removal, IsInner, IsOpenTriangle, IsPeelable};
+ghost use Rattle.half_edge_links.specs.{IsRemovable, next, turn};
+ghost use Rattle.half_edge_dcel.specs.{MeshContents.IsMeshWithData, Taking.RemovesFullEdge};
 ghost use Rattle.half_edge_dcel.specs.Removal.{TakesOutPair};
 ghost use Rattle.half_edge_dcel.specs.Taking.{ClosesFullFace, OpensFullFace, PeelsFullEdge};
-ghost use Rattle.half_edge_dcel.specs.Taking.{RemovesFullEdge};
 
-use crate::dcel::Dcel;
+use crate::Dcel;
 use half_edge_links::reversed;
 
 // Takes items `2 k` and `2 k + 1` out. The last two take their places.

@@ -1,13 +1,10 @@
 //! Vertices together with the mesh that they lie in.
 ghost use Rattle.std.specs.Prelude.{◌≡◌, ◌<◌, ◌↔◌, length, slice_get, Some, ⊤};
 ghost use Rattle.std.specs.Prelude.{IsNone, IfSome};
-ghost use Rattle.half_edge_dcel.specs.half_edge_links.Mesh.{out_edge};
-ghost use Rattle.half_edge_dcel.specs.Contents.{IsMeshWithData};
+ghost use Rattle.{half_edge_dcel.specs.MeshContents.IsMeshWithData, half_edge_links.specs.out_edge};
 
-use crate::Dcel;
-use crate::edge::DirectedEdgeHandle;
 use crate::edge_walk::EdgeWalk;
-use crate::rounds::CircularIterator;
+use crate::{CircularIterator, Dcel, DirectedEdgeHandle};
 use half_edge_links::FixedVertexHandle;
 use std::alloc::AllocError;
 

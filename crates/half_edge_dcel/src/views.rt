@@ -4,24 +4,21 @@
 ghost use Rattle.std.specs.Prelude.{◌≡◌, ◌≢◌, ◌<◌, ◌≤◌, ◌+◌, ◌↔◌, ℕ};
 ghost use Rattle.std.specs.Prelude.{length, IsSome, IfNone, IfSome};
 ghost use Rattle.std.specs.List.{range_with_len};
-ghost use Rattle.half_edge_dcel.specs.half_edge_links.Mesh.{origin, rev};
-ghost use Rattle.half_edge_dcel.specs.Contents.{Contents};
-ghost use Rattle.half_edge_dcel.specs.Left.{each_in, vertices_left, directed_edges_left};
-ghost use Rattle.half_edge_dcel.specs.Left.{undirected_edges_left, faces_left};
+ghost use Rattle.half_edge_links.specs.{origin, rev};
+ghost use Rattle.half_edge_dcel.specs.Left.{directed_edges_left, each_in, faces_left};
+ghost use Rattle.half_edge_dcel.specs.Left.{undirected_edges_left, vertices_left};
+ghost use Rattle.half_edge_dcel.specs.MeshContents.{Contents};
 ghost use Rattle.half_edge_dcel.specs.Rounds.{GivesOuterLoop, hull_left};
 
-use crate::edge::{DirectedEdgeHandle, UndirectedEdgeHandle};
 use crate::edge_walk::EdgeWalk;
-use crate::face::FaceHandle;
-use crate::iterators::{
-    DirectedEdgeIterator, FaceIterator, UndirectedEdgeIterator, VertexIterator,
-};
-use crate::rounds::HullIterator;
-use crate::vertex::VertexHandle;
 use crate::{
-    Dcel, FixedDirectedEdgeHandle, FixedFaceHandle, FixedUndirectedEdgeHandle, FixedVertexHandle,
+    Dcel, DirectedEdgeHandle, DirectedEdgeIterator, FaceHandle, FaceIterator, HullIterator,
+    UndirectedEdgeHandle, UndirectedEdgeIterator, VertexHandle, VertexIterator,
 };
-use half_edge_links::reversed;
+use half_edge_links::{
+    FixedDirectedEdgeHandle, FixedFaceHandle, FixedUndirectedEdgeHandle, FixedVertexHandle,
+    reversed,
+};
 
 /// Handles of the vertices, edges and faces of a mesh, and iterators over them. What each call
 /// gives is said at `Dcel`.

@@ -1,9 +1,9 @@
 //! References for writing to the data of edges and faces.
 ghost use Rattle.std.specs.Prelude.{◌≡◌, ◌<◌, ◌≤◌, ◌∷◌, length, Some, slice_get};
 ghost use Rattle.std.specs.Borrow.{Lends, sem};
-ghost use Rattle.half_edge_dcel.specs.Writing.{with_directed, with_undirected, with_face};
+ghost use Rattle.half_edge_dcel.specs.Writing.{with_directed, with_face, with_undirected};
 
-use crate::dcel::Dcel;
+use crate::Dcel;
 use half_edge_links::{FixedDirectedEdgeHandle, FixedFaceHandle, FixedUndirectedEdgeHandle};
 
 impl<V, DE, UE, F> Dcel<V, DE, UE, F> {

@@ -1,15 +1,11 @@
 -- The mesh that a value of `Links` holds.
 -- Notions: mesh_in; joined_in; IsRoundStored, round_stored.
 use Rattle.std.proofs.Common.{◌≡◌, ℕ, ◌<◌, List, length}
-use Rattle.half_edge_links.specs.declared.links.Links.TheInside.{Inside}
-use Rattle.half_edge_links.specs.declared.records.StoredEdge.{StoredEdge}
-use Rattle.half_edge_links.specs.EdgeList.{shown}
-use Rattle.half_edge_links.specs.Mesh.{Mesh, IsValidMesh, AreSoundLinks, next, prev}
-use Rattle.half_edge_links.specs.Places.{AreJoined}
-use Rattle.half_edge_links.specs.VertexList.{out_edges_of}
-use Rattle.half_edge_links.proofs.Stored.Joined.{joined_sound}
-use Rattle.half_edge_links.proofs.Stored.Shown.{shown_reads, whole_reads, length_shown}
-use Rattle.half_edge_links.proofs.Stored.Shown.{next_kept_within}
+use Rattle.half_edge_links.specs.{AreJoined, AreSoundLinks, IsValidMesh, Mesh, next, prev, shown}
+use Rattle.half_edge_links.specs.{StoredEdge}
+use Rattle.half_edge_links.specs.{declared.links.Links.TheInside.Inside, VertexList.out_edges_of}
+use Rattle.half_edge_links.proofs.{Stored.Joined.joined_sound, Stored.Shown.whole_reads}
+use Rattle.half_edge_links.proofs.Stored.Shown.{length_shown, next_kept_within, shown_reads}
 
 -- the mesh inside
 abbrev pub mesh_in : {V : Type 0} → Inside V → Mesh

@@ -1,8 +1,14 @@
--- An edge between two inner faces is turned.
+-- How an edge between two inner faces is turned.
+-- IsFlippable m e: e has two different inner faces on its sides
+-- IsBetweenFaces m e: e has inner faces on both sides
+-- flipped m e: the mesh after e was turned
+-- Flips old new e: the same, link by link
+-- flip_by, turn_by: the mesh, and its directed edges, after a turn, by the six edges of the two
+--   faces
 use Rattle.std.specs.Prelude.{◌≡◌, ◌≢◌, ℕ, ◌-◌, ◌<◌, List, length, Some, slice_set}
+use Rattle.half_edge_links.specs.Meshes.{edge_at, face, face_edge, HasLinks, Mesh, next, origin}
+use Rattle.half_edge_links.specs.Meshes.{out_edge, prev, rev}
 use Rattle.half_edge_links.specs.declared.records.HalfEdge.{HalfEdge}
-use Rattle.half_edge_links.specs.Mesh.{Mesh, edge_at, rev, origin, next, prev, face, face_edge}
-use Rattle.half_edge_links.specs.Mesh.{out_edge, HasLinks}
 
 -- an edge with inner faces on both sides
 pub record IsBetweenFaces (m : Mesh) (e : ℕ) : Type 0 where

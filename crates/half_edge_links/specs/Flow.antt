@@ -1,9 +1,9 @@
 -- Sums over the sides of the faces, the outer edges and the edges of a mesh.
 use Rattle.std.specs.Prelude.{◌≡◌, [], ◌∷◌, ◌==◌, if◌then◌else◌, ◌+ℤ◌}
 use Rattle.std.specs.Prelude.{ℕ, zero, suc, List, length, ℤ, pos, neg_ℤ}
-use Rattle.half_edge_links.specs.Mesh.{Mesh, IsValidMesh, origin, face, rev}
-use Rattle.half_edge_links.specs.Triangles.{Triangle, triangles}
+use Rattle.half_edge_links.specs.Meshes.{face, IsValidMesh, Mesh, origin, rev}
 use Rattle.half_edge_links.specs.Outline.{Ends, ends}
+use Rattle.half_edge_links.specs.Triangles.{Triangle, triangles}
 
 -- the sum of f over a list
 abbrev pub total : {X : Type 0} → (X → ℤ) → List X → ℤ

@@ -1,10 +1,22 @@
--- The mesh after calls that grow it beside the outer face.
+-- The mesh after calls that add edges and faces beside the outer face.
+-- OnOuter m h: h has the outer face on its left
+-- Closes old new e n g: a new edge n closes outer edge e and the next one to a new face g + 1
+-- IsClosable m e: e and the next edge may be closed so: e is outer, and the next edge does not end
+--   where e starts
+-- Hangs old new x v n: a new edge n goes from the end of edge x to vertex v
+-- AddsFace old new e v n g: outer edge e and vertex v make a new face g + 1
+-- HalfSplits old new e v n g: hull edge e, with its one face, is split at vertex v
+-- IsHalfSplittable m e: e has an inner face on its left and the outer one on its right
+-- Slides old new e k l: edge e ends at the far end of the edge after it instead
+-- closed, hung, slid: the meshes that `Closes`, `Hangs` and `Slides` describe
+-- with_next, with_prev, with_origin, with_face: the directed edges with one link of one edge
+--   written
+-- edge_into m u: an edge that ends at vertex u, if it has edges
 use Rattle.std.specs.Prelude.{◌≡◌, ◌≢◌, ◌+◌, ◌<◌, [], ◌∷◌, ◌++◌}
 use Rattle.std.specs.Prelude.{ℕ, List, length, Option, Some, None, IsSome, slice_set}
-use Rattle.half_edge_links.specs.declared.records.HalfEdge.{HalfEdge}
-use Rattle.half_edge_links.specs.Mesh.{Mesh, edge_at, origin, next, prev, face, rev, out_edge}
-use Rattle.half_edge_links.specs.Mesh.{HasLinks}
 use Rattle.half_edge_links.specs.Flip.{flipped}
+use Rattle.half_edge_links.specs.Meshes.{edge_at, face, HasLinks, Mesh, next, origin, out_edge}
+use Rattle.half_edge_links.specs.{declared.records.HalfEdge.HalfEdge, Meshes.prev, Meshes.rev}
 
 -- one link of a directed edge is written
 unfoldable pub with_next : List HalfEdge → ℕ → ℕ → List HalfEdge

@@ -1,15 +1,12 @@
 -- What calls that grow a mesh beside the outer face ask for, and what they do to it.
 use Rattle.std.specs.Prelude.{◌≡◌, ◌≢◌, ℕ, ◌+◌, ◌<◌, [], length}
-use Rattle.half_edge_links.specs.Mesh.{Mesh, IsValidMesh, origin, next, rev}
-use Rattle.half_edge_links.specs.Room.{Room, HasEdgeRoom, HasFaceRoom}
-use Rattle.half_edge_links.specs.Hull.{KeepsOneOutline}
-use Rattle.half_edge_links.specs.Triangles.{triangles}
-use Rattle.half_edge_links.specs.Outline.{HangsOuter, ClosesOuter, ReplacesOuter, SplitsOuter}
-use Rattle.half_edge_links.specs.Outline.{ExtendsOuter}
-use Rattle.half_edge_links.specs.Outline.{AddsTriangle, HalfSplitsTriangles, AddsEdge, AddsTwoEdges}
-use Rattle.half_edge_links.specs.Outline.{HalfSplitsEnds}
-use Rattle.half_edge_links.specs.Outline.{SplitsLineEnds}
-use Rattle.half_edge_links.specs.Grow.{Hangs, Closes, AddsFace, HalfSplits, SplitsLine, edge_into}
+use Rattle.half_edge_links.specs.Grow.{AddsFace, Closes, edge_into, HalfSplits, Hangs, SplitsLine}
+use Rattle.half_edge_links.specs.{Hull.KeepsOneOutline, Triangles.triangles}
+use Rattle.half_edge_links.specs.Meshes.{IsValidMesh, Mesh, next, origin, rev}
+use Rattle.half_edge_links.specs.Outline.{AddsEdge, AddsTriangle, AddsTwoEdges, ClosesOuter}
+use Rattle.half_edge_links.specs.Outline.{ExtendsOuter, HalfSplitsEnds, HalfSplitsTriangles}
+use Rattle.half_edge_links.specs.Outline.{HangsOuter, ReplacesOuter, SplitsLineEnds, SplitsOuter}
+use Rattle.half_edge_links.specs.Room.{HasEdgeRoom, HasFaceRoom, Room}
 
 -- so many more directed edges and inner faces fit with no allocation
 pub record HasEdgeAndFaceRoom (m : Mesh) (room : Room) (edges faces : ℕ) : Type 0 where

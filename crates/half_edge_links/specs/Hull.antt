@@ -1,6 +1,6 @@
 -- The loop of the outer face.
 use Rattle.std.specs.Prelude.{◌≡◌, ◌≢◌, ◌⊎◌, ℕ, ◌+◌, ◌<◌, length, Some, Bool, true}
-use Rattle.half_edge_links.specs.Mesh.{Mesh, IsValidMesh, next, face, rev, iterate}
+use Rattle.half_edge_links.specs.Meshes.{face, IsValidMesh, iterate, Mesh, next, rev}
 
 -- a set of edges holds with each outer edge the next one
 abbrev pub IsClosedAlong : Mesh → (ℕ → Bool) → Type 0

@@ -1,9 +1,8 @@
 -- A vertex is put into an inner face.
 use Rattle.std.specs.Prelude.{◌≡◌, ◌≢◌, ◌+◌, ◌-◌, ◌<◌, ◌≤◌, [], ◌∷◌, ◌++◌}
 use Rattle.std.specs.Prelude.{ℕ, List, length, Some, slice_set}
-use Rattle.half_edge_links.specs.declared.records.HalfEdge.{HalfEdge}
-use Rattle.half_edge_links.specs.Mesh.{Mesh, edge_at, origin, next, prev, face, face_edge, out_edge}
-use Rattle.half_edge_links.specs.Mesh.{HasLinks}
+use Rattle.half_edge_links.specs.Meshes.{edge_at, face, face_edge, HasLinks, Mesh, next, origin}
+use Rattle.half_edge_links.specs.{declared.records.HalfEdge.HalfEdge, Meshes.out_edge, Meshes.prev}
 
 -- directed edges, n of them, after vertex v was put into face f, whose edges are a and these three
 abbrev pub fan_by : List HalfEdge → ℕ → ℕ → ℕ → ℕ → ℕ → HalfEdge → HalfEdge → HalfEdge

@@ -1,11 +1,9 @@
 -- What calls do that change a mesh inside the outer loop.
 use Rattle.std.specs.Prelude.{ℕ, length}
-use Rattle.half_edge_links.specs.Mesh.{Mesh, IsValidMesh, origin, prev, face, rev}
-use Rattle.half_edge_links.specs.Hull.{KeepsOneOutline}
+use Rattle.half_edge_links.specs.{Flip.Flips, Hull.KeepsOneOutline, Insert.Inserts}
+use Rattle.half_edge_links.specs.Meshes.{face, IsValidMesh, Mesh, origin, prev, rev}
+use Rattle.half_edge_links.specs.Outline.{InsertsEnds, KeepsOuter, MovesEdge, SplitsEnds}
 use Rattle.half_edge_links.specs.Triangles.{FlipsTriangles, InsertsTriangles, SplitsTriangles}
-use Rattle.half_edge_links.specs.Outline.{KeepsOuter, MovesEdge, InsertsEnds, SplitsEnds}
-use Rattle.half_edge_links.specs.Flip.{Flips}
-use Rattle.half_edge_links.specs.Insert.{Inserts}
 
 -- edge e is turned: the links, the ends of the edge, the corners of its two faces and the outer
 -- edges

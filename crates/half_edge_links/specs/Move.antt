@@ -1,10 +1,8 @@
 -- A vertex is taken out of a mesh.
 use Rattle.std.specs.Prelude.{◌≡◌, ◌≢◌, ℕ, ◌-◌, ◌<◌, List, length, Option, Some, None}
 use Rattle.std.specs.List.{swap_remove}
-use Rattle.half_edge_links.specs.Renames.{moved}
-use Rattle.half_edge_links.specs.declared.records.HalfEdge.{HalfEdge}
-use Rattle.half_edge_links.specs.Mesh.{Mesh, edge_at, origin, next, prev, face, out_edge, rev}
-use Rattle.half_edge_links.specs.Mesh.{iterate}
+use Rattle.half_edge_links.specs.Meshes.{edge_at, face, iterate, Mesh, next, origin, out_edge, prev}
+use Rattle.half_edge_links.specs.{declared.records.HalfEdge.HalfEdge, Meshes.rev, Renames.moved}
 
 -- the edge after h round its origin, against the clock, in a list of directed edges
 abbrev pub turn_of : List HalfEdge → ℕ → ℕ

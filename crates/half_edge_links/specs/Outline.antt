@@ -1,10 +1,19 @@
--- What a layer with positions needs: the ends of the edges, the outer edges and the corners of the
--- faces.
+-- What a layer with positions needs of a mesh: the ends of the edges and the outer edges, and how
+-- calls change them and the faces.
+-- Ends: the two vertices of an undirected edge, in the order of its even directed edge
+-- ends m: the ends of each undirected edge, by its index
+-- along h a b: the ends of the undirected edge of h, where h goes from a to b
+-- IsOuterEdge m h a b: h has the outer face on its left and goes from a to b
+-- KeepsOuter: the outer edges stay
+-- OuterChanges old new Gone Made: the outer edges afterwards, by which are gone and which made
+-- ReplacesOuter, ClosesOuter, SplitsOuter, ExtendsOuter: outer edges gone and made by one call each
+-- MovesEdge old new e a b: edge e goes from a to b afterwards, and no other edge has other ends
+-- AddsTriangle old new a b c: a face with these corners becomes the last one
+-- HalfSplitsTriangles old new v e: the one face at hull edge e becomes two at v
 use Rattle.std.specs.Prelude.{◌≡◌, ◌⊎◌, ◌+◌, ◌-◌, ◌/◌, ◌%◌, ◌<◌, ◌==◌, [], ◌∷◌, ◌++◌, if◌then◌else◌}
 use Rattle.std.specs.Prelude.{ℕ, List, length, map, slice_set}
-use Rattle.half_edge_links.specs.declared.records.HalfEdge.{HalfEdge}
-use Rattle.half_edge_links.specs.Mesh.{Mesh, origin, next, prev, face, rev}
-use Rattle.half_edge_links.specs.Triangles.{triangles}
+use Rattle.half_edge_links.specs.Meshes.{face, Mesh, next, origin, prev, rev}
+use Rattle.half_edge_links.specs.{declared.records.HalfEdge.HalfEdge, Triangles.triangles}
 
 -- the vertices that an undirected edge joins, in the order of its even directed edge
 pub record Ends : Type 0 where

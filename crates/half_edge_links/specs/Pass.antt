@@ -1,8 +1,8 @@
 -- An edge of a line passes the vertex at its end.
 use Rattle.std.specs.Prelude.{◌≡◌, ◌≢◌, ℕ, ◌<◌, List, [], length, Some, slice_set}
+use Rattle.half_edge_links.specs.Grow.{with_next, with_origin, with_prev}
+use Rattle.half_edge_links.specs.Meshes.{edge_at, face, Mesh, next, origin, out_edge, prev, rev}
 use Rattle.half_edge_links.specs.declared.records.HalfEdge.{HalfEdge}
-use Rattle.half_edge_links.specs.Mesh.{Mesh, edge_at, origin, next, prev, face, rev, out_edge}
-use Rattle.half_edge_links.specs.Grow.{with_next, with_prev, with_origin}
 
 -- the vertex at the end of e has one more edge, to another vertex than the start of e, and there is
 -- no inner face

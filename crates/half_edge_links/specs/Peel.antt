@@ -1,6 +1,13 @@
--- The edges of a vertex are taken out of a mesh, face by face.
+-- How the edges of a vertex are taken out of a mesh, face by face.
+-- turn m h: the next edge out of the origin of h, counterclockwise
+-- spoke m h i: the edge reached from h after i such turns
+-- Peels old new h: edge h goes, and the face on its left becomes part of the outer face
+-- IsPeelable m h: h has an inner face on its left and the outer one on its right
+-- IsStrip m h k: the origin of h has k inner faces in a row from h on, and the outer face before
+--   and after them
+-- IsWheel m o: three turns lead from o back to o, with an inner face at each of the three edges
 use Rattle.std.specs.Prelude.{◌≡◌, ◌≢◌, ℕ, ◌<◌, length}
-use Rattle.half_edge_links.specs.Mesh.{Mesh, next, prev, face, rev, iterate}
+use Rattle.half_edge_links.specs.Meshes.{face, iterate, Mesh, next, prev, rev}
 use Rattle.half_edge_links.specs.Remove.{Opens, Removes}
 
 -- an edge with an inner face on its left and the outer one on its right

@@ -1,7 +1,6 @@
 -- What writes to a list of directed edges ask of the edges that they are given.
 use Rattle.std.specs.Prelude.{◌≡◌, ◌≢◌, ℕ, ◌+◌, ◌%◌, ◌<◌, List, length}
-use Rattle.half_edge_links.specs.declared.records.HalfEdge.{HalfEdge}
-use Rattle.half_edge_links.specs.Mesh.{edge_at}
+use Rattle.half_edge_links.specs.{declared.records.HalfEdge.HalfEdge, Meshes.edge_at}
 
 -- the links of each directed edge lead to edges of the list, and back
 pub record AreJoined (hs : List HalfEdge) : Type 0 where

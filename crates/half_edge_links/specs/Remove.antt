@@ -1,14 +1,23 @@
--- Edges and faces are taken out of a mesh.
+-- How edges and faces are taken out of a mesh.
+-- Removes old new e: edge e is taken out of its loops, and then the last edge gets its index
+-- IsRemovable m e: e has the outer face on both sides
+-- Unlinks, unlinked: the first of these two steps, link by link and as a mesh
+-- after_removal m e h: the index of edge h once e is removed
+-- edge_naming last hole: the new indexes of all edges where the last one gets the index hole
+-- Opens old new f: face f becomes part of the outer face, and the last face gets its index
+-- ClosesLoop old new h: the loop of three outer edges from h on becomes a new last face
+-- IsOpenTriangle m h: there is such a loop, and the outer face names none of its edges
+-- IsSoundBut m hole: links that are sound but for one edge, to which no other refers
 use Rattle.std.specs.Prelude.{◌≡◌, ◌≢◌, ◌⊎◌, ◌+◌, ◌-◌, ◌%◌, ◌<◌, ◌≤◌, ◌==◌, [], ◌∷◌, ◌++◌}
 use Rattle.std.specs.Prelude.{if◌then◌else◌}
 use Rattle.std.specs.Prelude.{ℕ, List, length, Option, Some, None, IsSome, slice_index_or}
 use Rattle.std.specs.Prelude.{slice_set}
 use Rattle.std.specs.List.{swap_remove}
-use Rattle.half_edge_links.specs.Renames.{Naming, Renames, renamed, pair_moved}
+use Rattle.half_edge_links.specs.Grow.{with_face, with_next, with_prev}
+use Rattle.half_edge_links.specs.Meshes.{edge_at, face, face_edge, IsSoundEdge, Mesh, next, no_edge}
+use Rattle.half_edge_links.specs.Meshes.{origin, out_edge, prev, rev}
+use Rattle.half_edge_links.specs.Renames.{Naming, pair_moved, renamed, Renames}
 use Rattle.half_edge_links.specs.declared.records.HalfEdge.{HalfEdge}
-use Rattle.half_edge_links.specs.Mesh.{Mesh, no_edge, edge_at, origin, next, prev, face, face_edge}
-use Rattle.half_edge_links.specs.Mesh.{out_edge, rev, IsSoundEdge}
-use Rattle.half_edge_links.specs.Grow.{with_next, with_prev, with_face}
 
 -- directed edge h is in a list, and so are the edges before and after it
 pub record IsLinkedWithin (hs : List HalfEdge) (h : ℕ) : Type 0 where

@@ -1,8 +1,8 @@
 -- A mesh whose elements have new indexes, some of them having gone.
 use Rattle.std.specs.Prelude.{◌≡◌, ◌+◌, ◌%◌, ◌<◌, ◌≤◌, ◌==◌, if◌then◌else◌}
 use Rattle.std.specs.Prelude.{ℕ, length, Option, Some, None, IsSome}
-use Rattle.half_edge_links.specs.Mesh.{Mesh, HasLinks, IsSoundEdge, origin, next, prev, face}
-use Rattle.half_edge_links.specs.Mesh.{face_edge, out_edge, rev}
+use Rattle.half_edge_links.specs.Meshes.{face, face_edge, HasLinks, IsSoundEdge, Mesh, next, origin}
+use Rattle.half_edge_links.specs.Meshes.{out_edge, prev, rev}
 
 -- the new index of each old edge, vertex and face, and the old one of each new
 pub record Naming : Type 0 where

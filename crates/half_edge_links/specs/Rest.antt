@@ -1,8 +1,6 @@
 -- What a change of the links does to the data of vertices and to the room.
 use Rattle.std.specs.Prelude.{◌≡◌, ℕ}
-use Rattle.half_edge_links.specs.Mesh.{IsValidMesh}
-use Rattle.half_edge_links.specs.Room.{Held}
-use Rattle.half_edge_links.specs.VertexList.{TakesValue}
+use Rattle.half_edge_links.specs.{Meshes.IsValidMesh, Room.Held, VertexList.TakesValue}
 
 -- data and room stay
 pub record KeepsRest {V : Type 0} (old new : Held V) : Type 0 where

@@ -1,7 +1,6 @@
 -- How many vertices, edges and faces fit in a mesh with no allocation.
 use Rattle.std.specs.Prelude.{ℕ, ◌+◌, ◌*◌, ◌≤◌, List, length}
-use Rattle.half_edge_links.specs.declared.room.TheConstants.{MAX_ELEMENTS}
-use Rattle.half_edge_links.specs.Mesh.{Mesh}
+use Rattle.half_edge_links.specs.{declared.room.TheConstants.MAX_ELEMENTS, Meshes.Mesh}
 
 -- how many vertices, directed edges and inner faces fit with no allocation
 pub record Room : Type 0 where

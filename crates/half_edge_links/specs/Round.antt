@@ -1,8 +1,11 @@
--- The edges of a vertex in their order round it.
+-- The edges of a vertex, in their order around it.
+-- neighbour m first i: the other end of the i-th edge of a vertex, counted counterclockwise from
+--   first
+-- IsRound m u first count: the edges of u are count many, from edge first on, each once
+-- EdgesGoRound: each vertex that has edges in a valid mesh has such a count
 use Rattle.std.specs.Prelude.{◌≡◌, ◌≢◌, ℕ, ◌+◌, ◌<◌, length, Some}
-use Rattle.half_edge_links.specs.Mesh.{Mesh, IsValidMesh, origin, face, out_edge, rev}
-use Rattle.half_edge_links.specs.Triangles.{triangle_at}
-use Rattle.half_edge_links.specs.Peel.{spoke}
+use Rattle.half_edge_links.specs.Meshes.{face, IsValidMesh, Mesh, origin, out_edge, rev}
+use Rattle.half_edge_links.specs.{Peel.spoke, Triangles.triangle_at}
 
 -- the vertex at the other end of the i-th edge of a vertex, from edge first on, against the clock
 abbrev pub neighbour : Mesh → ℕ → ℕ → ℕ

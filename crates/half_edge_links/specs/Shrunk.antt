@@ -1,14 +1,11 @@
 -- What calls do that take edges and faces out of a mesh.
 use Rattle.std.specs.Prelude.{◌≡◌, ℕ}
-use Rattle.half_edge_links.specs.Mesh.{Mesh, origin, next, prev, face}
 use Rattle.half_edge_links.specs.Hull.{IsPendant, KeepsOneOutline}
-use Rattle.half_edge_links.specs.Triangles.{triangles}
-use Rattle.half_edge_links.specs.Outline.{ends, AddsTriangle}
-use Rattle.half_edge_links.specs.Taken.{RemovesTriangle, RemovesEnds, OpensOuter, ClosesLoopOuter}
-use Rattle.half_edge_links.specs.Taken.{RemovesOuter}
-use Rattle.half_edge_links.specs.Taken.{PeelsOuter}
-use Rattle.half_edge_links.specs.Remove.{Opens, ClosesLoop, Removes}
-use Rattle.half_edge_links.specs.Peel.{Peels}
+use Rattle.half_edge_links.specs.Meshes.{face, Mesh, next, origin, prev}
+use Rattle.half_edge_links.specs.Outline.{AddsTriangle, ends}
+use Rattle.half_edge_links.specs.{Peel.Peels, Remove.ClosesLoop, Remove.Opens, Remove.Removes}
+use Rattle.half_edge_links.specs.Taken.{ClosesLoopOuter, OpensOuter, PeelsOuter, RemovesEnds}
+use Rattle.half_edge_links.specs.{Taken.RemovesOuter, Taken.RemovesTriangle, Triangles.triangles}
 
 -- face f is given to the outer face: the links, the ends of the edges, the corners of the faces and
 -- the outer edges

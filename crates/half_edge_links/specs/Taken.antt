@@ -1,11 +1,10 @@
 -- What removals do to the ends of the edges, the outer edges and the corners of the faces.
 use Rattle.std.specs.Prelude.{◌≡◌, ◌≢◌, ◌⊎◌, ℕ, ◌-◌, ◌/◌, ◌<◌, length, map}
 use Rattle.std.specs.List.{swap_remove}
-use Rattle.half_edge_links.specs.Mesh.{Mesh, origin, next, prev, face, rev}
-use Rattle.half_edge_links.specs.Renames.{moved}
-use Rattle.half_edge_links.specs.Triangles.{Triangle, triangles}
+use Rattle.half_edge_links.specs.Meshes.{face, Mesh, next, origin, prev, rev}
 use Rattle.half_edge_links.specs.Outline.{Ends, ends, IsOuterEdge, OuterChanges}
-use Rattle.half_edge_links.specs.Remove.{after_removal}
+use Rattle.half_edge_links.specs.{Remove.after_removal, Triangles.Triangle, Triangles.triangles}
+use Rattle.half_edge_links.specs.Renames.{moved}
 
 -- what is read at an index past the end of a list of triangles
 abbrev pub no_triangle : Triangle

@@ -1,6 +1,12 @@
--- The corners of the inner faces.
+-- The corners of the inner faces, and what some calls make of them.
+-- Triangle: three corners, in their order around a face
+-- triangle_at m h: the corners of the face on the left of h, from the origin of h on
+-- triangles m: the corners of each inner face, by its index
+-- FlipsTriangles old new e: the two faces at e become the other two halves of their quadrilateral
+-- InsertsTriangles old new v a: the face on the left of a becomes three faces at v
+-- SplitsTriangles old new v e: the two faces at e become four at v
 use Rattle.std.specs.Prelude.{◌≡◌, ℕ, ◌-◌, List, [], ◌∷◌, ◌++◌, map, slice_set}
-use Rattle.half_edge_links.specs.Mesh.{Mesh, origin, next, prev, face, rev}
+use Rattle.half_edge_links.specs.Meshes.{face, Mesh, next, origin, prev, rev}
 
 -- the three corners of a face, in their order round it, from the origin of the edge that the face
 -- names

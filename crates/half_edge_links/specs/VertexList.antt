@@ -2,8 +2,8 @@
 use Rattle.std.specs.Prelude.{◌≡◌, ◌<◌, ◌==◌, if◌then◌else◌}
 use Rattle.std.specs.Prelude.{⊤, ℕ, List, map, slice_get, Option, Some, None}
 use Rattle.std.specs.List.{swap_remove}
-use Rattle.half_edge_links.specs.declared.vertex_list.Vertex.{Vertex}
 use Rattle.half_edge_links.specs.declared.vertex_list.TheConstants.{NO_EDGE}
+use Rattle.half_edge_links.specs.declared.vertex_list.Vertex.{Vertex}
 
 -- the edge that a vertex names by this number
 unfoldable pub named_by : ℕ → Option ℕ

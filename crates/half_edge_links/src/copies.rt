@@ -1,7 +1,7 @@
 //! A copy of a mesh.
 ghost use Rattle.half_edge_links.specs.Copied.{HoldsSame};
 
-use crate::links::Links;
+use crate::Links;
 use std::alloc::AllocError;
 
 impl<V: Clone> Clone for Links<V> {

@@ -6,10 +6,10 @@
 ghost use Rattle.std.specs.Prelude.{◌≡◌, ◌+◌, ◌-◌, ◌<◌, ◌≤◌, [], ◌∷◌, ◌++◌, length, slice_set};
 ghost use Rattle.std.specs.Prelude.{OnOk, IsOk};
 ghost use Rattle.std.specs.List.{swap_remove};
-ghost use Rattle.half_edge_links.specs.EdgeList.{stored_at, no_stored, shown, HoldsSameEdges};
+ghost use Rattle.half_edge_links.specs.EdgeList.{HoldsSameEdges, no_stored, shown, stored_at};
 
+use crate::MAX_ELEMENTS;
 use crate::records::StoredEdge;
-use crate::room::MAX_ELEMENTS;
 use std::alloc::AllocError;
 use std::marker::Model;
 
@@ -30,7 +30,7 @@ pub(crate) struct EdgeList {
 
 impl Model for EdgeList {
     ghost use Rattle.std.specs.Prelude.{vec_capacity};
-    ghost use Rattle.half_edge_links.specs.EdgeList.{Listed, after_free, capacity_after_free};
+    ghost use Rattle.half_edge_links.specs.EdgeList.{after_free, capacity_after_free, Listed};
 
     ghost Value = { Listed };
 

@@ -5,9 +5,9 @@ ghost use Rattle.std.specs.Prelude.{◌≡◌, ◌-◌, ◌^◌, ◌≤◌, ⊤}
 ghost use Rattle.std.specs.List.{range_with_len};
 ghost use Rattle.std.specs.Iterator.{YieldsFirstBy, YieldsLastBy, item_count};
 
-use crate::handles::{
-    FixedDirectedEdgeHandle, FixedFaceHandle, FixedHandle, FixedUndirectedEdgeHandle,
-    FixedVertexHandle,
+use crate::handles::FixedHandle;
+use crate::{
+    FixedDirectedEdgeHandle, FixedFaceHandle, FixedUndirectedEdgeHandle, FixedVertexHandle,
 };
 use std::alloc::AllocError;
 use std::fmt;

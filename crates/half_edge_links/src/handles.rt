@@ -1,6 +1,6 @@
 //! Names of the vertices, edges and faces of a mesh: indexes, each kind with a type of its own.
 ghost use Rattle.std.specs.Prelude.{◌≡◌, ℕ, ◌*◌, ◌/◌, ◌<◌, ◌^◌, IsTrue, ◌↔◌};
-ghost use Rattle.half_edge_links.specs.Mesh.{rev};
+ghost use Rattle.half_edge_links.specs.Meshes.{rev};
 
 use crate::reversed;
 use std::marker::Model;

@@ -1,20 +1,16 @@
 //! Changes inside the outer loop: an edge is turned, a vertex is put into a face or on an edge.
 ghost use Rattle.std.specs.Prelude.{◌≡◌, ◌≢◌, ◌+◌, ◌-◌, ◌<◌, ◌≤◌, length, Some};
-ghost use Rattle.half_edge_links.specs.Mesh.{origin, prev, rev, IsInnerEdge, IsAlone};
-ghost use Rattle.half_edge_links.specs.Mesh.{edge_at, AreSoundLinks, IsValidMesh};
-ghost use Rattle.half_edge_links.specs.EdgeList.{shown};
-ghost use Rattle.half_edge_links.specs.Places.{AreJoined, IsLoopOfThree};
-ghost use Rattle.half_edge_links.specs.Flip.{IsBetweenFaces, flipped};
-ghost use Rattle.half_edge_links.specs.Insert.{inserted, fan_by};
+ghost use Rattle.half_edge_links.specs.{EdgeList.shown, Places.AreJoined, Places.IsLoopOfThree};
+ghost use Rattle.half_edge_links.specs.Flip.{flipped, IsBetweenFaces};
+ghost use Rattle.half_edge_links.specs.Insert.{fan_by, inserted};
 ghost use Rattle.half_edge_links.specs.Inside.{FlipsEdge, InsertsBeside, SplitsInnerEdge};
-ghost use Rattle.half_edge_links.specs.Room.{HasEdgeRoom, HasFaceRoom};
-ghost use Rattle.half_edge_links.specs.Rest.{KeepsRest};
+ghost use Rattle.half_edge_links.specs.Meshes.{AreSoundLinks, edge_at, IsAlone, IsInnerEdge};
+ghost use Rattle.half_edge_links.specs.Meshes.{IsValidMesh, origin, prev, rev};
+ghost use Rattle.half_edge_links.specs.{Rest.KeepsRest, Room.HasEdgeRoom, Room.HasFaceRoom};
 
 use crate::edge_list::EdgeList;
-use crate::links::Links;
-use crate::records::reversed;
-use crate::room::MAX_ELEMENTS;
 use crate::vertex_list::set_out_edge;
+use crate::{Links, MAX_ELEMENTS, reversed};
 
 // Puts vertex `v` into the loop of `edge`, with three edges to it and back. The part of `edge`
 // keeps its face, and the two others become faces `g + 1` and `g + 2`.

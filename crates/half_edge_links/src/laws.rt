@@ -1,6 +1,5 @@
 //! Laws of every mesh, for the layers above.
-ghost use Rattle.half_edge_links.specs.Flow.{SidesAddUp, SidesCancel};
-ghost use Rattle.half_edge_links.specs.Hull.{OutlineGoesRound};
+ghost use Rattle.half_edge_links.specs.{Flow.SidesAddUp, Flow.SidesCancel, Hull.OutlineGoesRound};
 ghost use Rattle.half_edge_links.specs.Round.{EdgesGoRound};
 
 /// A law: the sides of the inner faces and the outer edges are, taken together, the two directions

@@ -1,18 +1,15 @@
 //! The first edge, and a mesh of one line.
 ghost use Rattle.std.specs.Prelude.{◌≡◌, ◌+◌, ◌-◌, length, Some, [], ◌∷◌};
-ghost use Rattle.half_edge_links.specs.Hull.{HasOneOutline, KeepsOneOutline};
-ghost use Rattle.half_edge_links.specs.Mesh.{origin, next, IsAlone, connected, AreSoundLinks};
-ghost use Rattle.half_edge_links.specs.Mesh.{IsValidMesh};
-ghost use Rattle.half_edge_links.specs.Room.{HasEdgeRoom};
-ghost use Rattle.half_edge_links.specs.Outline.{MovesEdge};
-ghost use Rattle.half_edge_links.specs.Grow.{hung, slid, IsSlidable, Slides, IsLineEdge};
-ghost use Rattle.half_edge_links.specs.Grow.{line_split, IsOnLine, edge_into};
+ghost use Rattle.half_edge_links.specs.Grow.{edge_into, hung, IsLineEdge, IsOnLine, IsSlidable};
+ghost use Rattle.half_edge_links.specs.{Grow.line_split, Grow.slid, Grow.Slides, Outline.MovesEdge};
 ghost use Rattle.half_edge_links.specs.Grown.{AreConnectable, ExtendsLine, SplitsLineEdge};
-ghost use Rattle.half_edge_links.specs.Rest.{KeepsRest};
+ghost use Rattle.half_edge_links.specs.{Hull.HasOneOutline, Hull.KeepsOneOutline, Room.HasEdgeRoom};
+ghost use Rattle.half_edge_links.specs.Meshes.{AreSoundLinks, connected, IsAlone, IsValidMesh};
+ghost use Rattle.half_edge_links.specs.{Meshes.next, Meshes.origin, Rest.KeepsRest};
 
-use crate::links::Links;
-use crate::records::{reversed, slide_edges};
+use crate::records::slide_edges;
 use crate::vertex_list::set_out_edge;
+use crate::{Links, reversed};
 
 impl<V> Links<V> {
     /// Makes the first edge, from `a` to `b`.

@@ -1,12 +1,11 @@
 //! The vertices, edges and faces of a mesh, and reads of them.
 ghost use Rattle.std.specs.Prelude.{◌≡◌, ◌-◌, ◌<◌, ◌≤◌, length, [], slice_get, Some};
-ghost use Rattle.half_edge_links.specs.Mesh.{edge_at, empty, IsInner, AreSoundLinks, IsValidMesh};
-ghost use Rattle.half_edge_links.specs.Mesh.{face_edge, out_edge, origin, prev};
+ghost use Rattle.half_edge_links.specs.Meshes.{AreSoundLinks, edge_at, empty, face_edge, IsInner};
+ghost use Rattle.half_edge_links.specs.Meshes.{IsValidMesh, origin, out_edge, prev};
 
 use crate::edge_list::EdgeList;
-use crate::records::HalfEdge;
-use crate::room::MAX_ELEMENTS;
 use crate::vertex_list::{NO_EDGE, Vertex};
+use crate::{HalfEdge, MAX_ELEMENTS};
 use std::alloc::Global;
 use std::marker::Model;
 
@@ -24,11 +23,9 @@ pub struct Links<V> {
 
 impl<V> Model for Links<V> {
     ghost use Rattle.std.specs.Prelude.{vec_capacity, min, ◌-◌};
-    ghost use Rattle.half_edge_links.specs.EdgeList.{shown};
-    ghost use Rattle.half_edge_links.specs.Mesh.{IsValidMesh};
-    ghost use Rattle.half_edge_links.specs.Room.{Held};
+    ghost use Rattle.half_edge_links.specs.{EdgeList.shown, Meshes.IsValidMesh};
+    ghost use Rattle.half_edge_links.specs.{declared.room.TheConstants.MAX_ELEMENTS, Room.Held};
     ghost use Rattle.half_edge_links.specs.VertexList.{out_edges_of, values_of};
-    ghost use Rattle.half_edge_links.specs.declared.room.TheConstants.{MAX_ELEMENTS};
 
     ghost Value = { Held V };
 

@@ -1,16 +1,15 @@
 //! Changes of the outer loop.
 ghost use Rattle.std.specs.Prelude.{◌≡◌, ◌+◌, ◌-◌, length, Some, [], ◌∷◌};
-ghost use Rattle.half_edge_links.specs.Mesh.{IsAlone, AreSoundLinks, IsValidMesh};
-ghost use Rattle.half_edge_links.specs.Room.{HasEdgeRoom};
-ghost use Rattle.half_edge_links.specs.Grow.{hung, closed, OnOuter, IsClosable};
-ghost use Rattle.half_edge_links.specs.Grow.{with_face_beside, IsHalfSplittable, half_split};
-ghost use Rattle.half_edge_links.specs.Grown.{HasEdgeAndFaceRoom, HangsEdge, ClosesCorner};
-ghost use Rattle.half_edge_links.specs.Grown.{AddsFaceBeside, SplitsHalfEdge};
-ghost use Rattle.half_edge_links.specs.Rest.{KeepsRest};
+ghost use Rattle.half_edge_links.specs.Grow.{closed, half_split, hung, IsClosable};
+ghost use Rattle.half_edge_links.specs.Grow.{IsHalfSplittable, OnOuter, with_face_beside};
+ghost use Rattle.half_edge_links.specs.Grown.{AddsFaceBeside, ClosesCorner, HangsEdge};
+ghost use Rattle.half_edge_links.specs.Grown.{HasEdgeAndFaceRoom, SplitsHalfEdge};
+ghost use Rattle.half_edge_links.specs.Meshes.{AreSoundLinks, IsAlone, IsValidMesh};
+ghost use Rattle.{half_edge_links.specs.Rest.KeepsRest, half_edge_links.specs.Room.HasEdgeRoom};
 
-use crate::links::Links;
-use crate::records::{reversed, set_corner, set_face, set_next, set_prev};
+use crate::records::{set_corner, set_face, set_next, set_prev};
 use crate::vertex_list::set_out_edge;
+use crate::{Links, reversed};
 
 impl<V> Links<V> {
     /// Puts an edge from the end of outer edge `x` to vertex `v` into the outer loop, after `x`.

@@ -1,17 +1,14 @@
 //! An edge of a line that passes a vertex.
 ghost use Rattle.std.specs.Prelude.{◌≡◌, ◌<◌};
-ghost use Rattle.half_edge_links.specs.Hull.{KeepsOneOutline};
-ghost use Rattle.half_edge_links.specs.Mesh.{origin, next, rev, AreSoundLinks, IsValidMesh};
-ghost use Rattle.half_edge_links.specs.Outline.{MovesEdge};
-ghost use Rattle.half_edge_links.specs.EdgeList.{shown};
-ghost use Rattle.half_edge_links.specs.Places.{AreJoined, ArePassedPlaces};
-ghost use Rattle.half_edge_links.specs.Pass.{passed_edges, passed, IsPassable, Passes};
-ghost use Rattle.half_edge_links.specs.Rest.{KeepsRest};
+ghost use Rattle.half_edge_links.specs.{EdgeList.shown, Places.AreJoined, Places.ArePassedPlaces};
+ghost use Rattle.half_edge_links.specs.{Hull.KeepsOneOutline, Outline.MovesEdge, Rest.KeepsRest};
+ghost use Rattle.half_edge_links.specs.Meshes.{AreSoundLinks, IsValidMesh, next, origin, rev};
+ghost use Rattle.half_edge_links.specs.Pass.{IsPassable, passed, passed_edges, Passes};
 
 use crate::edge_list::EdgeList;
-use crate::links::Links;
-use crate::records::{join, reversed, set_corner};
+use crate::records::{join, set_corner};
 use crate::vertex_list::set_out_edge;
+use crate::{Links, reversed};
 
 // Lets edge `e`, with other side `t`, end at the far end of the edge `l` after it, whose other side
 // is `k`; `z` is the edge before `k`.

@@ -1,10 +1,8 @@
 //! One directed edge, how it is kept, and writes to single links of a list of them.
 ghost use Rattle.std.specs.Prelude.{◌≡◌, ◌<◌, length};
-ghost use Rattle.half_edge_links.specs.Mesh.{rev};
-ghost use Rattle.half_edge_links.specs.EdgeList.{shown, stored_next, stored_prev};
-ghost use Rattle.half_edge_links.specs.EdgeList.{stored_face, stored_corner, stored_joined};
-ghost use Rattle.half_edge_links.specs.Places.{AreJoined, AreSlidPlaces};
-ghost use Rattle.half_edge_links.specs.Grow.{slid_edges};
+ghost use Rattle.half_edge_links.specs.EdgeList.{shown, stored_corner, stored_face, stored_joined};
+ghost use Rattle.half_edge_links.specs.{EdgeList.stored_next, EdgeList.stored_prev, Meshes.rev};
+ghost use Rattle.half_edge_links.specs.{Grow.slid_edges, Places.AreJoined, Places.AreSlidPlaces};
 
 use crate::edge_list::EdgeList;
 

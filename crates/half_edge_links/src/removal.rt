@@ -1,20 +1,18 @@
 //! Writes to the lists of a mesh that take an edge, a face or a vertex out of it.
 ghost use Rattle.std.specs.Prelude.{◌≡◌, ℕ, ◌+◌, ◌-◌, ◌<◌, ◌≤◌};
 ghost use Rattle.std.specs.Prelude.{length, Option, Some, None, vec_capacity};
-ghost use Rattle.half_edge_links.specs.EdgeList.{shown};
+ghost use Rattle.half_edge_links.specs.{EdgeList.shown, Renames.pair_moved, Renames.renamed};
+ghost use Rattle.half_edge_links.specs.{declared.room.TheConstants.MAX_ELEMENTS, Grow.with_origin};
+ghost use Rattle.half_edge_links.specs.Move.{CanWalk, MovesNamed, MovesOrigins};
 ghost use Rattle.half_edge_links.specs.Places.{AreJoined, AreUnlinkedPlaces, IsHole};
-ghost use Rattle.half_edge_links.specs.Grow.{with_origin};
-ghost use Rattle.half_edge_links.specs.Remove.{IsLinkedWithin, with_loop_face, with_unlinked};
-ghost use Rattle.half_edge_links.specs.Remove.{with_filled};
-ghost use Rattle.half_edge_links.specs.Remove.{with_out_renamed, with_face_renamed, out_after};
-ghost use Rattle.half_edge_links.specs.Remove.{outer_beside, outer_after};
-ghost use Rattle.half_edge_links.specs.Move.{CanWalk, MovesOrigins, MovesNamed};
-ghost use Rattle.half_edge_links.specs.Renames.{renamed, pair_moved};
+ghost use Rattle.half_edge_links.specs.Remove.{IsLinkedWithin, out_after, outer_after};
+ghost use Rattle.half_edge_links.specs.Remove.{outer_beside, with_face_renamed, with_filled};
+ghost use Rattle.half_edge_links.specs.Remove.{with_loop_face, with_out_renamed, with_unlinked};
 ghost use Rattle.half_edge_links.specs.VertexList.{out_edges_of, values_of};
-ghost use Rattle.half_edge_links.specs.declared.room.TheConstants.{MAX_ELEMENTS};
 
 use crate::edge_list::EdgeList;
-use crate::records::{join, reversed, set_corner, set_face, set_next, set_prev};
+use crate::records::{join, set_corner, set_face, set_next, set_prev};
+use crate::reversed;
 use crate::vertex_list::Vertex;
 
 // The three directed edges round the triangle of `h` get this face.

@@ -1,9 +1,9 @@
 //! How much room a mesh has, and asking for more.
 ghost use Rattle.std.specs.Prelude.{◌≡◌, ◌+◌, ◌*◌, ◌-◌, ◌<◌, [], OnOk, IsTrue, ◌↔◌, Err, IsOk};
-ghost use Rattle.half_edge_links.specs.Mesh.{empty};
+ghost use Rattle.half_edge_links.specs.Meshes.{empty};
 ghost use Rattle.half_edge_links.specs.Room.{AreFewEnough, HasRoomFor, KeepsRoom};
 
-use crate::links::Links;
+use crate::Links;
 
 /// The largest number of vertices, of directed edges and of faces.
 pub const MAX_ELEMENTS: usize = 4294967295;

@@ -1,24 +1,20 @@
 //! Taking edges, faces and vertices out of a mesh.
 ghost use Rattle.std.specs.Prelude.{◌≡◌, ◌-◌, ◌<◌, length};
-ghost use Rattle.half_edge_links.specs.Hull.{KeepsOneOutline};
-ghost use Rattle.half_edge_links.specs.Mesh.{prev, rev, IsInner, IsAlone, AreSoundLinks};
-ghost use Rattle.half_edge_links.specs.Mesh.{IsValidMesh};
-ghost use Rattle.half_edge_links.specs.Taken.{MovesTriangles, MovesEnds, MovesOuter};
-ghost use Rattle.half_edge_links.specs.Room.{HasFaceRoom};
-ghost use Rattle.half_edge_links.specs.Remove.{opened, removed, IsRemovable};
-ghost use Rattle.half_edge_links.specs.Remove.{IsOpenTriangle, loop_closed, after_removal};
-ghost use Rattle.half_edge_links.specs.Peel.{IsPeelable};
-ghost use Rattle.half_edge_links.specs.Shrunk.{OpensFace, ClosesFace, RemovesEdge, PeelsEdge};
-ghost use Rattle.half_edge_links.specs.Move.{MovesVertex};
-ghost use Rattle.half_edge_links.specs.Rest.{KeepsRest, TakesFromRest};
+ghost use Rattle.half_edge_links.specs.{Hull.KeepsOneOutline, Rest.KeepsRest, Rest.TakesFromRest};
+ghost use Rattle.half_edge_links.specs.Meshes.{AreSoundLinks, IsAlone, IsInner, IsValidMesh, prev};
+ghost use Rattle.half_edge_links.specs.Meshes.{rev};
+ghost use Rattle.half_edge_links.specs.{Move.MovesVertex, Peel.IsPeelable, Room.HasFaceRoom};
+ghost use Rattle.half_edge_links.specs.Remove.{after_removal, IsOpenTriangle, IsRemovable};
+ghost use Rattle.half_edge_links.specs.Remove.{loop_closed, opened, removed};
+ghost use Rattle.half_edge_links.specs.Shrunk.{ClosesFace, OpensFace, PeelsEdge, RemovesEdge};
+ghost use Rattle.half_edge_links.specs.Taken.{MovesEnds, MovesOuter, MovesTriangles};
 
-use crate::links::Links;
-use crate::records::reversed;
 use crate::removal::{
     fill, move_named, out_after, outer_after, pair_moved, rename_face, rename_out, renamed,
     set_loop_face, unlink,
 };
 use crate::vertex_list::set_out_edge;
+use crate::{Links, reversed};
 
 impl<V> Links<V> {
     /// Gives the loop of inner face `f` to the outer face. The last face takes its index.

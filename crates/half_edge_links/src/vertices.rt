@@ -2,10 +2,9 @@
 ghost use Rattle.std.specs.Prelude.{◌≡◌, ◌-◌, ◌<◌, ◌∷◌, ◌++◌, []};
 ghost use Rattle.std.specs.Prelude.{length, Some, slice_get, slice_set};
 ghost use Rattle.half_edge_links.specs.Hull.{KeepsOneOutline};
-ghost use Rattle.half_edge_links.specs.Mesh.{with_vertex, IsValidMesh};
-ghost use Rattle.half_edge_links.specs.Room.{HasVertexRoom};
+ghost use Rattle.half_edge_links.specs.{Meshes.IsValidMesh, Meshes.with_vertex, Room.HasVertexRoom};
 
-use crate::links::Links;
+use crate::Links;
 use crate::vertex_list::{NO_EDGE, Vertex};
 use std::mem::replace;
 

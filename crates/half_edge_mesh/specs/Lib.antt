@@ -1,22 +1,22 @@
-pub use Rattle.half_edge_dcel.specs.half_edge_links as half_edge_links
+pub use Rattle.half_edge_links.specs as half_edge_links
 pub use Rattle.half_edge_dcel.specs as half_edge_dcel
-pub use Rattle.half_edge_dcel.specs.half_edge_links.Mesh
-pub use Rattle.half_edge_dcel.specs.half_edge_links.Room
-pub use Rattle.half_edge_dcel.specs.half_edge_links.Flip
-pub use Rattle.half_edge_dcel.specs.half_edge_links.Insert
-pub use Rattle.half_edge_dcel.specs.half_edge_links.Triangles
-pub use Rattle.half_edge_dcel.specs.half_edge_links.Grow
-pub use Rattle.half_edge_dcel.specs.half_edge_links.Outline
-pub use Rattle.half_edge_dcel.specs.half_edge_links.Renames
-pub use Rattle.half_edge_dcel.specs.half_edge_links.Remove
-pub use Rattle.half_edge_dcel.specs.half_edge_links.Peel
-pub use Rattle.half_edge_dcel.specs.half_edge_links.Move
-pub use Rattle.half_edge_dcel.specs.half_edge_links.Taken
-pub use Rattle.half_edge_dcel.specs.half_edge_links.Flow
-pub use Rattle.half_edge_dcel.specs.half_edge_links.Round
-pub use Rattle.half_edge_dcel.specs.half_edge_links.Hull
-pub use Rattle.half_edge_dcel.specs.half_edge_links.Pass
-pub use Rattle.half_edge_dcel.specs.Contents
+pub use Rattle.half_edge_links.specs.Meshes as Mesh
+pub use Rattle.half_edge_links.specs.Room
+pub use Rattle.half_edge_links.specs.Flip
+pub use Rattle.half_edge_links.specs.Insert
+pub use Rattle.half_edge_links.specs.Triangles
+pub use Rattle.half_edge_links.specs.Grow
+pub use Rattle.half_edge_links.specs.Outline
+pub use Rattle.half_edge_links.specs.Renames
+pub use Rattle.half_edge_links.specs.Remove
+pub use Rattle.half_edge_links.specs.Peel
+pub use Rattle.half_edge_links.specs.Move
+pub use Rattle.half_edge_links.specs.Taken
+pub use Rattle.half_edge_links.specs.Flow
+pub use Rattle.half_edge_links.specs.Round
+pub use Rattle.half_edge_links.specs.Hull
+pub use Rattle.half_edge_links.specs.Pass
+pub use Rattle.half_edge_dcel.specs.MeshContents as Contents
 pub use Rattle.half_edge_dcel.specs.Empty
 pub use Rattle.half_edge_dcel.specs.GrownData
 pub use Rattle.half_edge_dcel.specs.Growth

@@ -2,9 +2,8 @@
 use Rattle.std.specs.Prelude.{◌≡◌, ◌<◌, ◌==◌, ◌∷◌, [], if◌then◌else◌}
 use Rattle.std.specs.Prelude.{ℕ, List, Option, Some, None, IfSome, All, map}
 use Rattle.std.specs.Borrow.{Bor}
-use Rattle.half_edge_dcel.specs.half_edge_links.Mesh.{next, prev, rev, face, face_edge}
-use Rattle.half_edge_dcel.specs.Contents.{Contents}
-use Rattle.half_edge_dcel.specs.declared.face.FaceHandle.{FaceHandle}
+use Rattle.half_edge_links.specs.{face, face_edge, next, prev, rev}
+use Rattle.half_edge_dcel.specs.{Contents, declared.face.FaceHandle.FaceHandle}
 use Rattle.half_edge_mesh.specs.declared.voronoi.DirectedVoronoiEdge.{DirectedVoronoiEdge}
 use Rattle.half_edge_mesh.specs.declared.voronoi.VoronoiVertex.{VoronoiVertex}
 use Rattle.half_edge_mesh.specs.declared.voronoi.VoronoiVertex.TheVariants.{Inner, Outer}

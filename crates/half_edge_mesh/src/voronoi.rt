@@ -2,9 +2,9 @@
 //! edge, a vertex for each inner face.
 ghost use Rattle.std.specs.Prelude.{◌≡◌, ◌*◌, ◌/◌, ◌<◌, ◌∷◌, [], ◌↔◌};
 ghost use Rattle.std.specs.Prelude.{All, map, IsNone, IsSome, IfSome};
-ghost use Rattle.half_edge_dcel.specs.half_edge_links.Mesh.{next, prev, rev, origin, face_edge};
+ghost use Rattle.half_edge_links.specs.{face_edge, next, origin, prev, rev};
 
-use crate::voronoi_iterators::VoronoiCircularIterator;
+use crate::VoronoiCircularIterator;
 use half_edge_dcel::{DirectedEdgeHandle, FaceHandle, UndirectedEdgeHandle, VertexHandle};
 
 /// The face of the Voronoi diagram that belongs to a vertex. Two of them are equal where their
@@ -85,7 +85,7 @@ impl<'a, V, DE, UE, F> AsVoronoiFace for VertexHandle<'a, V, DE, UE, F> {
 }
 
 impl<'a, V, DE, UE, F> VoronoiFace<'a, V, DE, UE, F> {
-    ghost use Rattle.half_edge_dcel.specs.Rounds.{GivesRound, out_edges_left};
+    ghost use Rattle.half_edge_dcel.specs.{GivesRound, out_edges_left};
 
     /// The vertex that the face belongs to.
     pub fn as_delaunay_vertex(&self) -> VertexHandle<'a, V, DE, UE, F>
@@ -255,7 +255,7 @@ impl<'a, V, DE, UE, F> UndirectedVoronoiEdge<'a, V, DE, UE, F> {
 }
 
 impl<'a, V, DE, UE, F> VoronoiVertex<'a, V, DE, UE, F> {
-    ghost use Rattle.half_edge_mesh.specs.Voronoi.{inner_face, GoesOut, GoOut};
+    ghost use Rattle.half_edge_mesh.specs.Voronoi.{GoesOut, GoOut, inner_face};
 
     /// The inner face that the vertex belongs to, if it is no far end.
     pub fn as_delaunay_face(&self) -> Option<FaceHandle<'a, V, DE, UE, F>>

@@ -2,10 +2,10 @@
 ghost use Rattle.std.specs.Prelude.{◌≡◌, length};
 ghost use Rattle.std.specs.List.{range_with_len};
 ghost use Rattle.std.specs.Iterator.{YieldsFirstBy, YieldsLastBy, item_count};
-ghost use Rattle.half_edge_dcel.specs.Left.{each_in, vertices_left, directed_edges_left};
-ghost use Rattle.half_edge_dcel.specs.Left.{undirected_edges_left};
+ghost use Rattle.{half_edge_dcel.specs.each_in, half_edge_dcel.specs.Left.vertices_left};
+ghost use Rattle.half_edge_dcel.specs.Left.{directed_edges_left, undirected_edges_left};
 
-use crate::voronoi::{
+use crate::{
     AsVoronoiEdge, AsVoronoiFace, DirectedVoronoiEdge, UndirectedVoronoiEdge, VoronoiFace,
 };
 use half_edge_dcel::{
@@ -153,7 +153,7 @@ pub struct VoronoiCircularIterator<'a, V, DE, UE, F> {
 }
 
 impl<'a, V, DE, UE, F> Iterator for VoronoiCircularIterator<'a, V, DE, UE, F> {
-    ghost use Rattle.half_edge_dcel.specs.Rounds.{out_edges_left};
+    ghost use Rattle.half_edge_dcel.specs.{out_edges_left};
 
     type Item = DirectedVoronoiEdge<'a, V, DE, UE, F>;
 
@@ -169,7 +169,7 @@ impl<'a, V, DE, UE, F> Iterator for VoronoiCircularIterator<'a, V, DE, UE, F> {
 }
 
 impl<'a, V, DE, UE, F> DoubleEndedIterator for VoronoiCircularIterator<'a, V, DE, UE, F> {
-    ghost use Rattle.half_edge_dcel.specs.Rounds.{out_edges_left};
+    ghost use Rattle.half_edge_dcel.specs.{out_edges_left};
 
     ghost next_back_gives = { YieldsLastBy (λ x. (x.edge.dcel, x.edge.index))
         (λ it. out_edges_left it.edges) };

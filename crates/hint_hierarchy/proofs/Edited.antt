@@ -6,16 +6,11 @@ use Rattle.std.specs.Prelude.{Contains, Result, Ok, Err, IfOk, OnErr}
 use Rattle.std.proofs.lemmas.List.{map-append}
 use Rattle.std.proofs.lemmas.List.Elements.{All-contains, All-contains_itself, All-push}
 use Rattle.std.proofs.Math.Seq.{map-set_same}
-use Rattle.delaunay_interface.specs.plane.Fraction.{Point}
-use Rattle.delaunay_interface.specs.plane.Hint.{IsAtMost, IsAtMostWith}
-use Rattle.delaunay_interface.specs.plane.Plain.{Plain, Inserts}
-use Rattle.delaunay_interface.specs.delaunay_core.declared.math.InsertionError.{InsertionError}
-use Rattle.delaunay_interface.specs.delaunay_legalization.Constraints.{points_and_constraints_by}
-use Rattle.delaunay_interface.specs.delaunay_legalization.State.{State}
-use Rattle.delaunay_interface.specs.delaunay_edit.Storage.{IsCopy}
-use Rattle.delaunay_interface.specs.delaunay_edit.Edits.{InsertsVertex, RemovesVertex}
-use Rattle.delaunay_interface.proofs.EditLemmas.{same_image, sites_left}
-use Rattle.hint_hierarchy.proofs.Held.{all_from_each}
+use Rattle.plane.specs.{Inserts, IsAtMost, IsAtMostWith, Plain, Point}
+use Rattle.{delaunay_core.specs.InsertionError, hint_hierarchy.proofs.Held.all_from_each}
+use Rattle.delaunay_legalization.specs.{points_and_constraints_by, State.State}
+use Rattle.delaunay_edit.specs.{InsertsVertex, IsCopy, RemovesVertex}
+use Rattle.delaunay_edit.proofs.{Copies.same_image, Removing.sites_left}
 
 module _ {V : Type 0} (place : V → Point) (old new : Plain V) where
   -- after an insertion each position is an old one or the new one

@@ -5,10 +5,8 @@ use Rattle.std.specs.Prelude.{All, Bool, true, Contains, slice_get}
 use Rattle.std.proofs.lemmas.List.{get_or-map, length-map}
 use Rattle.std.proofs.lemmas.List.Elements.{All-contains}
 use Rattle.std.proofs.lemmas.Option.{get_or_from_slice_get, slice_get_within}
-use Rattle.delaunay_interface.specs.plane.Fraction.{Point}
-use Rattle.delaunay_interface.specs.plane.Hint.{IsAtMost}
-use Rattle.hint_hierarchy.specs.Bloom.{may_have}
-use Rattle.hint_hierarchy.proofs.Held.{AllBefore, all_before_next, all_from_each}
+use Rattle.{hint_hierarchy.specs.Bloom.may_have, plane.specs.IsAtMost, plane.specs.Point}
+use Rattle.hint_hierarchy.proofs.Held.{all_before_next, all_from_each, AllBefore}
 
 -- the bit of a position is set
 abbrev pub HasBit : List Bool → Point → Type 0

@@ -3,44 +3,14 @@
 -- all_before_next, site_of, or_with, all_from_held, held_from_all, held_at, held_or, sites_at,
 -- sites_since, sites_there, changed_again, changed_then, vacant_if_all, vacant_one_more,
 -- held_in_first, pushed_within, pushed_first.
-use Rattle.std.proofs.Common.{
-  ◌≡◌,
-  ◌∙◌,
-  ◌⊎◌,
-  ℕ,
-  ◌+◌,
-  ◌<◌,
-  ◌≤◌,
-  List,
-  [],
-  ◌∷◌,
-  ◌++◌,
-  length,
-  get_or,
-  sym,
-  ap,
-  subst,
-  inl,
-  inr,
-  arith,
-}
+use Rattle.std.proofs.Common.{◌≡◌, ◌∙◌, ◌⊎◌, ℕ, ◌+◌, ◌<◌, ◌≤◌, List, [], ◌∷◌, ◌++◌, length, get_or, sym, ap, subst, inl, inr, arith}
 use Rattle.std.proofs.lemmas.Bool.{cases_eq}
 use Rattle.std.proofs.lemmas.List.{get_or_default, length-set}
 use mathlib.Core.Logic.{⊎_elim}
 use Rattle.std.specs.Prelude.{if◌then◌else◌}
 use Rattle.std.specs.Prelude.{All, Bool, true, false, Contains, Option, Some, slice_set, take}
-use Rattle.std.proofs.lemmas.List.Elements.{
-  All-contains,
-  All-contains_itself,
-  All-nil,
-  All-push,
-  All-set,
-  All-take,
-  All-weaker,
-  Contains-get_or,
-}
-use Rattle.delaunay_interface.specs.plane.Fraction.{Point}
-use Rattle.delaunay_interface.specs.plane.Hint.{IsAtMost, IsAtMostWith}
+use Rattle.std.proofs.lemmas.List.Elements.{All-contains, All-contains_itself, All-nil, All-push, All-set, All-take, All-weaker, Contains-get_or}
+use Rattle.plane.specs.{IsAtMost, IsAtMostWith, Point}
 use Rattle.hint_hierarchy.specs.Layers.{IsAtMostOr, IsInSome}
 
 -- a fact of each position that is contained, as one of each position of the list

@@ -1,4 +1,4 @@
-pub use Rattle.delaunay_interface.proofs.delaunay_legalization_lemmas as delaunay_legalization_lemmas
+pub use Rattle.delaunay_legalization.proofs as delaunay_legalization_lemmas
 pub mod Edited
 pub mod Filtered
 pub mod Held

@@ -6,11 +6,9 @@ use Rattle.std.specs.Prelude.{All, Contains, Option, Some, None, Bool, true, fal
 use Rattle.std.specs.Prelude.{IsTrue, MatchOption, is_some, pos}
 use Rattle.std.proofs.lemmas.List.{length-map, get_or-map, get_or_default}
 use Rattle.std.proofs.lemmas.List.Elements.{All-contains}
-use Rattle.delaunay_interface.specs.plane.Fraction.{Point}
-use Rattle.delaunay_interface.specs.delaunay_core.declared.point.Point2.{Point2}
-use Rattle.delaunay_interface.specs.delaunay_core.Place.{place_of}
-use Rattle.delaunay_interface.specs.delaunay_legalization.Known.{IsKnown}
-use Rattle.delaunay_interface.specs.plane.Hint.{IsAtMost, IsAtMostOf, IsAtMostWith}
+use Rattle.plane.specs.{IsAtMost, IsAtMostOf, IsAtMostWith, Point}
+use Rattle.delaunay_core.specs.{place_of, Point2}
+use Rattle.delaunay_legalization.specs.{IsKnown}
 
 -- the position of an element is one of those of the list
 pub element_is_listed : {V : Type 0} (place : V → Point) (vs : List V) (i : ℕ) (v : V)

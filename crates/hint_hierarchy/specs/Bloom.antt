@@ -2,9 +2,7 @@
 use Rattle.std.specs.Prelude.{◌≡◌, ℕ, ◌+◌, ◌*◌, ◌/◌, ◌%◌, ◌^◌, ℤ, List, Bool, true, All, length}
 use Rattle.std.specs.Prelude.{map, slice_index_or}
 use Rattle.std.specs.Int.{cast_unsigned, w64}
-use Rattle.delaunay_interface.specs.plane.Fraction.{Point}
-use Rattle.delaunay_interface.specs.delaunay_core.declared.point.Point2.{Point2}
-use Rattle.delaunay_interface.specs.delaunay_core.Place.{place_of}
+use Rattle.{delaunay_core.specs.place_of, delaunay_core.specs.Point2, plane.specs.Point}
 
 -- the hash of a position: the high half of the sum of its coordinates times two odd numbers, of 64
 -- bits

@@ -1,8 +1,6 @@
 -- What the layers of a hierarchy hold.
 use Rattle.std.specs.Prelude.{◌≡◌, ◌⊎◌, ℤ, List, map, Contains, Option, Some}
-use Rattle.delaunay_interface.specs.plane.Fraction.{Point}
-use Rattle.delaunay_interface.specs.delaunay_core.declared.point.Point2.{Point2}
-use Rattle.delaunay_interface.specs.delaunay_core.Place.{place_of}
+use Rattle.{delaunay_core.specs.place_of, delaunay_core.specs.Point2, plane.specs.Point}
 
 -- the positions of a layer's vertices
 abbrev pub positions : {S : Type 0} → (S → ℤ) → List (Point2 S) → List Point

@@ -1,11 +1,10 @@
 //! A Bloom filter of positions with one hash function: a list of bits, to one of which each
 //! position is mapped. A position whose bit is not set was never added, which takes no search.
 ghost use Rattle.std.specs.Prelude.{◌≡◌, ◌<◌, [], true};
-ghost use Rattle.delaunay_interface.specs.plane.Fraction.{Point};
-ghost use Rattle.delaunay_interface.specs.delaunay_core.Place.{place_of};
+ghost use Rattle.{delaunay_core.specs.place_of, plane.specs.Point};
 ghost use Rattle.hint_hierarchy.specs.Bloom.{bit_of, may_have};
 
-use delaunay_interface::delaunay_core::point::{Point2, SpadeNum};
+use delaunay_core::point::{Point2, SpadeNum};
 use delaunay_shapes::Marks;
 use std::alloc::{AllocError, Global};
 use std::marker::Model;

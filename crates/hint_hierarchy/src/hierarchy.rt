@@ -1,17 +1,15 @@
 //! The hierarchy: which vertices its layers have, and where a search begins.
 ghost use Rattle.std.specs.Prelude.{◌≡◌, ◌⊎◌, [], IfOk, IsTrue, Some};
-ghost use Rattle.delaunay_interface.specs.plane.Fraction.{Point};
-ghost use Rattle.delaunay_interface.specs.plane.Hint.{IsAtMost, IsAtMostWith, IsAtMostWithout};
-ghost use Rattle.delaunay_interface.specs.delaunay_core.Held.{place_if};
-ghost use Rattle.delaunay_interface.specs.delaunay_core.Place.{place_of};
+ghost use Rattle.plane.specs.{IsAtMost, IsAtMostWith, IsAtMostWithout, Point};
+ghost use Rattle.delaunay_core.specs.{place_if, place_of};
 ghost use Rattle.hint_hierarchy.specs.Layers.{IsHeld};
 
 use crate::layer::Layer;
 use crate::positions::{index_above, index_below};
-use delaunay_interface::delaunay_core::HintGenerator;
-use delaunay_interface::delaunay_core::math::PlaneTests;
-use delaunay_interface::delaunay_core::point::{Point2, SpadeNum};
-use delaunay_interface::half_edge_mesh::FixedVertexHandle;
+use delaunay_core::HintGenerator;
+use delaunay_core::math::PlaneTests;
+use delaunay_core::point::{Point2, SpadeNum};
+use half_edge_links::FixedVertexHandle;
 use std::alloc::{AllocError, Global};
 
 /// Gives a vertex near a position by a search through layers. The first layer has the vertices

@@ -1,17 +1,16 @@
 //! One layer of a hierarchy: a plain triangulation of positions, with the stars of its vertices.
 ghost use Rattle.std.specs.Prelude.{◌≡◌, ◌⊎◌, [], All, IfOk, IsTrue, false, true};
-ghost use Rattle.delaunay_interface.specs.plane.Hint.{IsAtMost, IsAtMostWith};
-ghost use Rattle.delaunay_interface.specs.delaunay_core.Place.{place_of};
+ghost use Rattle.{delaunay_core.specs.place_of, plane.specs.IsAtMost, plane.specs.IsAtMostWith};
 ghost use Rattle.hint_hierarchy.specs.Bloom.{HaveBits, may_have};
 ghost use Rattle.hint_hierarchy.specs.Layers.{IsPositionOf, positions};
 
 use crate::bloom::BloomFilter;
 use crate::stars::Stars;
-use delaunay_interface::delaunay_core::HintGenerator;
-use delaunay_interface::delaunay_core::math::PlaneTests;
-use delaunay_interface::delaunay_core::point::{Point2, SpadeNum};
-use delaunay_interface::half_edge_mesh::FixedVertexHandle;
+use delaunay_core::HintGenerator;
+use delaunay_core::math::PlaneTests;
+use delaunay_core::point::{Point2, SpadeNum};
 use delaunay_interface::{DelaunayTriangulation, Triangulation};
+use half_edge_links::FixedVertexHandle;
 use std::alloc::{AllocError, Global};
 use std::marker::Model;
 
@@ -30,8 +29,7 @@ pub(crate) struct Layer<S: SpadeNum> {
 
 impl<S: SpadeNum> Model for Layer<S> {
     ghost use Rattle.std.specs.Prelude.{List};
-    ghost use Rattle.delaunay_interface.specs.delaunay_core.declared.point.Point2.{Point2};
-    ghost use Rattle.hint_hierarchy.specs.Bloom.{HaveBits};
+    ghost use Rattle.{delaunay_core.specs.Point2, hint_hierarchy.specs.Bloom.HaveBits};
 
     ghost Value = { List (Point2 S) };
 

@@ -1,15 +1,13 @@
 //! Removals from a hierarchy.
 ghost use Rattle.std.specs.Prelude.{◌≡◌, All, Some};
-ghost use Rattle.delaunay_interface.specs.plane.Fraction.{Point};
-ghost use Rattle.delaunay_interface.specs.plane.Hint.{IsAtMost};
-ghost use Rattle.delaunay_interface.specs.delaunay_core.Held.{place_if};
-ghost use Rattle.hint_hierarchy.specs.Layers.{IsPositionOf, IsAtMostOr, IsHeld, positions};
+ghost use Rattle.{delaunay_core.specs.place_if, plane.specs.IsAtMost, plane.specs.Point};
+ghost use Rattle.hint_hierarchy.specs.Layers.{IsAtMostOr, IsHeld, IsPositionOf, positions};
 
-use crate::hierarchy::HierarchyHintGeneratorWithBranchFactor;
+use crate::HierarchyHintGeneratorWithBranchFactor;
 use crate::layer::Layer;
 use crate::positions::index_above;
-use delaunay_interface::delaunay_core::math::PlaneTests;
-use delaunay_interface::delaunay_core::point::{Point2, SpadeNum};
+use delaunay_core::math::PlaneTests;
+use delaunay_core::point::{Point2, SpadeNum};
 
 // Takes the vertex `removed` out of a layer, if it is in it, and puts the last vertex of the
 // triangulation in its place. `last` is the index that the last vertex has had in the layer, if it

@@ -1,11 +1,11 @@
 //! A vertex of a layer with its neighbours, in one place.
 ghost use Rattle.std.specs.Prelude.{◌≡◌};
-ghost use Rattle.delaunay_interface.specs.plane.Tests.{IsCoordinate, InRange};
-ghost use Rattle.delaunay_interface.specs.delaunay_core.Place.{place_of};
+ghost use Rattle.{delaunay_core.specs.place_of, plane.specs.InRange, plane.specs.IsCoordinate};
 
-use delaunay_interface::delaunay_core::math::MAX_ALLOWED_VALUE;
-use delaunay_interface::delaunay_core::point::{Point2, SpadeNum};
-use delaunay_interface::half_edge_mesh::{FixedVertexHandle, VertexHandle};
+use delaunay_core::math::MAX_ALLOWED_VALUE;
+use delaunay_core::point::{Point2, SpadeNum};
+use half_edge_dcel::VertexHandle;
+use half_edge_links::FixedVertexHandle;
 
 /// How many neighbours are kept with a vertex. About one vertex in a hundred has more.
 const KEPT: usize = 9;

@@ -1,12 +1,11 @@
 //! The stars of a layer's vertices, each in one place, so that a search waits for memory about once
 //! a vertex that it passes, and not once for each edge and each neighbour.
-ghost use Rattle.delaunay_interface.specs.plane.Tests.{InRange};
-ghost use Rattle.delaunay_interface.specs.delaunay_core.Place.{place_of};
+ghost use Rattle.{delaunay_core.specs.place_of, plane.specs.InRange};
 
 use crate::star::Star;
-use delaunay_interface::delaunay_core::point::{Point2, SpadeNum};
-use delaunay_interface::half_edge_mesh::FixedVertexHandle;
+use delaunay_core::point::{Point2, SpadeNum};
 use delaunay_interface::{DelaunayTriangulation, Triangulation};
+use half_edge_links::FixedVertexHandle;
 use std::alloc::Global;
 
 /// The star of each vertex, by index.

@@ -1,5 +1,5 @@
 //! Areas and scalar products of points, in whole numbers.
-use delaunay_interface::delaunay_core::point::Point2;
+use delaunay_core::point::Point2;
 
 /// How far it is from one coordinate to another.
 fn way_to(from: i32, to: i32) -> i64 {

@@ -1,12 +1,12 @@
 //! The triangulation of a drawing, and what is told of it.
 use crate::crossings::first_crossed;
 use anyhow::{anyhow, bail};
+use delaunay_core::point::Point2;
 use delaunay_interface::Triangulation;
-use delaunay_interface::delaunay_core::point::Point2;
-use delaunay_interface::delaunay_legalization::ConstraintMarker;
-use delaunay_interface::half_edge_mesh::UndirectedEdgeHandle;
+use delaunay_legalization::ConstraintMarker;
 use drawing_faces::{DrawingError, DrawnMesh, DrawnSegment, Kept, triangulate_drawing};
-use mesh_files::{Drawing, FilePlace, MeshText, hole_sides};
+use half_edge_dcel::UndirectedEdgeHandle;
+use mesh_files::{Drawing, FileLine, MeshText, hole_sides};
 use mesh_io::{Scene, Task, input_name, write_mesh};
 use std::alloc::{AllocError, Global};
 use std::fmt;
@@ -25,10 +25,10 @@ pub struct DrawnLists<'a> {
 }
 
 /// Where a segment stands in its file.
-fn segment_line(scene: &Scene, place: usize) -> FilePlace {
+fn segment_line(scene: &Scene, place: usize) -> FileLine {
     match scene.drawing.segments.get(place) {
         Some(segment) => segment.file_place(),
-        None => FilePlace::of_line(0),
+        None => FileLine::of_line(0),
     }
 }
 
@@ -44,8 +44,8 @@ fn segment_file<'a>(task: &Task<'a>, scene: &Scene, place: usize) -> &'a str {
 #[derive(Clone, Copy)]
 struct Crossing<'a> {
     file: &'a str,
-    place: FilePlace,
-    other: Option<(&'a str, FilePlace)>,
+    place: FileLine,
+    other: Option<(&'a str, FileLine)>,
 }
 
 impl fmt::Display for Crossing<'_> {
@@ -164,18 +164,18 @@ fn end_places<V, DE, UE, F>(
 }
 
 /// The edges that are constraints, by the places of their ends.
-fn walls_of<T: Triangulation<Vertex = Point2<i32>>>(
+fn constraint_ends<T: Triangulation<Vertex = Point2<i32>>>(
     site: &T,
     drawn: &DrawnLists<'_>,
     alloc: Global,
 ) -> Result<Vec<[u32; 2]>, AllocError> {
-    let mut walls = Vec::with_capacity(alloc, drawn.constraints)?;
+    let mut constraints = Vec::with_capacity(alloc, drawn.constraints)?;
     for edge in site.undirected_edges() {
         if T::Constraints::is_constraint_edge(edge.data()) {
-            walls.push(end_places(drawn.places, edge))?;
+            constraints.push(end_places(drawn.places, edge))?;
         }
     }
-    Ok(walls)
+    Ok(constraints)
 }
 
 /// Why a drawing was not triangulated, with the line of a point in a hole.
@@ -200,10 +200,12 @@ fn tell_counts(rt: &impl Eprint, points: usize, drawn: &DrawnLists<'_>) {
     let vertices = drawn.places.len();
     if vertices < points {
         let repeated = points.saturating_sub(vertices);
-        let _ = eprintln!(rt; "mesh: {repeated} points repeat others, and are in no face");
+        let _ = eprintln!(rt;
+            "mesh: points that repeat an earlier one, and so are in no face: {repeated}"
+        );
     }
-    let (faces, walls) = (drawn.faces.len(), drawn.constraints);
-    let _ = eprintln!(rt; "mesh: {vertices} vertices, {faces} faces, {walls} constraints");
+    let (faces, constraints) = (drawn.faces.len(), drawn.constraints);
+    let _ = eprintln!(rt; "mesh: {vertices} vertices, {faces} faces, {constraints} constraints");
 }
 
 /// The triangulation of a drawing, with the faces that are kept.
@@ -255,12 +257,12 @@ pub fn write_triangulated<T: Triangulation<Vertex = Point2<i32>>>(
     site: &T,
     drawn: &DrawnLists<'_>,
 ) -> anyhow::Result<()> {
-    let walls = walls_of(site, drawn, rt.alloc())?;
+    let constraints = constraint_ends(site, drawn, rt.alloc())?;
     let text = MeshText {
         drawing: &scene.drawing,
         scaled: &scene.scaled,
         faces: drawn.faces,
-        walls: walls.as_slice(),
+        constraints: constraints.as_slice(),
         width: task.width,
     };
     write_mesh(rt, task, &text)

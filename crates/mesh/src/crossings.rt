@@ -1,8 +1,9 @@
 //! Which segment of a drawing is in the way of another.
 use crate::areas::turned_area;
-use delaunay_interface::delaunay_core::math::validate_vertex;
-use delaunay_interface::delaunay_core::point::Point2;
-use delaunay_interface::{PositionInTriangulation, Triangulation};
+use delaunay_core::math::validate_vertex;
+use delaunay_core::point::Point2;
+use delaunay_interface::Triangulation;
+use delaunay_location::PositionInTriangulation;
 use exact_predicates::ExactTests;
 use mesh_io::Scene;
 

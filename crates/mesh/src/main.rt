@@ -16,8 +16,8 @@ use crate::nearest::tell_nearest;
 use crate::places::tell_places;
 use crate::way::tell_way;
 use anyhow::bail;
+use delaunay_core::point::Point2;
 use delaunay_interface::Triangulation;
-use delaunay_interface::delaunay_core::point::Point2;
 use mesh_io::{Question, Scene, Task, command, read_scene, task_of, tell_step};
 use std::process::ExitCode;
 
@@ -73,7 +73,7 @@ fn build_and_write(rt: &HostRuntime, task: &Task<'_>, scene: &Scene) -> anyhow::
 fn carry_out(rt: &HostRuntime, task: &Task<'_>) -> anyhow::Result<()> {
     if task.form.is_none() {
         let name = task.output.unwrap_or("");
-        bail!("{name}: it ends in no form that is written; --to names one");
+        bail!("{name}: no form that is written has this ending: name a form with --to");
     }
     let scene = read_scene(rt, task)?;
     if let Some(Question::Nearest(_)) = task.question {

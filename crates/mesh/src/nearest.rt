@@ -2,13 +2,13 @@
 use crate::building::point_place;
 use crate::wide::{push_wide, thousandths_of_root};
 use anyhow::Context;
-use delaunay_interface::delaunay_core::HintGenerator;
-use delaunay_interface::delaunay_core::math::validate_vertex;
-use delaunay_interface::delaunay_core::point::Point2;
-use delaunay_interface::half_edge_mesh::VertexHandle;
+use delaunay_core::HintGenerator;
+use delaunay_core::math::validate_vertex;
+use delaunay_core::point::Point2;
 use delaunay_interface::{DelaunayTriangulation, Triangulation};
 use drawing_faces::place_points;
 use exact_predicates::ExactTests;
+use half_edge_dcel::VertexHandle;
 use mesh_files::{Asked, Drawing, Number, Spot};
 use mesh_io::Scene;
 use std::alloc::{AllocError, Global};

@@ -1,11 +1,13 @@
 //! What the way from one point to another meets.
 use crate::building::point_place;
 use anyhow::{Context, bail};
-use delaunay_interface::delaunay_core::math::validate_vertex;
-use delaunay_interface::delaunay_core::point::Point2;
-use delaunay_interface::half_edge_mesh::{DirectedEdgeHandle, FixedVertexHandle};
-use delaunay_interface::{Intersection, LineIntersectionIterator, Triangulation};
+use delaunay_core::math::validate_vertex;
+use delaunay_core::point::Point2;
+use delaunay_interface::Triangulation;
+use delaunay_location::{Intersection, LineIntersectionIterator};
 use exact_predicates::ExactTests;
+use half_edge_dcel::DirectedEdgeHandle;
+use half_edge_links::FixedVertexHandle;
 use mesh_files::Asked;
 use mesh_io::Scene;
 use std::alloc::{AllocError, Global};
@@ -83,7 +85,9 @@ pub fn tell_way<T: Triangulation<Vertex = Point2<i32>>>(
     places: &[u32],
 ) -> anyhow::Result<()> {
     let [Asked::Near(from), Asked::Near(to)] = scene.asked_points.as_slice() else {
-        bail!("--line: an end is outside the range of coordinates, 2^29 units from the middle");
+        bail!(
+            "--line: an end is more than 2^29 units from the middle of the input: move it nearer"
+        );
     };
     let mut writer = BufWriter::new(rt.alloc(), io::writer(rt))?;
     write_way(&mut writer, site, places, *from, *to, rt.alloc()).context("standard output")

@@ -2,9 +2,8 @@
 -- Lemmas: exact_kept.
 use Rattle.std.proofs.Common.{◌≡◌, ℕ, List, inl, subst, sym}
 use Rattle.std.specs.Prelude.{IfOk, Result, Ok, Err}
-use Rattle.decimal_numbers.specs.declared.decimal.Decimal.{Decimal}
-use Rattle.mesh_files.specs.declared.drawing.Number.{Number}
-use Rattle.mesh_files.specs.Written.{IsAsWritten, IsExact}
+use Rattle.decimal_numbers.specs.{Decimal}
+use Rattle.mesh_files.specs.{IsAsWritten, Number, Written.IsExact}
 
 -- a number that was kept is the one that is written
 pub exact_kept : {E : Type 0} (r : Result Number E) (word : List ℕ) (d : Decimal) → IsExact word d

@@ -5,12 +5,9 @@ use Rattle.std.specs.Char.{is_ascii_whitespace}
 use Rattle.std.specs.List.{AllPass, AllZip}
 use Rattle.std.specs.Str.{IsTrimAscii}
 use Rattle.std.proofs.lemmas.List.{get_or-take, get_or-drop, get_or_default, length-take, length-drop, take-append-drop, append-nil}
-use Rattle.decimal_numbers.specs.declared.decimal.Decimal.{Decimal}
-use Rattle.mesh_files.specs.declared.drawing.Drawing.{Drawing}
-use Rattle.mesh_files.specs.declared.drawing.Number.{Number}
-use Rattle.mesh_files.specs.declared.drawing.Spot.{Spot}
-use Rattle.mesh_files.specs.Drawn.{Writes, IsNumberAt, IsSpotAt, Draws, AddsHeight, AddsSpot}
-use Rattle.mesh_files.specs.Written.{IsAsWritten}
+use Rattle.decimal_numbers.specs.{Decimal}
+use Rattle.mesh_files.specs.{AddsSpot, Drawing, Draws, IsAsWritten, IsNumberAt, Number, Spot}
+use Rattle.mesh_files.specs.Drawn.{AddsHeight, IsSpotAt, Writes}
 
 pub zip_more : {X Y : Type 0} (P : X → Y → Type 0) (xs : List X) (ys : List Y) (x : X) (y : Y)
     → AllZip P xs ys → P x y → AllZip P (xs ++ x ∷ []) (ys ++ y ∷ [])

@@ -4,12 +4,9 @@ use Rattle.std.specs.Prelude.{All, IfSome, None}
 use Rattle.std.proofs.lemmas.List.Elements.{All-append}
 use Rattle.std.specs.List.{AllByRecursion}
 use Rattle.json.specs.Token.{Token}
-use Rattle.mesh_files.specs.declared.drawing.Drawing.{Drawing}
-use Rattle.mesh_files.specs.declared.shapes.GeoPosition.{GeoPosition}
-use Rattle.mesh_files.specs.declared.shapes.Shape.{Shape}
-use Rattle.mesh_files.specs.declared.shapes.WholeLine.{WholeLine}
-use Rattle.mesh_files.specs.Drawn.{AddsSpot, SameNumbers}
-use Rattle.mesh_files.specs.Runs.{AddsRun, DrawsRuns, HasPositions, IsPosition, IsRun}
+use Rattle.mesh_files.specs.{AddsSpot, Drawing, DrawsRuns, GeoPosition, HasPositions, IsPosition}
+use Rattle.mesh_files.specs.{Runs.AddsRun, Runs.IsRun, SameNumbers}
+use Rattle.mesh_files.specs.{declared.shapes.Shape.Shape, declared.shapes.WholeLine.WholeLine}
 use Rattle.mesh_files.proofs.PointRows.{draws_more, draws_same}
 
 all_more : {X : Type 0} (P : X → Type 0) (xs : List X) (x : X) → AllByRecursion P xs → P x

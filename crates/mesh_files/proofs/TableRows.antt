@@ -8,12 +8,9 @@ use Rattle.csv.specs.declared.parser.State.TheVariants as st
 use Rattle.csv.specs.declared.reader.Reader.{Reader}
 use Rattle.csv.specs.declared.reader.Trim.TheVariants as trim
 use Rattle.csv.proofs.ReadFacts.{rows-end, rows-more}
-use Rattle.mesh_files.specs.declared.columns.Columns.{Columns}
-use Rattle.mesh_files.specs.declared.drawing.Drawing.{Drawing}
-use Rattle.mesh_files.specs.declared.drawing.Number.{Number}
-use Rattle.mesh_files.specs.declared.drawing.Spot.{Spot}
-use Rattle.mesh_files.specs.Drawn.{Draws, IsNumberAt, SameNumbers, AddsSpot}
-use Rattle.mesh_files.specs.Tables.{AreAll, DrawsRow, DrawsTable, Fields, HasRead, IsTable, height_column}
+use Rattle.mesh_files.specs.{AddsSpot, Drawing, Draws, IsNumberAt, Number, SameNumbers, Spot}
+use Rattle.mesh_files.specs.Tables.{AreAll, DrawsRow, DrawsTable, Fields, HasRead, height_column}
+use Rattle.mesh_files.specs.{declared.columns.Columns.Columns, Tables.IsTable}
 use Rattle.mesh_files.proofs.PointRows.{draws_more, draws_same}
 
 -- a reader that begins

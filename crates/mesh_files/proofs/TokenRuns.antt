@@ -4,19 +4,14 @@ use Rattle.std.proofs.lemmas.Bool.{false≢true}
 use Rattle.std.specs.Prelude.{IfSome, Option, None, Some, MatchOption, true, false, Result, Ok, Err, OnOk}
 use Rattle.std.specs.Option.{is_some}
 use Rattle.json.specs.Token.{Token, number}
-use Rattle.mesh_files.specs.declared.drawing.Drawing.{Drawing}
-use Rattle.mesh_files.specs.declared.drawing.Number.{Number}
-use Rattle.mesh_files.specs.declared.drawing.Spot.{Spot}
-use Rattle.mesh_files.specs.declared.geojson.GeoState.{GeoState}
-use Rattle.mesh_files.specs.declared.shapes.GeoPosition.{GeoPosition}
-use Rattle.mesh_files.specs.Runs.{IsBegunPosition, IsFirstNumber, IsOpenPosition, IsPosition, IsRun}
-use Rattle.mesh_files.specs.Runs.{DrawsRuns, HasPositions, numbers_first}
-use Rattle.mesh_files.specs.States.{DrawsOn, GoesOn, HasReadRuns, HasReadTokens}
-use Rattle.mesh_files.specs.States.{IsBetween, IsGeoJson, IsWithoutMark, ReadsToken}
-use Rattle.mesh_files.specs.Drawn.{HasNoNumbers}
 use Rattle.std.specs.Str.{IsTrimAsciiEnd}
 use Rattle.json.specs.Lex.{tokens}
-use Rattle.mesh_files.specs.Written.{IsAsWritten}
+use Rattle.mesh_files.specs.{Drawing, DrawsRuns, GeoPosition, HasPositions, IsAsWritten, IsPosition}
+use Rattle.mesh_files.specs.{declared.geojson.GeoState.GeoState, Drawn.HasNoNumbers, Number, Spot}
+use Rattle.mesh_files.specs.Runs.{IsBegunPosition, IsFirstNumber, IsOpenPosition, IsRun}
+use Rattle.mesh_files.specs.Runs.{numbers_first}
+use Rattle.mesh_files.specs.States.{DrawsOn, GoesOn, HasReadRuns, HasReadTokens, IsBetween}
+use Rattle.mesh_files.specs.States.{IsGeoJson, IsWithoutMark, ReadsToken}
 use Rattle.mesh_files.proofs.PointRows.{draws_none, word_writes}
 
 pub goes_on_draws : (old new : GeoState) (d : Drawing) → GoesOn old new → DrawsOn old new d d

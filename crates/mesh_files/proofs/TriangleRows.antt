@@ -1,14 +1,12 @@
 -- How the rows of a text become points.
 use Rattle.std.proofs.Common.{◌≡◌, ◌∙◌, ℕ, List, [], ◌∷◌, ◌++◌, refl, sym, ap, append_assoc}
 use Rattle.std.specs.Prelude.{Option, None, Some, IfSome}
-use Rattle.mesh_files.specs.declared.drawing.Drawing.{Drawing}
-use Rattle.mesh_files.specs.declared.drawing.Number.{Number}
-use Rattle.mesh_files.specs.declared.drawing.Spot.{Spot}
-use Rattle.mesh_files.specs.declared.words.WordLines.{WordLines}
-use Rattle.mesh_files.specs.Drawn.{IsNumberAt, IsSpotAt, Draws, DrawsHoles, SameNumbers, SamePoints, AddsSpot}
-use Rattle.mesh_files.specs.Rows.{words_of, rows_of}
-use Rattle.mesh_files.specs.Triangle.{TakesWord, TakesNumber, TakesSpot, BeginsRow, DrawsRow, TakesRows, TakesPoints, AddsHole, HasHoles, IsPoly}
-use Rattle.mesh_files.proofs.PointRows.{word_writes, zip_more, draws_more, draws_same}
+use Rattle.mesh_files.specs.{AddsSpot, Drawing, Draws, IsNumberAt, Number, rows_of, SameNumbers}
+use Rattle.mesh_files.specs.{declared.words.WordLines.WordLines, Spot, TakesRows, words_of}
+use Rattle.mesh_files.specs.Drawn.{DrawsHoles, IsSpotAt, SamePoints}
+use Rattle.mesh_files.specs.Triangle.{AddsHole, BeginsRow, DrawsRow, HasHoles, IsPoly, TakesNumber}
+use Rattle.mesh_files.specs.Triangle.{TakesPoints, TakesSpot, TakesWord}
+use Rattle.mesh_files.proofs.PointRows.{draws_more, draws_same, word_writes, zip_more}
 
 Row : Type 0
 Row = List (List ℕ)

@@ -6,8 +6,8 @@ use Rattle.std.specs.List.{All, AllPass}
 use Rattle.std.proofs.lemmas.Bool.{false≢true, eqb-true}
 use Rattle.std.proofs.lemmas.List.{append-nil, take_more}
 use Rattle.std.proofs.lemmas.List.Elements.{All-append}
-use Rattle.mesh_files.specs.Rows.{is_blank_byte, words_in, words_of, lines_of, rows_in, rows_of}
-use Rattle.mesh_files.specs.Stretches.{StopsAt, is_in}
+use Rattle.mesh_files.specs.{is_in, rows_of, Stretches.StopsAt, words_of}
+use Rattle.mesh_files.specs.Rows.{is_blank_byte, lines_of, rows_in, words_in}
 use Rattle.mesh_files.specs.declared.words.Stretch.TheVariants.{Line, Word}
 
 not_false : (b : Bool) → not b ≡ false → b ≡ true

@@ -3,11 +3,9 @@ use Rattle.std.specs.Prelude.{◌≡◌, ◌<◌, ◌++◌, ℕ, List, [], ◌�
 use Rattle.std.specs.Prelude.{Option, None, Some}
 use Rattle.std.specs.Char.{is_ascii_whitespace}
 use Rattle.std.specs.List.{AllZip, AllPass}
-use Rattle.decimal_numbers.specs.declared.decimal.Decimal.{Decimal}
-use Rattle.mesh_files.specs.declared.drawing.Drawing.{Drawing}
-use Rattle.mesh_files.specs.declared.drawing.Number.{Number}
-use Rattle.mesh_files.specs.declared.drawing.Spot.{Spot}
-use Rattle.mesh_files.specs.Written.{IsAsWritten}
+use Rattle.decimal_numbers.specs.{Decimal}
+use Rattle.mesh_files.specs.{declared.drawing.Spot.Spot, Written.IsAsWritten}
+use Rattle.mesh_files.specs.{declared.drawing.Drawing.Drawing, declared.drawing.Number.Number}
 
 -- the text is this number, with blanks before and behind it or none
 pub record Writes (text : List ℕ) (d : Decimal) : Type 0 where

@@ -3,13 +3,10 @@ use Rattle.std.specs.Prelude.{◌≡◌, ◌++◌, ℕ, List, [], ◌∷◌, All
 use Rattle.std.specs.List.{AllByRecursion}
 use Rattle.json.specs.Token.{Token, begin_object, end_object, begin_array, end_array, key}
 use Rattle.json.specs.Token.{string, number, boolean, null, bad}
-use Rattle.mesh_files.specs.declared.drawing.Drawing.{Drawing}
-use Rattle.mesh_files.specs.declared.drawing.Number.{Number}
+use Rattle.mesh_files.specs.{Drawn.Draws, Drawn.IsNumberAt, Drawn.IsSpotAt, Written.IsAsWritten}
+use Rattle.mesh_files.specs.{declared.drawing.Drawing.Drawing, declared.drawing.Number.Number}
 use Rattle.mesh_files.specs.declared.drawing.Spot.{Spot}
-use Rattle.mesh_files.specs.declared.shapes.GeoPosition.{GeoPosition}
-use Rattle.mesh_files.specs.declared.shapes.Shape.{Shape}
-use Rattle.mesh_files.specs.Drawn.{Draws, IsNumberAt, IsSpotAt}
-use Rattle.mesh_files.specs.Written.{IsAsWritten}
+use Rattle.mesh_files.specs.{declared.shapes.GeoPosition.GeoPosition, declared.shapes.Shape.Shape}
 
 -- the numbers that tokens begin with, as they are written
 abbrev pub numbers_first : List Token → List (List ℕ)

@@ -3,14 +3,12 @@ use Rattle.std.specs.Prelude.{◌≡◌, ◌⊎◌, ◌++◌, ◌∷◌, ℕ, Li
 use Rattle.std.specs.Str.{IsTrimAsciiEnd}
 use Rattle.json.specs.Lex.{tokens}
 use Rattle.json.specs.Token.{Token}
-use Rattle.mesh_files.specs.declared.drawing.Drawing.{Drawing}
-use Rattle.mesh_files.specs.declared.geojson.GeoState.{GeoState}
-use Rattle.mesh_files.specs.declared.geojson.Step.{Step}
-use Rattle.mesh_files.specs.declared.geojson.Step.TheVariants as step
-use Rattle.mesh_files.specs.declared.geojson.Wanted.{Wanted}
-use Rattle.mesh_files.specs.declared.geojson.Wanted.TheVariants as wanted
 use Rattle.mesh_files.specs.Runs.{DrawsRuns, HasPositions, IsFirstNumber, IsOpenPosition, IsRun}
 use Rattle.mesh_files.specs.Runs.{numbers_first}
+use Rattle.mesh_files.specs.{declared.drawing.Drawing.Drawing, declared.geojson.GeoState.GeoState}
+use Rattle.mesh_files.specs.{declared.geojson.Step.Step, declared.geojson.Wanted.Wanted}
+use Rattle.mesh_files.specs.declared.geojson.Step.TheVariants as step
+use Rattle.mesh_files.specs.declared.geojson.Wanted.TheVariants as wanted
 
 -- the numbers of a position that is begun are a run, which goes on in these tokens
 abbrev pub IsWanted : List Token → List Token → Wanted → Type 0

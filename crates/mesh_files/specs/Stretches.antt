@@ -1,8 +1,7 @@
 -- How a text is taken apart from the front.
 use Rattle.std.specs.Prelude.{◌≡◌, ℕ, List, [], ◌∷◌, Bool, false, ◌==◌, not, ⊤}
-use Rattle.mesh_files.specs.Rows.{is_blank_byte}
-use Rattle.mesh_files.specs.declared.words.Stretch.{Stretch}
-use Rattle.mesh_files.specs.declared.words.Stretch.TheVariants.{Line, Blanks, Word}
+use Rattle.mesh_files.specs.{declared.words.Stretch.Stretch, Rows.is_blank_byte}
+use Rattle.mesh_files.specs.declared.words.Stretch.TheVariants.{Blanks, Line, Word}
 
 -- whether a byte belongs to a stretch
 abbrev pub is_in : Stretch → ℕ → Bool

@@ -5,9 +5,8 @@ use Rattle.csv.specs.Reading.{reader_config, reader_state, reader_trim}
 use Rattle.csv.specs.declared.parser.State.TheVariants as st
 use Rattle.csv.specs.declared.reader.Reader.{Reader}
 use Rattle.csv.specs.declared.reader.Trim.TheVariants as trim
-use Rattle.mesh_files.specs.declared.columns.Columns.{Columns}
-use Rattle.mesh_files.specs.declared.drawing.Drawing.{Drawing}
 use Rattle.mesh_files.specs.Drawn.{Draws}
+use Rattle.mesh_files.specs.{declared.columns.Columns.Columns, declared.drawing.Drawing.Drawing}
 
 -- the fields of a record
 abbrev pub Fields : Type 0

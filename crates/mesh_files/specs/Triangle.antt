@@ -1,12 +1,9 @@
 -- What is read of the files of the program Triangle.
 use Rattle.std.specs.Prelude.{◌≡◌, ◌++◌, ℕ, List, [], ◌∷◌}
-use Rattle.mesh_files.specs.declared.drawing.Drawing.{Drawing}
-use Rattle.mesh_files.specs.declared.drawing.Number.{Number}
+use Rattle.mesh_files.specs.{Drawn.Draws, Drawn.DrawsHoles, Drawn.IsSpotAt, Written.IsAsWritten}
+use Rattle.mesh_files.specs.{declared.drawing.Number.Number, Rows.rows_of, Rows.words_of}
+use Rattle.mesh_files.specs.{declared.drawing.Drawing.Drawing, declared.words.WordLines.WordLines}
 use Rattle.mesh_files.specs.declared.drawing.Spot.{Spot}
-use Rattle.mesh_files.specs.declared.words.WordLines.{WordLines}
-use Rattle.mesh_files.specs.Drawn.{Draws, DrawsHoles, IsSpotAt}
-use Rattle.mesh_files.specs.Rows.{words_of, rows_of}
-use Rattle.mesh_files.specs.Written.{IsAsWritten}
 
 -- these words of the line were read
 pub record TakesWords (words : List (List ℕ)) (old new : WordLines) : Type 0 where

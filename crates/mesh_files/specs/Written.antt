@@ -1,9 +1,7 @@
 -- Numbers as a file has them, and segments between points of a list.
 use Rattle.std.specs.Prelude.{◌≡◌, ◌⊎◌, ◌<◌, ℕ, List, false}
-use Rattle.decimal_numbers.specs.Long.{SpellsLong}
-use Rattle.decimal_numbers.specs.Value.{SpellsTooLong, SpellsValue, IsShortest}
-use Rattle.decimal_numbers.specs.declared.decimal.Decimal.{Decimal}
-use Rattle.decimal_numbers.specs.declared.long.LongDecimal.{LongDecimal}
+use Rattle.decimal_numbers.specs.{Decimal, Value.IsShortest, Value.SpellsTooLong, Value.SpellsValue}
+use Rattle.decimal_numbers.specs.{declared.long.LongDecimal.LongDecimal, Long.SpellsLong}
 use Rattle.mesh_files.specs.declared.drawing.Segment.{Segment}
 
 -- the ends of a segment are among so many points

@@ -1,8 +1,5 @@
 //! Points that are asked about, on the scale of a drawing.
-use crate::drawing::{Drawing, Spot};
-use crate::fault::{FileFault, Reason};
-use crate::moves::Moves;
-use crate::scaled::Scaled;
+use crate::{Drawing, FileFault, Moves, Reason, Scaled, Spot};
 use decimal_numbers::{Decimal, Scale};
 use delaunay_core::point::Point2;
 use std::alloc::Global;

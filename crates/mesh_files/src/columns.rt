@@ -4,8 +4,7 @@ ghost use Rattle.std.specs.Str.{IsTrimAscii};
 ghost use Rattle.csv.specs.Records.{fields_of};
 ghost use Rattle.mesh_files.specs.Drawn.{SameNumbers};
 
-use crate::drawing::Drawing;
-use crate::fault::{FileFault, Reason};
+use crate::{Drawing, FileFault, Reason};
 use csv::ByteRecord;
 
 /// A field without blanks round it.

@@ -7,14 +7,12 @@ ghost use Rattle.std.specs.Prelude.{◌≡◌, ◌++◌, ◌∷◌, [], ℕ, Lis
 ghost use Rattle.std.specs.Prelude.{MatchOption};
 ghost use Rattle.csv.specs.Records.{fields_of};
 ghost use Rattle.mesh_files.specs.Drawn.{HasNoNumbers, IsNumberAt, SameNumbers};
-ghost use Rattle.mesh_files.specs.Tables.{AreAll, DrawsRow, DrawsTable, Fields};
-ghost use Rattle.mesh_files.specs.Tables.{HasRead, IsTable, height_column};
+ghost use Rattle.mesh_files.specs.Tables.{AreAll, DrawsRow, DrawsTable, Fields, HasRead};
+ghost use Rattle.mesh_files.specs.Tables.{height_column, IsTable};
 
-use crate::columns::{ColumnNames, Columns, leave_out, needed_column, word_of};
-use crate::drawing::{Drawing, Number, Spot};
-use crate::fault::{FileFault, FilePlace, Reason};
-use crate::text::CheckedText;
+use crate::columns::{Columns, leave_out, needed_column, word_of};
 use crate::words::count_of;
+use crate::{CheckedText, ColumnNames, Drawing, FileFault, FileLine, Number, Reason, Spot};
 use csv::{ByteRecord, ErrorKind, Reader, ReaderBuilder};
 use std::alloc::Global;
 use std::io::Read;
@@ -64,7 +62,7 @@ impl Run {
         ensures { OnOk result (SameNumbers drawing.old drawing.new) }
     {
         if self.closes && !self.word.is_empty() && self.first != self.last {
-            drawing.join(self.last, self.first, FilePlace::of_line(self.line))?;
+            drawing.join(self.last, self.first, FileLine::of_line(self.line))?;
         }
         self.word.clear();
         Ok(())
@@ -85,7 +83,7 @@ impl Run {
             self.word.extend_from_slice(word)?;
             self.first = place;
         } else if !word.is_empty() {
-            drawing.join(self.last, place, FilePlace::of_line(line))?;
+            drawing.join(self.last, place, FileLine::of_line(line))?;
         }
         self.last = place;
         self.line = line;
@@ -131,7 +129,7 @@ fn row_height(
     drawing: &mut Drawing,
     record: &ByteRecord,
     columns: &Columns,
-    at: FilePlace,
+    at: FileLine,
 ) -> Result<Option<Number>, FileFault>
     ensures written { IfOk result (λ height.
         IfSome height (IsNumberAt (height_column columns.now) (fields_of «record».now))) }
@@ -152,7 +150,7 @@ fn take_point_row(
 ) -> Result<(), FileFault>
     ensures { OnOk result (DrawsRow (fields_of «record».now) columns.now drawing.old drawing.new) }
 {
-    let at = FilePlace::of_line(line);
+    let at = FileLine::of_line(line);
     let x = drawing.number(word_of(record, columns.x), "x", at)?;
     let y = drawing.number(word_of(record, columns.y), "y", at)?;
     let height = row_height(drawing, record, columns, at)?;
@@ -373,7 +371,7 @@ fn take_segment_row(
     let count = drawing.spots.len();
     let from = point_named(record, ends.from, count, line)?;
     let to = point_named(record, ends.to, count, line)?;
-    drawing.join(from, to, FilePlace::of_line(line))
+    drawing.join(from, to, FileLine::of_line(line))
 }
 
 /// Reads the next row of segments, and gives its line, if there is one.

@@ -3,7 +3,7 @@ ghost use Rattle.std.specs.Prelude.{◌≡◌, ◌<◌, ◌++◌, ◌∷◌, [],
 ghost use Rattle.decimal_numbers.specs.Value.{SpellsTooLong};
 ghost use Rattle.mesh_files.specs.Written.{HasEnds, IsAsWritten};
 
-use crate::fault::{FileFault, FilePlace, Reason};
+use crate::{FileFault, FileLine, Reason};
 use decimal_numbers::{Decimal, DecimalError, LongDecimal};
 use std::alloc::{AllocError, Global};
 
@@ -35,11 +35,11 @@ pub struct Spot {
 }
 
 impl Spot {
-    pub(crate) fn new(x: Number, y: Number, at: FilePlace) -> Self
+    pub(crate) fn new(x: Number, y: Number, at: FileLine) -> Self
         ensures x { result.x ≡ x }
         ensures y { result.y ≡ y }
     {
-        let FilePlace { line, feature } = at;
+        let FileLine { line, feature } = at;
         Spot {
             x,
             y,
@@ -49,8 +49,8 @@ impl Spot {
     }
 
     /// Where the point stands in the file.
-    pub fn file_place(&self) -> FilePlace {
-        FilePlace {
+    pub fn file_place(&self) -> FileLine {
+        FileLine {
             line: self.line,
             feature: self.feature,
         }
@@ -69,8 +69,8 @@ pub struct Segment {
 
 impl Segment {
     /// Where the segment stands in the file.
-    pub fn file_place(&self) -> FilePlace {
-        FilePlace {
+    pub fn file_place(&self) -> FileLine {
+        FileLine {
             line: self.line,
             feature: self.feature,
         }
@@ -99,7 +99,7 @@ pub(crate) struct NumberTexts {
 
 impl NumberTexts {
     /// Keeps the text of a number.
-    fn keep(&mut self, decimal: Decimal, word: &[u8], at: FilePlace) -> Result<Number, FileFault>
+    fn keep(&mut self, decimal: Decimal, word: &[u8], at: FileLine) -> Result<Number, FileFault>
         ensures { IfOk result (λ n. n.decimal ≡ decimal) }
     {
         let start = self.bytes.len();
@@ -130,7 +130,7 @@ impl NumberTexts {
         &mut self,
         number: Number,
         digits: u32,
-        at: FilePlace,
+        at: FileLine,
     ) -> Result<Number, FileFault> {
         if number.decimal.digits <= digits {
             return Ok(number);
@@ -147,7 +147,7 @@ impl NumberTexts {
         old: Number,
         decimal: Decimal,
         word: &[u8],
-        at: FilePlace,
+        at: FileLine,
     ) -> Result<Number, FileFault> {
         let start = old.start as usize;
         let end = start.saturating_add(word.len());
@@ -179,14 +179,14 @@ pub struct Drawing {
     pub(crate) texts: NumberTexts,
     left_out: String,
     open_rings: u32,
-    first_open: FilePlace,
+    first_open: FileLine,
     pub ghost ends_are_points: { All (HasEnds (length spots.items)) segments.items },
     pub ghost heights_are_of_points: { 0 < length heights.items
         → length heights.items ≡ length spots.items },
 }
 
 impl Drawing {
-    ghost use Rattle.mesh_files.specs.Drawn.{HasNoNumbers, SameNumbers, AddsSpot};
+    ghost use Rattle.mesh_files.specs.Drawn.{AddsSpot, HasNoNumbers, SameNumbers};
 
     /// Nothing yet.
     pub fn new(alloc: Global) -> Self
@@ -205,7 +205,7 @@ impl Drawing {
             },
             left_out: String::new(alloc),
             open_rings: 0,
-            first_open: FilePlace::of_line(0),
+            first_open: FileLine::of_line(0),
         }
     }
 
@@ -214,7 +214,7 @@ impl Drawing {
         &mut self,
         word: &[u8],
         name: &'static str,
-        at: FilePlace,
+        at: FileLine,
     ) -> Result<Number, FileFault>
         requires { SpellsTooLong word.now }
         ensures written { IfOk result (λ n. IsAsWritten word.now n.decimal) }
@@ -240,7 +240,7 @@ impl Drawing {
         &mut self,
         word: &[u8],
         name: &'static str,
-        at: FilePlace,
+        at: FileLine,
     ) -> Result<Number, FileFault>
         ensures written { IfOk result (λ n. IsAsWritten word.now n.decimal) }
         ensures same { OnOk result (SameNumbers self.old self.new) }
@@ -270,7 +270,7 @@ impl Drawing {
     }
 
     /// Asks for a point by its place in the list.
-    fn check_point(&self, point: u32, at: FilePlace) -> Result<(), FileFault>
+    fn check_point(&self, point: u32, at: FileLine) -> Result<(), FileFault>
         ensures { OnOk result (point < length self.now.spots.items) }
     {
         if (point as usize) < self.spots.len() {
@@ -280,12 +280,12 @@ impl Drawing {
     }
 
     /// Takes a segment in whose ends are points.
-    pub(crate) fn join(&mut self, from: u32, to: u32, at: FilePlace) -> Result<(), FileFault>
+    pub(crate) fn join(&mut self, from: u32, to: u32, at: FileLine) -> Result<(), FileFault>
         ensures { OnOk result (SameNumbers self.old self.new) }
     {
         self.check_point(from, at)?;
         self.check_point(to, at)?;
-        let FilePlace { line, feature } = at;
+        let FileLine { line, feature } = at;
         self.segments.push(Segment {
             from,
             to,
@@ -296,7 +296,7 @@ impl Drawing {
     }
 
     /// The place that the next point has in the list.
-    pub(crate) fn next_place(&self, at: FilePlace) -> Result<u32, FileFault> {
+    pub(crate) fn next_place(&self, at: FileLine) -> Result<u32, FileFault> {
         match u32::try_from(self.spots.len()) {
             Ok(next) => Ok(next),
             Err(_) => Err(FileFault::in_place(at, Reason::TooMany)),
@@ -314,7 +314,7 @@ impl Drawing {
     }
 
     /// Notes a ring that does not end where it began, and is closed.
-    pub(crate) fn note_open_ring(&mut self, at: FilePlace)
+    pub(crate) fn note_open_ring(&mut self, at: FileLine)
         ensures { SameNumbers self.old self.new }
     {
         if self.open_rings == 0 {

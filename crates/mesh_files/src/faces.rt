@@ -1,5 +1,5 @@
 //! Faces as tables with areas and as GeoJSON.
-use crate::writing::{Form, MeshText};
+use crate::{Form, MeshText};
 use decimal_numbers::Decimal;
 use std::alloc::AllocError;
 

@@ -1,7 +1,6 @@
 //! What is wrong with a file, and where.
 use std::alloc::{AllocError, AllocFailed};
 use std::fmt;
-use thiserror::Error;
 
 /// What is wrong. Words are what is wrong itself: a column's name, or what should stand there.
 #[derive(Clone, Copy, Drop)]
@@ -43,7 +42,11 @@ pub enum Reason {
     NoMemory,
 }
 
-const TOO_LONG: &str = " has more than 17 digits before the point, or a power of ten past 400";
+const TOO_LONG: &str =
+    " has more than 17 digits before the point, or a power of ten past 400: use larger units";
+
+const OTHER_FIELDS: &str =
+    "the row has more or fewer fields than the first: quote those with separators in them";
 
 /// What the text of a reason names.
 #[derive(Clone, Copy)]
@@ -63,32 +66,44 @@ impl fmt::Display for Named {
     }
 }
 
+/// Which option names the column that a table lacks, if one does.
+fn column_hint(name: &str) -> &'static str {
+    match name {
+        "x" => ": --x gives its name",
+        "y" => ": --y gives its name",
+        _ => "",
+    }
+}
+
 impl Reason {
     /// The text of a reason that names nothing.
     fn text(self) -> &'static str {
         match self {
-            Reason::OtherFields => "it has another number of fields than the first line",
+            Reason::OtherFields => OTHER_FIELDS,
             Reason::NotPlane => {
-                "only points of the plane are read, and these have another number of coordinates"
+                "only points of the plane are read, with two coordinates: these have another number"
             }
             Reason::NotNext => {
-                "the points are numbered from 0 or from 1, and this one is not the next"
+                "this is not the next point: number the points one after the other, from 0 or 1"
             }
             Reason::PointsElsewhere => {
-                "its points are in a .node file, which is to be read in its place"
+                "its points are in a .node file: put them into this file, or read that one"
             }
             Reason::TooMany => {
-                "there are too many points, or their numbers are longer than 4 GiB together"
+                "there are too many points, or their numbers take more than 4 GiB: split the file"
             }
-            Reason::NulByte => "it has a NUL byte, so this is no text",
-            Reason::NotUtf8 => "the file is no text in UTF-8",
-            Reason::OpenQuote => "a quoted field does not end",
-            Reason::OtherNesting => "coordinates are nested otherwise than the type has them",
+            Reason::NulByte => "there is a NUL byte: this is not a text file",
+            Reason::NotUtf8 => "the file is not UTF-8: iconv can convert it",
+            Reason::OpenQuote => "the quoted field that begins here does not end: close its quote",
+            Reason::OtherNesting =>
+                "the coordinates are not nested as the type of the geometry asks",
             Reason::OpenRing => "a ring does not end where it began",
-            Reason::SmallRing => "a ring has three corners or more",
-            Reason::SomeHeights => "some points have a height, and others have none",
+            Reason::SmallRing =>
+                "this ring has fewer than three corners: add corners, or leave it out",
+            Reason::SomeHeights =>
+                "some points have a height and others have none: give it to all or to none",
             Reason::Unreadable => "reading failed",
-            Reason::NoMemory => "memory was refused",
+            Reason::NoMemory => "there is not enough memory",
             _ => "",
         }
     }
@@ -96,36 +111,48 @@ impl Reason {
     /// What a reason names, with the text before and behind it.
     fn parts(self) -> (&'static str, Named, &'static str) {
         match self {
-            Reason::NoColumn(name) => ("there is no column named ", Named::Word(name), ""),
-            Reason::NoGivenColumn(name) => (
-                "there is no column of the name that is given for ",
+            Reason::NoColumn(name) => (
+                "there is no column named ",
                 Named::Word(name),
-                "",
+                column_hint(name),
+            ),
+            Reason::NoGivenColumn(name) => (
+                "no column has the name that --",
+                Named::Word(name),
+                " gives",
             ),
             Reason::NotNumber(name) => ("", Named::Word(name), " is not a decimal number"),
             Reason::TooLong(name) => ("", Named::Word(name), TOO_LONG),
-            Reason::Ends(what) => ("the file ends where ", Named::Word(what), " should come"),
+            Reason::Ends(what) => ("the file ends where ", Named::Word(what), " is expected"),
             Reason::Missing(what) => ("", Named::Word(what), " is missing"),
             Reason::NotCount(what) => ("", Named::Word(what), " is not a whole number from 0 on"),
             Reason::NoPoint(number) => (
                 "point ",
                 Named::Number(number),
-                " is named here, and there is none",
+                " is used here, but there is no such point",
             ),
-            Reason::LongLine(most) => ("it is longer than ", Named::Number(most as u64), " bytes"),
-            Reason::LongText(most) => (
-                "the file is longer than ",
+            Reason::LongLine(most) => (
+                "this line or row is too long: at most ",
                 Named::Number(most as u64),
-                " bytes",
+                " bytes are read",
+            ),
+            Reason::LongText(most) => (
+                "the file is too long, split it: at most ",
+                Named::Number(most as u64),
+                " bytes are read",
             ),
             Reason::NotJson(most) => (
-                "this is no JSON, or it nests more than ",
+                "this is not JSON, or it nests more than ",
                 Named::Number(most as u64),
                 " deep",
             ),
-            Reason::Expected(what) => ("", Named::Word(what), " should stand here"),
-            Reason::NoMember(name) => ("there is no member named ", Named::Word(name), ""),
-            Reason::NotOfType(name) => ("it has ", Named::Word(name), ", and its type has none"),
+            Reason::Expected(what) => ("", Named::Word(what), " is expected here"),
+            Reason::NoMember(name) => ("the object has no member named ", Named::Word(name), ""),
+            Reason::NotOfType(name) => (
+                "the object has ",
+                Named::Word(name),
+                ", which is not for its type",
+            ),
             _ => (self.text(), Named::Nothing, ""),
         }
     }
@@ -140,11 +167,10 @@ fn write_far<W: fmt::Write>(
 ) -> fmt::Result {
     write!(
         f,
-        "{name} is too far from the others: all have to be within "
+        "{name} is too far from the others: with {digits} decimals they may span 2^30 units"
     )?;
-    write!(f, "2^30 units of {digits} digits")?;
     match fitting {
-        Some(fitting) if fitting < digits => write!(f, "; --round {fitting} would fit"),
+        Some(fitting) if fitting < digits => write!(f, "; --round {fitting} fits"),
         _ => Ok(()),
     }
 }
@@ -158,7 +184,7 @@ impl fmt::Display for Reason {
             }
             Reason::TooFar(name, digits, fitting) => write_far(f, name, digits, fitting),
             Reason::Both(one, other) => {
-                write!(f, "it has {one} and {other}, of which an object has one")
+                write!(f, "the object has {one} and {other}: leave one out")
             }
             reason => {
                 let (before, named, behind) = reason.parts();
@@ -179,21 +205,21 @@ impl std::error::Error for Reason {}
 /// Where something stands in a file: its line, from 1, and where it is in a feature of GeoJSON the
 /// number of that, from 1, else 0.
 #[derive(Clone, Copy, Debug, PartialEq, Eq)]
-pub struct FilePlace {
+pub struct FileLine {
     pub line: u32,
     pub feature: u32,
 }
 
-impl FilePlace {
+impl FileLine {
     /// A line with no feature.
     pub fn of_line(line: u32) -> Self {
-        FilePlace { line, feature: 0 }
+        FileLine { line, feature: 0 }
     }
 }
 
-impl fmt::Display for FilePlace {
+impl fmt::Display for FileLine {
     fn fmt<W: fmt::Write>(&self, f: &mut fmt::Formatter<W>) -> fmt::Result {
-        let FilePlace { line, feature } = *self;
+        let FileLine { line, feature } = *self;
         if feature == 0 {
             write!(f, "line {line}")
         } else {
@@ -202,21 +228,32 @@ impl fmt::Display for FilePlace {
     }
 }
 
-/// What is wrong with a file, and where.
-#[derive(Clone, Copy, Debug, Drop, Error)]
-#[error("{place}: {reason}")]
+/// What is wrong with a file, and where: line 0 stands for all of the file.
+#[derive(Clone, Copy, Debug, Drop)]
 pub struct FileFault {
-    pub place: FilePlace,
+    pub place: FileLine,
     pub reason: Reason,
 }
+
+impl fmt::Display for FileFault {
+    fn fmt<W: fmt::Write>(&self, f: &mut fmt::Formatter<W>) -> fmt::Result {
+        let FileFault { place, reason } = *self;
+        if place.line > 0 {
+            write!(f, "{place}: ")?;
+        }
+        write!(f, "{reason}")
+    }
+}
+
+impl std::error::Error for FileFault {}
 
 impl FileFault {
     /// A fault of a line.
     pub fn at(line: u32, reason: Reason) -> Self {
-        FileFault::in_place(FilePlace::of_line(line), reason)
+        FileFault::in_place(FileLine::of_line(line), reason)
     }
 
-    pub(crate) fn in_place(place: FilePlace, reason: Reason) -> Self {
+    pub(crate) fn in_place(place: FileLine, reason: Reason) -> Self {
         FileFault { place, reason }
     }
 }

@@ -6,19 +6,15 @@ ghost use Rattle.std.specs.Prelude.{◌≡◌, ◌++◌, List, IfOk, IfSome, OnO
 ghost use Rattle.json.specs.Lex.{tokens};
 ghost use Rattle.json.specs.Reads.{token_of};
 ghost use Rattle.json.specs.Token.{Token as SpecToken, number, end_array};
-ghost use Rattle.mesh_files.specs.Drawn.{HasNoNumbers, SameNumbers};
+ghost use Rattle.mesh_files.specs.{Drawn.HasNoNumbers, Drawn.SameNumbers, Runs.numbers_first};
 ghost use Rattle.mesh_files.specs.Runs.{DrawsRuns, HasPositions, IsFirstNumber, IsRun};
-ghost use Rattle.mesh_files.specs.Runs.{numbers_first};
-ghost use Rattle.mesh_files.specs.States.{DrawsOn, GoesOn, HasReadRuns, HasReadTokens};
-ghost use Rattle.mesh_files.specs.States.{IsBetween, IsGeoJson, IsStepBetween, IsWithoutMark};
-ghost use Rattle.mesh_files.specs.States.{ReadsToken};
+ghost use Rattle.mesh_files.specs.States.{DrawsOn, GoesOn, HasReadRuns, HasReadTokens, IsBetween};
+ghost use Rattle.mesh_files.specs.States.{IsGeoJson, IsStepBetween, IsWithoutMark, ReadsToken};
 ghost use Rattle.mesh_files.specs.declared.drawing.Drawing.{Drawing};
 
-use crate::drawing::{Drawing, Number, Spot};
-use crate::fault::{FileFault, FilePlace, Reason};
 use crate::json_text::JsonText;
 use crate::shapes::{GeoPosition, LineKind, Shape};
-use crate::text::CheckedText;
+use crate::{CheckedText, Drawing, FileFault, FileLine, Number, Reason, Spot};
 use json::{MAX_DEPTH, Reader, Scratch, Token};
 use std::alloc::Global;
 use std::io::Read;
@@ -183,7 +179,7 @@ enum Wanted {
     List,
     Coordinates,
     /// The second number of a position, whose first stands there.
-    SecondNumber(Number, FilePlace),
+    SecondNumber(Number, FileLine),
     /// Further numbers of a position, or its end.
     MoreNumbers(GeoPosition),
     /// The value of a property, whatever it is.
@@ -316,7 +312,7 @@ impl GeoState {
     }
 
     /// Begins an object in the innermost.
-    fn open_object(&mut self, at: FilePlace) -> Result<(), FileFault>
+    fn open_object(&mut self, at: FileLine) -> Result<(), FileFault>
         ensures { OnOk result (GoesOn self.old self.new) }
     {
         self.outer.push(self.object)?;
@@ -329,7 +325,7 @@ impl GeoState {
     }
 
     /// Takes a token in that is part of no position.
-    fn take_step(&mut self, step: Step, at: FilePlace) -> Result<(), FileFault>
+    fn take_step(&mut self, step: Step, at: FileLine) -> Result<(), FileFault>
         requires { IsStepBetween step }
         ensures { OnOk result (GoesOn self.old self.new) }
     {
@@ -353,7 +349,7 @@ impl GeoState {
     }
 
     /// Begins what an object is of.
-    fn begin_content(&mut self, member: Member, at: FilePlace) -> Result<(), FileFault>
+    fn begin_content(&mut self, member: Member, at: FileLine) -> Result<(), FileFault>
         ensures { OnOk result (GoesOn self.old self.new) }
     {
         if let Some(other) = self.object.member {
@@ -372,7 +368,7 @@ impl GeoState {
     }
 
     /// Begins a member of an object.
-    fn begin_member(&mut self, name: &str, at: FilePlace) -> Result<(), FileFault>
+    fn begin_member(&mut self, name: &str, at: FileLine) -> Result<(), FileFault>
         ensures { OnOk result (GoesOn self.old self.new) }
     {
         if let Some(member) = Member::named(name) {
@@ -387,7 +383,7 @@ impl GeoState {
     }
 
     /// Draws the coordinates of an object.
-    fn draw(&self, kind: GeoType, at: FilePlace, drawing: &mut Drawing) -> Result<(), FileFault>
+    fn draw(&self, kind: GeoType, at: FileLine, drawing: &mut Drawing) -> Result<(), FileFault>
         ensures { OnOk result ((tokens : List SpecToken) → HasPositions tokens self.now.shape
             → DrawsRuns tokens drawing.old → DrawsRuns tokens drawing.new) }
     {
@@ -401,7 +397,7 @@ impl GeoState {
     }
 
     /// Ends an object, and goes on with that round it.
-    fn close(&mut self, at: FilePlace, drawing: &mut Drawing) -> Result<(), FileFault>
+    fn close(&mut self, at: FileLine, drawing: &mut Drawing) -> Result<(), FileFault>
         requires { IsBetween self.old.wanted }
         ensures { OnOk result (DrawsOn self.old self.new drawing.old drawing.new) }
     {
@@ -422,7 +418,7 @@ impl GeoState {
     }
 
     /// Takes a token of a list of objects in.
-    fn take_in_list(&mut self, token: Token<'_>, at: FilePlace) -> Result<(), FileFault>
+    fn take_in_list(&mut self, token: Token<'_>, at: FileLine) -> Result<(), FileFault>
         requires { IsBetween self.old.wanted }
         ensures { OnOk result (GoesOn self.old self.new) }
     {
@@ -431,8 +427,8 @@ impl GeoState {
                 if matches!(self.object.member, Some(Member::Features)) {
                     self.feature = self.feature.saturating_add(1);
                 }
-                let FilePlace { line, .. } = at;
-                self.open_object(FilePlace {
+                let FileLine { line, .. } = at;
+                self.open_object(FileLine {
                     line,
                     feature: self.feature,
                 })
@@ -450,7 +446,7 @@ impl GeoState {
     fn take_inner(
         &mut self,
         token: Token<'_>,
-        at: FilePlace,
+        at: FileLine,
         drawing: &mut Drawing,
     ) -> Result<(), FileFault>
         requires { IsBetween self.old.wanted }
@@ -491,7 +487,7 @@ impl GeoState {
     fn take_first(
         &mut self,
         word: &str,
-        at: FilePlace,
+        at: FileLine,
         drawing: &mut Drawing,
     ) -> Result<(), FileFault>
         ensures { OnOk result (ReadsToken (number word.now) self.old self.new drawing.old
@@ -509,7 +505,7 @@ impl GeoState {
     fn take_coordinate(
         &mut self,
         token: Token<'_>,
-        at: FilePlace,
+        at: FileLine,
         drawing: &mut Drawing,
     ) -> Result<(), FileFault>
         ensures { OnOk result (ReadsToken (token_of token.entry) self.old self.new drawing.old
@@ -531,9 +527,9 @@ impl GeoState {
     fn take_second(
         &mut self,
         x: Number,
-        place: FilePlace,
+        place: FileLine,
         token: Token<'_>,
-        at: FilePlace,
+        at: FileLine,
         drawing: &mut Drawing,
     ) -> Result<(), FileFault>
         requires { self.old.wanted ≡ Wanted.SecondNumber x place }
@@ -573,7 +569,7 @@ impl GeoState {
         &mut self,
         position: GeoPosition,
         word: &str,
-        at: FilePlace,
+        at: FileLine,
         drawing: &mut Drawing,
     ) -> Result<(), FileFault>
         requires { self.old.wanted ≡ Wanted.MoreNumbers position }
@@ -597,7 +593,7 @@ impl GeoState {
         &mut self,
         position: GeoPosition,
         token: Token<'_>,
-        at: FilePlace,
+        at: FileLine,
         drawing: &mut Drawing,
     ) -> Result<(), FileFault>
         requires { self.old.wanted ≡ Wanted.MoreNumbers position }
@@ -615,7 +611,7 @@ impl GeoState {
     fn take(
         &mut self,
         token: Token<'_>,
-        at: FilePlace,
+        at: FileLine,
         drawing: &mut Drawing,
     ) -> Result<(), FileFault>
         ensures { OnOk result (ReadsToken (token_of token.entry) self.old self.new drawing.old

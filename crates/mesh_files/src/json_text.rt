@@ -3,7 +3,7 @@ ghost use Rattle.std.specs.Prelude.{◌≡◌, ◌++◌, ◌∷◌, List, IfOk, 
 ghost use Rattle.json.specs.Reads.{token_of};
 ghost use Rattle.json.specs.Token.{Token as SpecToken};
 
-use crate::fault::{FileFault, FilePlace, Reason};
+use crate::{FileFault, FileLine, Reason};
 use json::{MAX_DEPTH, Reader, Token};
 
 /// A JSON text as far as it was read.
@@ -14,7 +14,7 @@ pub(crate) struct JsonText<'a> {
     /// How many bytes have their line ends counted.
     counted: usize,
     /// Where the last token stands.
-    pub(crate) at: FilePlace,
+    pub(crate) at: FileLine,
 }
 
 /// How many lines end in a text.
@@ -36,7 +36,7 @@ impl<'a> JsonText<'a> {
             reader,
             text,
             counted: 0,
-            at: FilePlace::of_line(1),
+            at: FileLine::of_line(1),
         }
     }
 

@@ -25,7 +25,7 @@ pub use asked::{Asked, asked_points};
 pub use columns::ColumnNames;
 pub use csv_tables::{read_csv, read_segments};
 pub use drawing::{Drawing, Number, Segment, Spot};
-pub use fault::{FileFault, FilePlace, Reason};
+pub use fault::{FileFault, FileLine, Reason};
 pub use geojson::read_geojson;
 pub use moves::Moves;
 pub use rings::hole_sides;

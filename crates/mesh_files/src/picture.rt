@@ -1,5 +1,5 @@
 //! A mesh as a picture: faces with thin edges, and constraints with thick ones.
-use crate::writing::MeshText;
+use crate::MeshText;
 use decimal_numbers::Decimal;
 use std::alloc::AllocError;
 
@@ -71,8 +71,12 @@ impl MeshText<'_> {
     }
 
     /// Puts the line of a constraint behind a line.
-    pub(crate) fn push_wall(&self, line: &mut String, place: usize) -> Result<(), AllocError> {
-        let Some([a, b]) = self.walls.get(place) else {
+    pub(crate) fn push_constraint(
+        &self,
+        line: &mut String,
+        place: usize,
+    ) -> Result<(), AllocError> {
+        let Some([a, b]) = self.constraints.get(place) else {
             return Ok(());
         };
         line.push_str("<polyline points=\"")?;
@@ -101,7 +105,7 @@ impl MeshText<'_> {
         writeln!(line, "stroke-width=\"{thin}\">")
     }
 
-    pub(crate) fn push_wall_head(&self, line: &mut String) -> Result<(), AllocError> {
+    pub(crate) fn push_constraint_head(&self, line: &mut String) -> Result<(), AllocError> {
         let thick = self.frame().line_width(3);
         writeln!(
             line,

@@ -1,5 +1,6 @@
 //! The sides of the rings round holes.
-use crate::drawing::{Drawing, Ring};
+use crate::Drawing;
+use crate::drawing::Ring;
 use delaunay_core::point::Point2;
 use std::alloc::{AllocError, Global};
 

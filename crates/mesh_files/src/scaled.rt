@@ -1,7 +1,6 @@
 //! The whole coordinates of a drawing.
-use crate::drawing::{Drawing, Number, NumberTexts, Spot};
-use crate::fault::{FileFault, FilePlace, Reason};
-use crate::moves::Moves;
+use crate::drawing::NumberTexts;
+use crate::{Drawing, FileFault, FileLine, Moves, Number, Reason, Spot};
 use decimal_numbers::{Decimal, Scale, ScaleError};
 use delaunay_core::point::Point2;
 use std::alloc::Global;

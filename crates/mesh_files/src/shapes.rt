@@ -4,8 +4,8 @@ ghost use Rattle.json.specs.Token.{Token};
 ghost use Rattle.mesh_files.specs.Drawn.{SameNumbers};
 ghost use Rattle.mesh_files.specs.Runs.{AddsRun, DrawsRuns, HasPositions, IsPosition, KeepsRuns};
 
-use crate::drawing::{Drawing, Number, Ring, Spot};
-use crate::fault::{FileFault, FilePlace, Reason};
+use crate::drawing::Ring;
+use crate::{Drawing, FileFault, FileLine, Number, Reason, Spot};
 use std::alloc::Global;
 
 /// What positions that stand next to one another are.
@@ -74,7 +74,7 @@ impl OpenLine {
 /// polygon.
 #[derive(Clone, Copy)]
 struct WholeLine {
-    at: FilePlace,
+    at: FileLine,
     start: u32,
     end: u32,
     closing: Option<GeoPosition>,

@@ -1,8 +1,8 @@
 //! A reader of text that stops at what no file has.
 ghost use Rattle.std.specs.Prelude.{◌≡◌, IfOk, IfSome};
 
-use crate::fault::{FileFault, Reason};
 use crate::fields::Field;
+use crate::{FileFault, Reason};
 use memchr::{memchr, memchr_iter};
 use std::alloc::Global;
 use std::io;

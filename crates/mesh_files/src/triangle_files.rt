@@ -1,15 +1,12 @@
 //! The files of the program Triangle: `.node` and `.poly`.
 ghost use Rattle.std.specs.Prelude.{◌≡◌, ◌++◌, ◌∷◌, [], ℕ, List, IfOk, OnOk, OnSome, IfSome};
 ghost use Rattle.mesh_files.specs.Drawn.{Draws, DrawsHoles, HasNoNumbers, SameNumbers, SamePoints};
-ghost use Rattle.mesh_files.specs.Rows.{rows_of, words_of};
-ghost use Rattle.mesh_files.specs.Triangle.{BeginsRow, DrawsRow, TakesNumber, TakesPoints};
-ghost use Rattle.mesh_files.specs.Triangle.{TakesRows, TakesSpot, TakesWord, IsNode, IsPoly};
-ghost use Rattle.mesh_files.specs.Triangle.{AddsHole, HasHoles};
+ghost use Rattle.mesh_files.specs.{Rows.rows_of, Rows.words_of, Triangle.TakesWord};
+ghost use Rattle.mesh_files.specs.Triangle.{AddsHole, BeginsRow, DrawsRow, HasHoles, IsNode};
+ghost use Rattle.mesh_files.specs.Triangle.{IsPoly, TakesNumber, TakesPoints, TakesRows, TakesSpot};
 
-use crate::drawing::{Drawing, Number, Spot};
-use crate::fault::{FileFault, FilePlace, Reason};
-use crate::text::CheckedText;
 use crate::words::{WordLines, count_of};
+use crate::{CheckedText, Drawing, FileFault, FileLine, Number, Reason, Spot};
 use std::alloc::Global;
 use std::io::Read;
 
@@ -64,7 +61,7 @@ impl WordLines<'_> {
         ensures same { OnOk result (SameNumbers drawing.old drawing.new) }
     {
         match self.next_word() {
-            Some(word) => drawing.number(word, what, FilePlace::of_line(self.line)),
+            Some(word) => drawing.number(word, what, FileLine::of_line(self.line)),
             None => Err(self.fault(Reason::Missing(what))),
         }
     }
@@ -75,7 +72,7 @@ impl WordLines<'_> {
     {
         let x = self.number(drawing, "x")?;
         let y = self.number(drawing, "y")?;
-        Ok(Spot::new(x, y, FilePlace::of_line(self.line)))
+        Ok(Spot::new(x, y, FileLine::of_line(self.line)))
     }
 }
 
@@ -210,7 +207,7 @@ fn take_segment(
     source.count("the segment's number")?;
     let from = numbered_point(source, first, drawing.spots.len())?;
     let to = numbered_point(source, first, drawing.spots.len())?;
-    drawing.join(from, to, FilePlace::of_line(source.line))
+    drawing.join(from, to, FileLine::of_line(source.line))
 }
 
 /// Reads how many segments there are.

@@ -1,7 +1,6 @@
 //! A mesh that is to be written, and its forms.
-use crate::drawing::{Drawing, Number};
 use crate::neighbours::{NO_FACE, neighbours_of};
-use crate::scaled::Scaled;
+use crate::{Drawing, Number, Scaled};
 use std::alloc::{AllocError, Global};
 use std::io;
 use std::io::Write;
@@ -46,8 +45,8 @@ enum Part {
     Head,
     Points,
     Faces,
-    WallHead,
-    Walls,
+    ConstraintHead,
+    Constraints,
     Tail,
 }
 
@@ -56,8 +55,8 @@ const PARTS: [Part; 6] = [
     Part::Head,
     Part::Points,
     Part::Faces,
-    Part::WallHead,
-    Part::Walls,
+    Part::ConstraintHead,
+    Part::Constraints,
     Part::Tail,
 ];
 
@@ -68,7 +67,7 @@ pub struct MeshText<'a> {
     pub drawing: &'a Drawing,
     pub scaled: &'a Scaled,
     pub faces: &'a [[u32; 3]],
-    pub walls: &'a [[u32; 2]],
+    pub constraints: &'a [[u32; 2]],
     pub width: u32,
 }
 
@@ -130,7 +129,7 @@ impl MeshText<'_> {
 
     /// Puts a constraint behind a line, by the numbers of its ends.
     fn push_segment(&self, form: Form, line: &mut String, place: usize) -> Result<(), AllocError> {
-        let Some([a, b]) = self.walls.get(place) else {
+        let Some([a, b]) = self.constraints.get(place) else {
             return Ok(());
         };
         let (a, b) = (
@@ -213,8 +212,8 @@ impl MeshText<'_> {
             }
             (Part::Faces, Form::Node | Form::Poly) => 0,
             (Part::Faces, _) => self.faces.len(),
-            (Part::Walls, Form::Svg | Form::Poly | Form::Obj) => self.walls.len(),
-            (Part::WallHead, Form::Svg | Form::Poly) => 1,
+            (Part::Constraints, Form::Svg | Form::Poly | Form::Obj) => self.constraints.len(),
+            (Part::ConstraintHead, Form::Svg | Form::Poly) => 1,
             (Part::Tail, Form::GeoJson | Form::Svg | Form::Stl | Form::Poly) => 1,
             _ => 0,
         }
@@ -232,13 +231,13 @@ impl MeshText<'_> {
             Part::Head => self.push_head(form, line),
             Part::Points => self.push_point_line(form, line, place),
             Part::Faces => self.push_face_line(form, line, place),
-            Part::WallHead if form == Form::Poly => {
-                let count = self.walls.len();
+            Part::ConstraintHead if form == Form::Poly => {
+                let count = self.constraints.len();
                 writeln!(line, "{count} 0")
             }
-            Part::WallHead => self.push_wall_head(line),
-            Part::Walls if form == Form::Svg => self.push_wall(line, place),
-            Part::Walls => self.push_segment(form, line, place),
+            Part::ConstraintHead => self.push_constraint_head(line),
+            Part::Constraints if form == Form::Svg => self.push_constraint(line, place),
+            Part::Constraints => self.push_segment(form, line, place),
             Part::Tail => line.push_str(match form {
                 Form::Svg => "</g>\n</svg>\n",
                 Form::Stl => "endsolid mesh\n",

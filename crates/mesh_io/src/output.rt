@@ -1,5 +1,5 @@
 //! Where a mesh is written to.
-use crate::tasks::Task;
+use crate::Task;
 use anyhow::Context;
 use mesh_files::{Form, MeshText};
 use std::alloc::Global;

@@ -1,5 +1,5 @@
 //! What is told of long work while it goes on, on a terminal alone.
-use crate::tasks::Task;
+use crate::Task;
 use std::io;
 use std::io::{IsTerminal, Read};
 

@@ -4,7 +4,8 @@ use crate::separating::Separated;
 use crate::sniffing::{
     TableForm, foreign_ending, foreign_kind, source_of, table_form, without_mark,
 };
-use crate::tasks::{Question, Source, Task, Way, suffix};
+use crate::tasks::suffix;
+use crate::{Question, Source, Task, Way};
 use anyhow::{Context, anyhow, bail};
 use mesh_files::{
     Asked, ColumnNames, Drawing, FileFault, Moves, Rounding, Scaled, asked_points, most_digits,
@@ -114,7 +115,7 @@ fn read_text<R: Read + Drop>(
     let head = read_head(&mut reader, alloc).context(format_args!("{name}"))?;
     let begun = Begun::of(given, head.as_slice());
     if let Some(kind) = foreign(given, name, head.as_slice()) {
-        bail!("{name}: this is {kind}; GDAL or the Python package makes GeoJSON of it");
+        bail!("{name}: this is {kind}: convert it to GeoJSON by GDAL or the Python package");
     }
     let mark = head
         .len()
@@ -173,7 +174,7 @@ fn tell_open_rings(rt: &impl Eprint, task: &Task<'_>, drawing: &Drawing) -> anyh
         return Ok(());
     };
     if let Rounding::Exact = task.rounding {
-        bail!("{name}: {fault}");
+        bail!("{name}: {fault}: repeat its first point at the end");
     }
     if !task.is_quiet {
         let _ = eprintln!(rt; "mesh: {name}: {fault}, and is closed ({count} such)");
@@ -230,7 +231,9 @@ fn tell_moves(rt: &impl Eprint, task: &Task<'_>, name: &str, moves: &Moves) {
 fn tell_heights(rt: &impl Eprint, task: &Task<'_>, drawing: &Drawing) {
     let count = drawing.cut_heights();
     if count > 0 && !task.is_quiet {
-        let _ = eprintln!(rt; "mesh: {count} heights have more than 18 digits, of which 17 count");
+        let _ = eprintln!(rt;
+            "mesh: {count} heights have more than 18 digits: 17 of these are used"
+        );
     }
 }
 

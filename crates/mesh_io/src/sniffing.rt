@@ -1,5 +1,5 @@
 //! What a text is, by the bytes that it begins with.
-use crate::tasks::Source;
+use crate::Source;
 
 /// How a table is written.
 #[derive(Clone, Copy, PartialEq, Eq)]

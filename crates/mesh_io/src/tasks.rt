@@ -75,7 +75,7 @@ static CHOICES: [Choice; 16] = [
         values: &["FORM"],
         may_be_negative: false,
         rivals: &[],
-        help: "What is read; else what FILE ends in or begins with tells",
+        help: "Reads this form; without it, the ending or the first bytes of FILE decide",
     },
     Choice {
         name: "to",
@@ -87,7 +87,7 @@ static CHOICES: [Choice; 16] = [
         values: &["FORM"],
         may_be_negative: false,
         rivals: &[],
-        help: "What is written; else what the output file ends in tells, or it is obj",
+        help: "Writes this form; without it, the ending of the output file decides, or it is obj",
     },
     Choice {
         name: "output",
@@ -97,7 +97,7 @@ static CHOICES: [Choice; 16] = [
         values: &["FILE"],
         may_be_negative: false,
         rivals: &[],
-        help: "Writes to this file in place of standard output",
+        help: "Writes to this file instead of standard output",
     },
     Choice {
         name: "lines",
@@ -107,7 +107,7 @@ static CHOICES: [Choice; 16] = [
         values: &["FILE"],
         may_be_negative: false,
         rivals: &[],
-        help: "A table of segments beside a table of points: columns from, to",
+        help: "Reads segments from a table of their own, with the columns from and to",
     },
     Choice {
         name: "x",
@@ -117,7 +117,7 @@ static CHOICES: [Choice; 16] = [
         values: &["NAME"],
         may_be_negative: false,
         rivals: &[],
-        help: "The column of x; else x, lon, long, longitude or easting",
+        help: "Names the column of x; else x, lon, long, longitude or easting",
     },
     Choice {
         name: "y",
@@ -127,7 +127,7 @@ static CHOICES: [Choice; 16] = [
         values: &["NAME"],
         may_be_negative: false,
         rivals: &[],
-        help: "The column of y; else y, lat, latitude or northing",
+        help: "Names the column of y; else y, lat, latitude or northing",
     },
     Choice {
         name: "z",
@@ -137,7 +137,7 @@ static CHOICES: [Choice; 16] = [
         values: &["NAME"],
         may_be_negative: false,
         rivals: &[],
-        help: "The column of heights; else z",
+        help: "Names the column of heights; else z",
     },
     Choice {
         name: "nearest",
@@ -147,7 +147,7 @@ static CHOICES: [Choice; 16] = [
         values: &["FILE"],
         may_be_negative: false,
         rivals: &["locate", "line"],
-        help: "Tells which point is nearest to each of a table, and how far it is",
+        help: "Says which point is nearest to each point of a table, and how far away it is",
     },
     Choice {
         name: "locate",
@@ -157,7 +157,7 @@ static CHOICES: [Choice; 16] = [
         values: &["FILE"],
         may_be_negative: false,
         rivals: &["line"],
-        help: "Tells which face, edge or point each of a table is on, and its height",
+        help: "Says which face, edge or point each point of a table is on, and its height",
     },
     Choice {
         name: "line",
@@ -167,7 +167,7 @@ static CHOICES: [Choice; 16] = [
         values: &["X1", "Y1", "X2", "Y2"],
         may_be_negative: true,
         rivals: &[],
-        help: "Tells which edges and points the way between two points meets",
+        help: "Lists the edges and points that the segment between two points meets",
     },
     Choice {
         name: "round",
@@ -177,7 +177,7 @@ static CHOICES: [Choice; 16] = [
         values: &["DIGITS"],
         may_be_negative: false,
         rivals: &[],
-        help: "Rounds to so many digits behind the point; else to as many as fit, if not all do",
+        help: "Rounds to so many digits behind the point; else only if not all fit, to as many as do",
     },
     Choice {
         name: "exact",
@@ -187,7 +187,7 @@ static CHOICES: [Choice; 16] = [
         values: &[],
         may_be_negative: false,
         rivals: &["round"],
-        help: "Refuses what would be rounded",
+        help: "Refuses numbers that would have to be rounded",
     },
     Choice {
         name: "skip-crossing",
@@ -217,7 +217,7 @@ static CHOICES: [Choice; 16] = [
         values: &["PIXELS"],
         may_be_negative: false,
         rivals: &[],
-        help: "How wide a picture is",
+        help: "Makes a picture so wide; else 800",
     },
     Choice {
         name: "quiet",
@@ -227,7 +227,7 @@ static CHOICES: [Choice; 16] = [
         values: &[],
         may_be_negative: false,
         rivals: &[],
-        help: "Tells nothing but errors on standard error",
+        help: "Writes nothing but errors to standard error",
     },
 ];
 
@@ -254,7 +254,9 @@ fn option_of<'a>(choice: &Choice, alloc: Global) -> Result<Arg<'a>, AllocError> 
 /// The words that there are.
 pub fn command<'a>(alloc: Global) -> Result<Command<'a>, AllocError> {
     let about = "Reads points and segments, and writes their constrained Delaunay triangulation.";
-    let file = Arg::new(alloc, "FILE").help("The file that is read; else, or as -, standard input");
+    let file = Arg::new(alloc, "FILE").help(
+        "The file to read; without it, or for -, standard input",
+    );
     let mut command = Command::new(alloc, "mesh")
         .version("0.1.0")
         .about(about)

@@ -2,12 +2,10 @@
 -- Lemmas: left_if_positive, right_if_negative, on_if_zero, side_by_area.
 use Rattle.std.proofs.Common.{◌≡◌, subst, sym, ◌∙◌}
 use Rattle.std.specs.Prelude.{pos, ◌<ℤ◌}
-use Rattle.plane.specs.Fraction.{Point, whole}
-use Rattle.plane.specs.Side.{side, left, right, on}
-use Rattle.plane.specs.Laws.{turn_at, SideIsDeterminant}
-use Rattle.plane.proofs.Bracket.{lift, bracket}
-use Rattle.plane.proofs.BracketIdentities.{bracket-affine}
-use Rattle.plane.proofs.Sides.{left_if, right_if, on_if, if_left, if_right, if_on}
+use Rattle.plane.specs.{left, on, Point, right, side, turn_at, whole}
+use Rattle.plane.specs.Laws.{SideIsDeterminant}
+use Rattle.plane.proofs.{Bracket.bracket, Bracket.lift, BracketIdentities.bracket-affine}
+use Rattle.plane.proofs.Sides.{if_left, if_on, if_right, left_if, on_if, right_if}
 
 -- the bracket is twice the area
 bracket_is_area : (u v p : Point) → bracket (lift u) (lift v) (lift p) ≡ turn_at u v p

@@ -2,12 +2,10 @@
 -- Lemmas: segment_is_averages.
 use Rattle.std.proofs.Common.{◌≡◌, ◌↔◌, [], ◌∷◌, subst}
 use Rattle.std.specs.Prelude.{◌≤ℤ◌, ℤ, pos, ◌<ℤ◌, ◌*ℤ◌, ◌+ℤ◌}
-use Rattle.plane.specs.Fraction.{Fraction, IsNotNegative, OnSegment}
-use Rattle.plane.specs.Laws.{IsAverage, IsAverageOf}
-use Rattle.plane.proofs.IntegerOrder.{mul-pos_ℤ, mul-nonneg_ℤ}
-use Rattle.plane.proofs.Steps.{weak}
-use Rattle.plane.proofs.Solver.{num, ◌⊕◌, ◌⊖◌, ◌⊗◌, ring_in, ring_in_from}
-use Rattle.plane.proofs.Means.{TwoWeights, two_weights, mean_of_two}
+use Rattle.plane.specs.{Fraction, IsNotNegative, Laws.IsAverage, Laws.IsAverageOf, OnSegment}
+use Rattle.plane.proofs.IntegerOrder.{mul-nonneg_ℤ, mul-pos_ℤ}
+use Rattle.plane.proofs.{Means.mean_of_two, Means.two_weights, Means.TwoWeights, Steps.weak}
+use Rattle.plane.proofs.Solver.{◌⊕◌, ◌⊖◌, ◌⊗◌, num, ring_in, ring_in_from}
 
 average_part : (k l a aw b bw p pw : ℤ)
     → p *ℤ ((k +ℤ l) *ℤ (aw *ℤ bw)) ≡ (k *ℤ (a *ℤ bw) +ℤ l *ℤ (b *ℤ aw)) *ℤ pw

@@ -1,11 +1,15 @@
 -- Points of the plane as homogeneous triples, and the bracket of three: their determinant. Over ℤ,
--- and in the ring solver's syntax.
--- Notions: Vec3, lift, vec, Vec3ᵖ, bracketᵖ, vec3, Pointᵖ, points, liftᵖ; bracket.
+-- and in the syntax of the ring solver.
+-- Vec3: (x, y, w), the point (x / w, y / w) where w is positive
+-- lift, vec: a point of the code as a triple; a fraction point as a triple
+-- bracket a b c: the determinant: positive where the three turn left, 0 on a line
+-- Vec3ᵖ, Pointᵖ, bracketᵖ, liftᵖ: the same over polynomials
+-- vec3, points: the shapes of triples and of points of the code, for `ring_over`
 use Prim.Native.Nat.{◌+◌}
 use lib.IntN.{ℤ, pos, ◌+ℤ◌, ◌-ℤ◌, ◌*ℤ◌}
 use mathlib.Core.List.{[], ◌∷◌}
-use Rattle.plane.specs.Fraction.{Point, Fraction}
-use Rattle.plane.proofs.Solver.{Poly, var, num, ◌⊕◌, ◌⊖◌, ◌⊗◌, Shape}
+use Rattle.plane.specs.{Fraction, Point}
+use Rattle.plane.proofs.Solver.{◌⊕◌, ◌⊖◌, ◌⊗◌, num, Poly, Shape, var}
 
 -- (x, y, w): the point (x / w, y / w) where w is positive
 pub record Vec3 : Type 0 where

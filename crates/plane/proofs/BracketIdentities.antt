@@ -1,13 +1,19 @@
 -- The identities of the bracket, each once.
--- Notions: mix, form; bracket-swap, bracket-turn, bracket-same, bracket-outer, bracket-last,
--- bracket-mix, cramer_x, cramer_y, cramer_w, cramer, pluecker, rays, four_terms, passing,
--- passing_x, passing_y, passing_w, bracket-affine, bracket-sum, bracket_at_x, bracket_at_y.
+-- bracket-turn: the bracket stays as its three vectors rotate
+-- bracket-swap: it changes its sign where the first two change places
+-- bracket-same, bracket-last, bracket-outer: it is 0 where the first two are equal, the last two,
+--   the first and the last
+-- bracket-affine: for points of the code, it is the determinant of the differences from the first
+-- bracket-sum: the brackets of the three triangles at d add up to that of the triangle
+-- cramer_x, cramer_y, cramer_w: Cramer's rule for each coordinate of p, by the triple a b c
+-- cramer: Cramer's rule for the bracket of p with s and t
+-- pluecker: the relation between the brackets of five vectors that share the first
 use lib.IntN.{ℤ, pos, ◌+ℤ◌, ◌-ℤ◌, ◌*ℤ◌, neg_ℤ}
 use mathlib.Core.Path.{◌≡◌}
 use mathlib.Core.List.{[], ◌∷◌}
-use Rattle.plane.specs.Fraction.{Point}
-use Rattle.plane.proofs.Solver.{Poly, num, ◌⊕◌, ◌⊖◌, ◌⊗◌, ⊝, ring_over}
-use Rattle.plane.proofs.Bracket.{Vec3, lift, bracket, Vec3ᵖ, bracketᵖ, vec3, points, liftᵖ}
+use Rattle.plane.specs.{Point}
+use Rattle.plane.proofs.Bracket.{bracket, bracketᵖ, lift, liftᵖ, points, Vec3, vec3, Vec3ᵖ}
+use Rattle.plane.proofs.Solver.{◌⊕◌, ◌⊖◌, ◌⊗◌, num, Poly, ring_over, ⊝}
 
 -- ---- antisymmetry
 -- exchanging the first two vectors turns the sign

@@ -11,17 +11,14 @@ use mathlib.Core.Logic.{◌↔◌}
 use mathlib.Core.List.{[], ◌∷◌}
 use native.Mathlib.Omega.{arith}
 use borrow.Author.Differences.{ints}
-use Rattle.plane.specs.Fraction.{Point, Fraction, whole, IsSame}
-use Rattle.plane.specs.Side.{TurnsLeft}
-use Rattle.plane.specs.Circle.{gap, AreEquallyFar, InsideCircle, OnCircle}
-use Rattle.plane.specs.Laws.{squared_way, lifted_determinant}
-use Rattle.plane.proofs.IntegerOrder.{mul-pos_ℤ, pos_of_mul-pos_ℤ, zero_from_ℤ, pos-ne-zero_ℤ}
-use Rattle.plane.proofs.IntegerOrder.{mul_cancel_ℤ}
-use Rattle.plane.proofs.Solver.{Poly, num, ◌⊕◌, ◌⊖◌, ◌⊗◌, ⊝, ring_in, ring_over}
-use Rattle.plane.proofs.Bracket.{Vec3, lift, bracket, Vec3ᵖ, bracketᵖ, vec3, Pointᵖ, points}
-use Rattle.plane.proofs.Bracket.{liftᵖ as wholeᵖ}
-use Rattle.plane.proofs.Centre.{over, lifted, overᵖ, gaps, centre, centre_is_centre, centre_is_only}
-use Rattle.plane.proofs.Centre.{inside_is, scaled_gap}
+use Rattle.plane.specs.{AreEquallyFar, Fraction, gap, InsideCircle, IsSame, lifted_determinant}
+use Rattle.plane.specs.{OnCircle, Point, squared_vector, TurnsLeft, whole}
+use Rattle.plane.proofs.Bracket.{bracket, bracketᵖ, lift, liftᵖ as wholeᵖ, points, Pointᵖ, Vec3}
+use Rattle.plane.proofs.{Bracket.vec3, Bracket.Vec3ᵖ, Centre.over, Centre.overᵖ, Centre.scaled_gap}
+use Rattle.plane.proofs.Centre.{centre, centre_is_centre, centre_is_only, gaps, inside_is, lifted}
+use Rattle.plane.proofs.IntegerOrder.{mul-pos_ℤ, mul_cancel_ℤ, pos-ne-zero_ℤ, pos_of_mul-pos_ℤ}
+use Rattle.plane.proofs.IntegerOrder.{zero_from_ℤ}
+use Rattle.plane.proofs.Solver.{◌⊕◌, ◌⊖◌, ◌⊗◌, num, Poly, ring_in, ring_over, ⊝}
 
 -- the squared length, of a point whose weight is 1
 abbrev pub height : Vec3 → ℤ
@@ -214,8 +211,8 @@ on_is_determinant u v p q turns =
 
 -- read from the first corner
 pub incircle-from_first : (a b c d : Point) → incircle (lift a) (lift b) (lift c) (lift d)
-    ≡ bracket (lift a) (lift d) (lift c) *ℤ squared_way a b +ℤ bracket (lift a) (lift b) (lift d)
-    *ℤ squared_way a c -ℤ bracket (lift a) (lift b) (lift c) *ℤ squared_way a d
+    ≡ bracket (lift a) (lift d) (lift c) *ℤ squared_vector a b +ℤ bracket (lift a) (lift b) (lift d)
+    *ℤ squared_vector a c -ℤ bracket (lift a) (lift b) (lift c) *ℤ squared_vector a d
 unfolding incircle bracket
 incircle-from_first a b c d = ring_over points [] (a ∷ b ∷ c ∷ d ∷ [])
     (λ a b c d. incircleᵖ (wholeᵖ a) (wholeᵖ b) (wholeᵖ c) (wholeᵖ d))

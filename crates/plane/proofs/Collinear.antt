@@ -5,18 +5,16 @@ use Rattle.std.proofs.Common.{◌≡◌, ◌⊎◌, [], ◌∷◌, arith, ap, sy
 use mathlib.Core.Logic.{inl, inr}
 use Rattle.std.specs.Prelude.{ℤ, pos, ◌+ℤ◌, ◌-ℤ◌, ◌*ℤ◌, ◌<ℤ◌, ◌≤ℤ◌}
 use Rattle.std.proofs.lemmas.Int.{ints}
-use Rattle.plane.proofs.Steps.{weak}
-use Rattle.plane.specs.Fraction.{Point, Fraction, whole, IsPositive, WithinSegment}
-use Rattle.plane.proofs.IntegerOrder.{lt_or_ge_ℤ, trichotomy_ℤ, square-nonneg_ℤ, square-pos_ℤ}
-use Rattle.plane.proofs.IntegerOrder.{mul_cancel_ℤ, mul-pos_ℤ, mul-nonneg_ℤ}
-use Rattle.plane.proofs.IntegerOrder.{mul-nonpos_of_nonneg_nonpos_ℤ, pos-ne-zero_ℤ}
-use Rattle.plane.proofs.Solver.{num, ◌⊕◌, ◌⊖◌, ◌⊗◌, ring_over, ring_in, ring_in_from}
-use Rattle.plane.proofs.Bracket.{Vec3, bracket, bracketᵖ, lift, vec, points}
-use Rattle.plane.proofs.BracketIdentities.{form, four_terms}
-use Rattle.plane.proofs.Means.{TwoWeights, mean_of_two}
-use Rattle.plane.proofs.Nudges.{moved}
+use Rattle.plane.specs.{Fraction, IsPositive, Point, whole, WithinSegment}
+use Rattle.plane.proofs.Bracket.{bracket, bracketᵖ, lift, points, vec, Vec3}
+use Rattle.plane.proofs.{BracketIdentities.form, BracketIdentities.four_terms, Nudges.moved}
+use Rattle.plane.proofs.IntegerOrder.{lt_or_ge_ℤ, mul-nonneg_ℤ, mul-nonpos_of_nonneg_nonpos_ℤ}
+use Rattle.plane.proofs.IntegerOrder.{mul-pos_ℤ, mul_cancel_ℤ, pos-ne-zero_ℤ, square-nonneg_ℤ}
+use Rattle.plane.proofs.{IntegerOrder.square-pos_ℤ, IntegerOrder.trichotomy_ℤ, Steps.weak}
+use Rattle.plane.proofs.Means.{mean_of_two, TwoWeights}
 use Rattle.plane.proofs.Signs.{difference_is_positive, difference_not_negative, less_through}
 use Rattle.plane.proofs.Signs.{negative_is_not_zero, positive_is_not_zero, same_after_shift}
+use Rattle.plane.proofs.Solver.{◌⊕◌, ◌⊖◌, ◌⊗◌, num, ring_in, ring_in_from, ring_over}
 
 -- the place of z on the way from u to v
 unfoldable pub place_on : Point → Point → Vec3 → ℤ

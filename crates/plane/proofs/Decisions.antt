@@ -7,18 +7,14 @@ use Rattle.std.proofs.Common.{◌≡◌, ◌⊎◌, ◌↔◌, ℕ, zero, suc, �
 use mathlib.Core.Logic.{inl, inr}
 use Rattle.std.specs.Prelude.{ℤ, pos, ◌<ℤ◌, ◌≤ℤ◌, ◌*ℤ◌, ◌-ℤ◌}
 use Rattle.std.proofs.lemmas.Int.{ints}
-use Rattle.plane.specs.Fraction.{Point, Fraction, IsSame, OnSegment, WithinSegment}
-use Rattle.plane.specs.Side.{Side, left, right, on, side, TurnsLeft}
-use Rattle.plane.specs.Crossing.{MeetsWithin}
-use Rattle.plane.proofs.IntegerOrder.{sign, below, none, above, lt_or_ge_ℤ}
-use Rattle.plane.proofs.Steps.{left_not_zero, right_not_zero, one_number}
-use Rattle.plane.proofs.Bracket.{vec, bracket}
-use Rattle.plane.proofs.Segments.{same_is_no_way, on_of_within, only_point, within_itself, reach}
-use Rattle.plane.proofs.Segments.{on_segment_is, within_segment_is}
-use Rattle.plane.proofs.Meetings.{AreOpposite, AreParted, meets_within_is, meets_at_point}
-use Rattle.plane.proofs.Meetings.{meets_a_point}
-use Rattle.plane.specs.Side.{run, rise}
-use Rattle.plane.proofs.Indexes.{below_or_last}
+use Rattle.plane.specs.{Fraction, IsSame, left, MeetsWithin, on, OnSegment, Point, right, rise, run}
+use Rattle.plane.specs.{Side, side, TurnsLeft, WithinSegment}
+use Rattle.plane.proofs.{Bracket.bracket, Bracket.vec, Meetings.meets_within_is}
+use Rattle.plane.proofs.{Indexes.below_or_last, Segments.within_itself, Segments.within_segment_is}
+use Rattle.plane.proofs.IntegerOrder.{above, below, lt_or_ge_ℤ, none, sign}
+use Rattle.plane.proofs.Meetings.{AreOpposite, AreParted, meets_a_point, meets_at_point}
+use Rattle.plane.proofs.Segments.{on_of_within, on_segment_is, only_point, reach, same_is_no_vector}
+use Rattle.plane.proofs.Steps.{left_not_zero, one_number, right_not_zero}
 
 -- a question with its answer
 abbrev pub Decision : Type 0 → Type 0
@@ -106,7 +102,8 @@ decide_parted a b =
 -- two fraction points are one, or not
 decide_same : (p q : Fraction) → Decision (IsSame p q)
 decide_same p q =
-    decided_by (same_is_no_way p q) (decide_both (decide_zero (run p q)) (decide_zero (rise p q)))
+    decided_by (same_is_no_vector p q) (decide_both (decide_zero (run p q))
+    (decide_zero (rise p q)))
 
 -- of the code
 pub decide_point : (p q : Point) → Decision (p ≡ q)

@@ -4,15 +4,13 @@
 use Rattle.std.proofs.Common.{◌≡◌, ◌⊎◌, ℕ, suc, ◌<◌, sym, ap, ◌∙◌, subst}
 use mathlib.Core.Logic.{inl, inr, ◌≢◌}
 use Rattle.std.specs.Prelude.{pos, ◌*ℤ◌, ◌≤ℤ◌, ◌<ℤ◌}
-use Rattle.plane.specs.Fraction.{Point}
-use Rattle.plane.proofs.IntegerOrder.{zero-mul_ℤ, zero_of_mul-zero_ℤ, pos-ne-zero_ℤ}
-use Rattle.plane.proofs.Steps.{three_zero, no_difference}
-use Rattle.plane.proofs.Indexes.{below_or_last}
-use Rattle.plane.proofs.Nudges.{Nudged, nudged_zero, nudged_not_left, nudge_pairs, moved}
-use Rattle.plane.proofs.Nudges.{moved_positive, bracket-moved}
-use Rattle.plane.proofs.Bracket.{Vec3, bracket, lift}
-use Rattle.plane.proofs.BracketIdentities.{bracket-turn, bracket-outer, bracket-last, cramer}
-use Rattle.plane.proofs.BracketIdentities.{bracket_at_x, bracket_at_y}
+use Rattle.plane.proofs.{Bracket.bracket, Bracket.lift, Bracket.Vec3, Indexes.below_or_last}
+use Rattle.plane.proofs.BracketIdentities.{bracket-last, bracket-outer, bracket-turn, bracket_at_x}
+use Rattle.plane.proofs.BracketIdentities.{bracket_at_y, cramer}
+use Rattle.plane.proofs.IntegerOrder.{pos-ne-zero_ℤ, zero-mul_ℤ, zero_of_mul-zero_ℤ}
+use Rattle.plane.proofs.Nudges.{bracket-moved, moved, moved_positive, nudge_pairs, Nudged}
+use Rattle.{plane.proofs.Nudges.nudged_not_left, plane.proofs.Nudges.nudged_zero, plane.specs.Point}
+use Rattle.plane.proofs.Steps.{no_difference, three_zero}
 
 -- q is strictly inside a b c
 pub record Inside (a b c q : Vec3) : Type 0 where

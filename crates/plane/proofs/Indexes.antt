@@ -1,11 +1,17 @@
 -- Small facts of indexes, of pairs of indexes and of lists of them.
--- Notions: IsTurned; below_or_last, less_or_more, one_below, one_more_than_last, at_most_last,
--- next_sum, no_pairs, pair_turned, turned_join, same_joined, turns_of_one, cases_turned.
+-- below_or_last: an index below n + 1 is below n, or n
+-- less_or_more: of two different indexes one is less
+-- one_more_than_last, at_most_last: an index v below n, so n = (n - 1) + 1; so v is at most n - 1
+-- turned_join: a listed pair is listed with its ends exchanged
+-- same_joined: what has the ends of a listed pair is listed
+-- pair_turned: `IsSamePair` holds with one pair turned
+-- IsTurned i j k a b c: a b c is a rotation of i j k
+-- turns_of_one: two rotations of one triple are rotations of each other
 use Rattle.std.proofs.Common.{◌≡◌, ◌≢◌, ◌⊎◌, ◌+◌, ◌-◌, ◌<◌, ◌≤◌, [], ◌∙◌}
 use Rattle.std.proofs.Common.{ℕ, suc, List, sym, subst, arith}
 use mathlib.Core.Logic.{inl, inr}
 use Rattle.std.specs.Prelude.{AllPairs}
-use Rattle.plane.specs.Pairs.{Joins, IsSamePair}
+use Rattle.plane.specs.{IsSamePair, Joins}
 
 -- ---- indexes
 -- an index below n + 1 is below n, or n

@@ -2,12 +2,10 @@
 -- Lemmas: vertex_first, overlap_first.
 use Rattle.std.proofs.Common.{refl}
 use mathlib.Core.Logic.{inl, inr}
-use Rattle.plane.specs.Fraction.{OnSegment}
-use Rattle.plane.specs.Tiling.{vertex}
-use Rattle.plane.specs.Line.{at_vertex, along, BeginsAt, IsBefore}
+use Rattle.plane.specs.{along, at_vertex, BeginsAt, IsBefore, OnSegment, vertex}
 use Rattle.plane.specs.SmallCases.{two}
-use Rattle.plane.proofs.Segments.{start_on_segment, end_on_segment}
 use Rattle.plane.proofs.Nearer.{nothing_nearer, same_not_nearer}
+use Rattle.plane.proofs.Segments.{end_on_segment, start_on_segment}
 
 start : OnSegment (vertex two 0) (vertex two 1) (vertex two 0)
 start = start_on_segment (vertex two 0) (vertex two 1)

@@ -8,18 +8,17 @@ use mathlib.Core.Logic.{inl, inr}
 use Rattle.std.specs.Prelude.{ℤ, pos, ◌+ℤ◌, ◌-ℤ◌, ◌*ℤ◌, ◌<ℤ◌}
 use Rattle.std.proofs.lemmas.Int.{ints}
 use lib.IntN.{*ℤ_comm}
-use Rattle.plane.specs.Fraction.{Point, Fraction, whole, IsSame, IsPositive, WithinSegment}
-use Rattle.plane.proofs.IntegerOrder.{mul-pos_ℤ, mul-neg_of_pos_neg_ℤ, pos_of_mul-pos_ℤ}
-use Rattle.plane.proofs.IntegerOrder.{neg_of_mul-neg_ℤ, trichotomy_ℤ, zero-mul_ℤ}
-use Rattle.plane.proofs.IntegerOrder.{zero_of_mul-zero_ℤ, pos-ne-zero_ℤ, mul_cancel_ℤ}
-use Rattle.plane.proofs.Solver.{num, ◌⊕◌, ◌⊖◌, ◌⊗◌, ring_in_from}
-use Rattle.plane.proofs.Means.{TwoWeights, two_weights, mean_of_two, turned_mean_of_two}
+use Rattle.plane.specs.{Fraction, IsPositive, IsSame, Point, whole, WithinSegment}
 use Rattle.plane.proofs.Bracket.{bracket, lift, vec}
-use Rattle.plane.proofs.BracketIdentities.{bracket-outer, bracket-last}
-use Rattle.plane.proofs.Collinear.{place_on, place_of_start, place_of_end, within_by_places}
-use Rattle.plane.proofs.Collinear.{same_by_places, same_ends, mean_place, line_x, line_y}
-use Rattle.plane.proofs.Signs.{less_by_difference, sum_is_positive}
-use Rattle.plane.proofs.Steps.{one_number}
+use Rattle.plane.proofs.BracketIdentities.{bracket-last, bracket-outer}
+use Rattle.plane.proofs.Collinear.{line_x, line_y, mean_place, place_of_end, place_of_start}
+use Rattle.plane.proofs.Collinear.{place_on, same_by_places, same_ends, within_by_places}
+use Rattle.plane.proofs.IntegerOrder.{mul-neg_of_pos_neg_ℤ, mul-pos_ℤ, mul_cancel_ℤ}
+use Rattle.plane.proofs.IntegerOrder.{neg_of_mul-neg_ℤ, pos-ne-zero_ℤ, pos_of_mul-pos_ℤ}
+use Rattle.plane.proofs.IntegerOrder.{trichotomy_ℤ, zero-mul_ℤ, zero_of_mul-zero_ℤ}
+use Rattle.plane.proofs.Means.{mean_of_two, turned_mean_of_two, two_weights, TwoWeights}
+use Rattle.plane.proofs.{Signs.less_by_difference, Signs.sum_is_positive, Steps.one_number}
+use Rattle.plane.proofs.Solver.{◌⊕◌, ◌⊖◌, ◌⊗◌, num, ring_in_from}
 
 -- z is strictly between x and y
 abbrev pub IsBetween : ℤ → ℤ → ℤ → Type 0

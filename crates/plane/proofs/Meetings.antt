@@ -6,29 +6,24 @@ use Rattle.std.proofs.Common.{◌≡◌, ◌⊎◌, ◌↔◌, ℕ, zero, suc, [
 use mathlib.Core.Logic.{inl, inr}
 use Rattle.std.specs.Prelude.{ℤ, pos, neg_ℤ, ◌<ℤ◌, ◌≤ℤ◌, ◌*ℤ◌, ◌+ℤ◌, ◌-ℤ◌}
 use Rattle.std.proofs.lemmas.Int.{ints}
-use Rattle.plane.specs.Fraction.{Fraction, IsSame, IsNotNegative, IsPositive, OnSegment}
-use Rattle.plane.specs.Fraction.{WithinSegment}
-use Rattle.plane.specs.Crossing.{MeetAt, MeetsWithin, Cross}
-use Rattle.plane.specs.Laws.{Parts}
-use Rattle.plane.proofs.IntegerOrder.{Sign, sign, below, none, above, mul-pos_ℤ, mul-nonneg_ℤ}
-use Rattle.plane.proofs.IntegerOrder.{mul-neg_of_pos_neg_ℤ, zero-mul_ℤ, zero_of_mul-zero_ℤ}
-use Rattle.plane.proofs.IntegerOrder.{pos-ne-zero_ℤ}
-use Rattle.plane.proofs.Steps.{weak, left_not_zero, right_not_zero, one_number}
-use Rattle.plane.proofs.Solver.{num, ◌⊕◌, ◌⊖◌, ◌⊗◌, ⊝, ring_in_from, ring_over}
-use Rattle.plane.proofs.Bracket.{Vec3, vec, bracket, bracketᵖ, vec3}
-use Rattle.plane.proofs.BracketIdentities.{bracket-swap}
-use Rattle.plane.proofs.Means.{TwoWeights, two_weights, mean_of_two, turned_mean_of_two}
-use Rattle.plane.proofs.Means.{bracket_of_two}
-use Rattle.plane.proofs.Sides.{left_if, right_if, if_left, if_right}
+use Rattle.plane.specs.{Cross, Fraction, IsNotNegative, IsPositive, IsSame, MeetsWithin, OnSegment}
+use Rattle.plane.specs.{Crossing.MeetAt, Parts, WithinSegment}
+use Rattle.plane.proofs.Bracket.{bracket, bracketᵖ, vec, Vec3, vec3}
+use Rattle.plane.proofs.{BracketIdentities.bracket-swap, Segments.within_segment-same}
+use Rattle.plane.proofs.{IntegerLaws.neg-mul_ℤ, IntegerLaws.one-*ℤ, IntegerOrder.zero_of_mul-zero_ℤ}
+use Rattle.plane.proofs.IntegerOrder.{above, below, mul-neg_of_pos_neg_ℤ, mul-nonneg_ℤ, mul-pos_ℤ}
+use Rattle.plane.proofs.IntegerOrder.{none, pos-ne-zero_ℤ, Sign, sign, zero-mul_ℤ}
 use Rattle.plane.proofs.Lines.{bracket_of_line, left_of_two, right_of_two}
-use Rattle.plane.proofs.Segments.{line_weights, IsWhole, same-refl, same-sym, same-trans}
-use Rattle.plane.proofs.Segments.{on_of_within, on_segment-same, within_segment-same}
-use Rattle.plane.proofs.Segments.{start_on_segment, only_point, within_itself}
-use Rattle.plane.proofs.Nudges.{nudge_each}
+use Rattle.plane.proofs.Means.{bracket_of_two, mean_of_two, turned_mean_of_two, two_weights}
+use Rattle.plane.proofs.{Means.TwoWeights, Nudges.nudge_each}
+use Rattle.plane.proofs.Segments.{IsWhole, line_weights, on_of_within, on_segment-same, only_point}
+use Rattle.plane.proofs.Segments.{same-refl, same-sym, same-trans, start_on_segment, within_itself}
+use Rattle.plane.proofs.Sides.{if_left, if_right, left_if, right_if}
 use Rattle.plane.proofs.Signs.{negation_is_positive, negation_not_negative}
 use Rattle.plane.proofs.Signs.{negative_is_not_positive, opposite_of_zero, sum_is_positive}
 use Rattle.plane.proofs.Signs.{sum_not_negative, zero_is_not_negative, zero_is_not_positive}
-use Rattle.plane.proofs.IntegerLaws.{neg-mul_ℤ, one-*ℤ}
+use Rattle.plane.proofs.Solver.{◌⊕◌, ◌⊖◌, ◌⊗◌, num, ring_in_from, ring_over, ⊝}
+use Rattle.plane.proofs.Steps.{left_not_zero, one_number, right_not_zero, weak}
 
 -- one is left and the other right
 abbrev pub AreOpposite : ℤ → ℤ → Type 0

@@ -5,14 +5,11 @@ use Rattle.std.proofs.Common.{◌≡◌, [], ◌∷◌, arith, ◌∙◌}
 use Rattle.std.specs.Prelude.{ℤ, pos, ◌<ℤ◌, ◌≤ℤ◌, ◌*ℤ◌, ◌-ℤ◌}
 use Rattle.std.proofs.lemmas.Int.{ints}
 use lib.IntN.{*ℤ_comm}
-use Rattle.plane.proofs.Solver.{num, ◌⊕◌, ◌⊖◌, ◌⊗◌, ring_in, ring_in_from}
-use Rattle.plane.proofs.IntegerOrder.{mul-nonneg_ℤ, square-nonneg_ℤ}
-use Rattle.plane.proofs.Steps.{product_zero_left}
+use Rattle.plane.specs.{Fraction, gap, IsNearer, IsSame, rise, run}
 use Rattle.plane.proofs.Centre.{squares_same}
-use Rattle.plane.specs.Fraction.{Fraction, IsSame}
-use Rattle.plane.specs.Side.{run, rise}
-use Rattle.plane.specs.Circle.{gap, IsNearer}
-use Rattle.plane.proofs.Signs.{less_is_not_same, sum_not_negative}
+use Rattle.plane.proofs.IntegerOrder.{mul-nonneg_ℤ, square-nonneg_ℤ}
+use Rattle.plane.proofs.{Signs.less_is_not_same, Signs.sum_not_negative, Steps.product_zero_left}
+use Rattle.plane.proofs.Solver.{◌⊕◌, ◌⊖◌, ◌⊗◌, num, ring_in, ring_in_from}
 
 -- no distance from a point to itself
 pub gap_of_none : (p : Fraction) → gap p p ≡ pos 0
@@ -33,9 +30,9 @@ nothing_nearer p r h = clash (gap p r *ℤ (p.w *ℤ p.w)) (gap p p *ℤ (r.w *�
     (mul-nonneg_ℤ (gap_not_negative p r) (square-nonneg_ℤ p.w))
     (product_zero_left (r.w *ℤ r.w) (gap_of_none p))
 
-way_same : (r w q w' p pw : ℤ) → r *ℤ w' ≡ q *ℤ w
+vector_same : (r w q w' p pw : ℤ) → r *ℤ w' ≡ q *ℤ w
     → (r *ℤ pw -ℤ p *ℤ w) *ℤ w' ≡ (q *ℤ pw -ℤ p *ℤ w') *ℤ w
-way_same r w q w' p pw e =
+vector_same r w q w' p pw e =
     ring_in_from (r ∷ w ∷ q ∷ w' ∷ p ∷ pw ∷ []) (λ r w q w' p pw. (r ⊗ pw ⊖ p ⊗ w) ⊗ w')
     (λ r w q w' p pw. (q ⊗ pw ⊖ p ⊗ w') ⊗ w) (λ r w q w' p pw. (pw, r ⊗ w', q ⊗ w) ∷ []) (e, tt) tt
 
@@ -44,5 +41,5 @@ pub same_not_nearer : (p r q : Fraction) → IsSame r q → ¬ IsNearer p r q
 same_not_nearer p r q e h =
     less_is_not_same (gap p r *ℤ (q.w *ℤ q.w)) (gap p q *ℤ (r.w *ℤ r.w)) h.nearer
     (*ℤ_comm (gap p r) (q.w *ℤ q.w) ∙ squares_same (run p r) (rise p r) r.w (run p q) (rise p q) q.w
-    (way_same r.x r.w q.x q.w p.x p.w e.x) (way_same r.y r.w q.y q.w p.y p.w e.y)
+    (vector_same r.x r.w q.x q.w p.x p.w e.x) (vector_same r.y r.w q.y q.w p.y p.w e.y)
     ∙ *ℤ_comm (r.w *ℤ r.w) (gap p q))

@@ -1,35 +1,37 @@
--- Points of a segment: by the bracket, and by how far they are on the way from one end to the
--- other.
--- Notions: runᵖ, riseᵖ, reachᵖ, IsWhole; same_is_no_way, same-refl, same-sym, same-trans,
--- on_segment-same, within_segment-same, on_of_within, start_part, start_on_segment,
--- end_on_segment, only_point, within_itself, reach, reach-start, reach-end, reach_of_two,
--- weights_x, weights_y, weights_w, line_weights, on_segment_is, within_segment_is.
+-- Points of a segment, by the bracket and by how far they are from one end towards the other.
+-- same-refl, same-sym, same-trans: `IsSame` is an equivalence
+-- on_segment-same, within_segment-same: a point equal to one of a segment is one of it
+-- start_on_segment, end_on_segment: the ends are on their segment
+-- on_of_within: strictly within a segment, so on it
+-- only_point, within_itself: a segment with equal ends has one point, and that one is within it
+-- reach u v z: how far z is from u towards v: 0 at u, and growing towards v
+-- reach-start, reach-end: the reach of u is 0; that of v is positive where u and v differ
+-- reach_of_two: the reach of a mean is the mean of the reaches
+-- on_segment_is, within_segment_is: on a segment with different ends, or strictly within it, are
+--   the points with bracket 0 and a reach between those of the ends
 use Rattle.std.proofs.Common.{◌≡◌, ◌↔◌, [], ◌∷◌, refl, arith, sym, subst}
 use mathlib.Core.Logic.{inl}
 use Rattle.std.specs.Prelude.{ℤ, pos, ◌<ℤ◌, ◌≤ℤ◌, ◌*ℤ◌, ◌+ℤ◌, ◌-ℤ◌}
 use Rattle.std.proofs.lemmas.Int.{ints}
-use Rattle.plane.specs.Fraction.{Fraction, IsSame, IsNotNegative, IsPositive, OnSegment}
-use Rattle.plane.specs.Fraction.{WithinSegment}
-use Rattle.plane.specs.Side.{run, rise}
-use Rattle.plane.proofs.IntegerOrder.{Sign, sign, below, none, above, mul-pos_ℤ, mul-nonneg_ℤ}
-use Rattle.plane.proofs.IntegerOrder.{square-nonneg_ℤ, square-pos_ℤ, zero-mul_ℤ, zero_of_mul-zero_ℤ}
-use Rattle.plane.proofs.IntegerOrder.{pos-ne-zero_ℤ, pos_of_mul-pos_ℤ, nonneg_of_mul-nonneg_ℤ}
-use Rattle.plane.proofs.Steps.{weak, one_number}
-use Rattle.plane.proofs.Solver.{◌⊕◌, ◌⊖◌, ◌⊗◌}
-use Rattle.plane.proofs.Solver.{Poly, num, ring_in, ring_in_from, ring_over, ring_over_from}
-use Rattle.plane.proofs.Bracket.{vec, bracket, Vec3ᵖ, bracketᵖ, vec3}
-use Rattle.plane.proofs.Means.{TwoWeights, two_weights, mean_of_two, weak_two}
-use Rattle.plane.proofs.Lines.{bracket_of_line}
+use Rattle.plane.specs.{Fraction, IsNotNegative, IsPositive, IsSame, OnSegment, rise, run}
+use Rattle.plane.specs.{WithinSegment}
+use Rattle.plane.proofs.Bracket.{bracket, bracketᵖ, vec, vec3, Vec3ᵖ}
+use Rattle.plane.proofs.IntegerOrder.{above, below, mul-nonneg_ℤ, mul-pos_ℤ, none}
+use Rattle.plane.proofs.IntegerOrder.{nonneg_of_mul-nonneg_ℤ, pos-ne-zero_ℤ, pos_of_mul-pos_ℤ, Sign}
+use Rattle.plane.proofs.IntegerOrder.{sign, square-nonneg_ℤ, square-pos_ℤ, zero-mul_ℤ}
+use Rattle.plane.proofs.{IntegerOrder.zero_of_mul-zero_ℤ, Signs.positive_plus_not_negative}
+use Rattle.plane.proofs.{Lines.bracket_of_line, Solver.ring_over_from, Steps.one_number, Steps.weak}
+use Rattle.plane.proofs.Means.{mean_of_two, two_weights, TwoWeights, weak_two}
 use Rattle.plane.proofs.Signs.{negative_is_not_zero, not_negative_plus_positive}
-use Rattle.plane.proofs.Signs.{positive_plus_not_negative}
+use Rattle.plane.proofs.Solver.{◌⊕◌, ◌⊖◌, ◌⊗◌, num, Poly, ring_in, ring_in_from, ring_over}
 
 -- ---- one and the same point
 difference_zero : (a b : ℤ) → a ≡ b → b -ℤ a ≡ pos 0
 difference_zero a b e = omega (arith, ints)
 
 -- the run and the rise between two points are 0
-pub same_is_no_way : (p q : Fraction) → IsSame p q ↔ ((run p q ≡ pos 0) × (rise p q ≡ pos 0))
-same_is_no_way p q = (
+pub same_is_no_vector : (p q : Fraction) → IsSame p q ↔ ((run p q ≡ pos 0) × (rise p q ≡ pos 0))
+same_is_no_vector p q = (
   (λ e. (
     difference_zero (p.x *ℤ q.w) (q.x *ℤ p.w) e.x,
     difference_zero (p.y *ℤ q.w) (q.y *ℤ p.w) e.y,
@@ -229,7 +231,7 @@ reach-end u v n = go (sign (run u v)) (sign (rise u v))
     go (above h) s = by_run (pos-ne-zero_ℤ h)
     go (none h) (below k) = by_rise (negative_is_not_zero (rise u v) k)
     go (none h) (above k) = by_rise (pos-ne-zero_ℤ k)
-    go (none h) (none k) = absurd (n ((same_is_no_way u v).1 (h, k)))
+    go (none h) (none k) = absurd (n ((same_is_no_vector u v).1 (h, k)))
 
 -- of a mean
 pub reach_of_two : (A : ℤ → Type 0) (u v a b p : Fraction) (t : TwoWeights A a b p)

@@ -7,14 +7,11 @@ use mathlib.Core.Bool.{Bool, true, false, not, ◌&&◌}
 use lib.Dec.{T}
 use lib.Signed.{lt_z}
 use Rattle.std.specs.Prelude.{ℤ, pos, negsuc, ◌<ℤ◌}
-use Rattle.plane.specs.Fraction.{Point, whole}
-use Rattle.plane.specs.Side.{side, on, TurnsLeft}
-use Rattle.plane.specs.Laws.{turn_at, lifted_determinant}
-use Rattle.plane.specs.Sheets.{Line, site, member, is_corner, Answer, SitesHold, TriplesHold}
-use Rattle.plane.specs.Sheets.{TableHolds, TurnLeft, AreOn, grid, grid_table, grid_lines, five}
-use Rattle.plane.specs.Sheets.{seven, five_table, left_of_seven, lines_of_seven}
-use Rattle.plane.proofs.BracketIdentities.{bracket-affine}
-use Rattle.plane.proofs.Sides.{left_if, on_if}
+use Rattle.plane.specs.{lifted_determinant, on, Point, side, turn_at, TurnsLeft, whole}
+use Rattle.plane.specs.Sheets.{Answer, AreOn, five, five_table, grid, grid_lines, grid_table}
+use Rattle.plane.specs.Sheets.{is_corner, left_of_seven, Line, lines_of_seven, member, seven, site}
+use Rattle.plane.specs.Sheets.{SitesHold, TableHolds, TriplesHold, TurnLeft}
+use Rattle.plane.proofs.{BracketIdentities.bracket-affine, Sides.left_if, Sides.on_if}
 use Rattle.plane.proofs.Circles.{inside_is_determinant, on_is_determinant}
 use Rattle.plane.proofs.Solver.{and_l, and_r}
 

@@ -1,11 +1,16 @@
 -- What is proved of the definitions of segment, triangle, crossing, side and circle: that they are
 -- the usual ones.
+-- DefinitionsAreUsual: all the laws of this file
+-- turn_at q u v: twice the signed area of the triangle q u v
+-- squared_vector q p: the squared distance of p and q
+-- lifted_determinant u v p q: the determinant of the circle test
+-- Parts s t u v: u and v are strictly on different sides of the line from s to t
+-- IsAverageOf a b p: p is a weighted average of a and b, under weights not negative and not both 0
 use Rattle.std.specs.Prelude.{◌≡◌, ◌⊎◌, ◌↔◌, ℤ, pos, ◌+ℤ◌, ◌-ℤ◌, ◌*ℤ◌, ◌<ℤ◌, ◌≤ℤ◌}
-use Rattle.plane.specs.Fraction.{Point, Fraction, whole, IsSame, OnSegment, InTriangle}
-use Rattle.plane.specs.Fraction.{InsideTriangle}
-use Rattle.plane.specs.Side.{side, left, right, on, IsSide, TurnsLeft}
-use Rattle.plane.specs.Circle.{IsCentre, InsideCircle, OnCircle}
+use Rattle.plane.specs.{Circle.InsideCircle, Circle.IsCentre, Circle.OnCircle, Fractions.whole}
 use Rattle.plane.specs.Crossing.{Cross}
+use Rattle.plane.specs.Fractions.{Fraction, InsideTriangle, InTriangle, IsSame, OnSegment, Point}
+use Rattle.plane.specs.Sides.{IsSide, left, on, right, side, TurnsLeft}
 
 -- p is (k a + l b) / (k + l), by cross products
 pub record IsAverage (k l : ℤ) (a b p : Fraction) : Type 0 where
@@ -53,12 +58,12 @@ TripleHasOneCentre = (u v p : Point) → TurnsLeft (whole u) (whole v) (whole p)
     → (c : Fraction) × IsCentre (whole u) (whole v) (whole p) c
     × ((d : Fraction) → IsCentre (whole u) (whole v) (whole p) d → IsSame d c)
 
--- the squared length of the way from q to p, and twice the signed area of the ways from q to u and
+-- the squared length of the vector from q to p, and twice the signed area of those from q to u and
 -- to v
-abbrev pub squared_way : Point → Point → ℤ
-squared_way q p = (p.x -ℤ q.x) *ℤ (p.x -ℤ q.x) +ℤ (p.y -ℤ q.y) *ℤ (p.y -ℤ q.y)
+abbrev pub squared_vector : Point → Point → ℤ
+squared_vector q p = (p.x -ℤ q.x) *ℤ (p.x -ℤ q.x) +ℤ (p.y -ℤ q.y) *ℤ (p.y -ℤ q.y)
 
--- twice the signed area of the ways from q to u and from q to v
+-- twice the signed area of the vectors from q to u and from q to v
 abbrev pub turn_at : Point → Point → Point → ℤ
 turn_at q u v = (u.x -ℤ q.x) *ℤ (v.y -ℤ q.y) -ℤ (u.y -ℤ q.y) *ℤ (v.x -ℤ q.x)
 
@@ -70,11 +75,12 @@ SideIsDeterminant = (u v p : Point)
     × ((side (whole u) (whole v) (whole p) ≡ right) ↔ (turn_at u v p <ℤ pos 0))
     × ((side (whole u) (whole v) (whole p) ≡ on) ↔ (turn_at u v p ≡ pos 0))
 
--- the determinant of three rows: for each of u, v and p its way from q, x and y, and the way's
+-- the determinant of three rows: for each of u, v and p its vector from q, x and y, and that vector's
 -- squared length
 abbrev pub lifted_determinant : Point → Point → Point → Point → ℤ
-lifted_determinant u v p q = squared_way q u *ℤ turn_at q v p +ℤ squared_way q v *ℤ turn_at q p u
-    +ℤ squared_way q p *ℤ turn_at q u v
+lifted_determinant u v p q = squared_vector q u *ℤ turn_at q v p +ℤ squared_vector q v *ℤ turn_at q
+    p u
+    +ℤ squared_vector q p *ℤ turn_at q u v
 
 -- a point is inside the circle exactly if the determinant is positive, and carried exactly if it is
 -- 0

@@ -3,9 +3,8 @@
 use Rattle.std.specs.Prelude.{◌≡◌, [], ◌∷◌, ◌*ℤ◌, ◌||◌}
 use Rattle.std.specs.Prelude.{ℕ, suc, List, ℤ, pos, negsuc, Bool, true, false, slice_index_or}
 use lib.Dec.{eqb}
-use Rattle.plane.specs.Fraction.{Point, whole}
-use Rattle.plane.specs.Side.{side, on, TurnsLeft}
-use Rattle.plane.specs.Circle.{InsideCircle, OnCircle}
+use Rattle.plane.specs.{Circle.InsideCircle, Circle.OnCircle, Sides.on, Sides.side, Sides.TurnsLeft}
+use Rattle.plane.specs.Fractions.{Point, whole}
 
 -- a point by its coordinates
 abbrev pub point : ℤ → ℤ → Point

@@ -1,16 +1,13 @@
 -- The definitions at work on a few points: what must hold of them if they mean what they should.
 use Rattle.std.specs.Prelude.{ℕ, List, [], ◌∷◌, ℤ, pos, negsuc}
-use Rattle.plane.specs.Fraction.{Point, Fraction, whole}
-use Rattle.plane.specs.Circle.{InsideCircle}
-use Rattle.plane.specs.Crossing.{Cross}
-use Rattle.plane.specs.Tiling.{Triangulation, face, vertex, JoinsLine, IsTiling}
+use Rattle.plane.specs.{Circle.InsideCircle, Fractions.Fraction, Fractions.Point, Fractions.whole}
+use Rattle.plane.specs.{Crossing.Cross, PlainEdits.Appends, PlainEdits.Plain, PlainEdits.Removes}
 use Rattle.plane.specs.Delaunay.{IsConstrainedDelaunay}
-use Rattle.plane.specs.Location.{no_triangulation, on_edge, outside_hull, IsLocation}
-use Rattle.plane.specs.Line.{at_vertex, across, along, Meets, IsBefore}
-use Rattle.plane.specs.Plain.{Plain, Appends, Removes}
-use Rattle.plane.specs.Sheets.{point, grid, five, seven, grid_table, grid_lines, five_table}
-use Rattle.plane.specs.Sheets.{left_of_seven}
-use Rattle.plane.specs.Sheets.{lines_of_seven, TableHolds, TurnLeft, AreOn}
+use Rattle.plane.specs.Line.{across, along, at_vertex, IsBefore, Meets}
+use Rattle.plane.specs.Locations.{IsLocation, no_triangulation, on_edge, outside_hull}
+use Rattle.plane.specs.Sheets.{AreOn, five, five_table, grid, grid_lines, grid_table, left_of_seven}
+use Rattle.plane.specs.Sheets.{lines_of_seven, point, seven, TableHolds, TurnLeft}
+use Rattle.plane.specs.Tiling.{face, IsTiling, JoinsLine, Triangulation, vertex}
 
 -- a point of whole coordinates
 abbrev pub at : ℤ → ℤ → Fraction

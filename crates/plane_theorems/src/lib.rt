@@ -1,13 +1,13 @@
-//! Theorems of the plane: tilings, edits, Delaunay triangulations, segments, lines of sight and parts.
+//! Theorems of the plane: tilings, edits, Delaunay triangulations, segments, lines of sight,
+//! chains of positions in sight of each other, and parts.
 //! The functions are laws: each holds by its contract and does nothing.
 #![tactic(auto)]
 
-ghost use Rattle.plane_theorems.specs.Tiling.Theorems.{TilingTheorems};
-ghost use Rattle.plane_theorems.specs.Edits.Theorems.{EditTheorems};
 ghost use Rattle.plane_theorems.specs.Delaunay.Theorems.{DelaunayTheorems};
+ghost use Rattle.plane_theorems.specs.{Edits.Theorems.EditTheorems, Tiling.Theorems.TilingTheorems};
+ghost use Rattle.plane_theorems.specs.{Parts.Theorems.PartTheorems, Sight.Theorems.SightTheorems};
 ghost use Rattle.plane_theorems.specs.Segments.Theorems.{SegmentTheorems};
-ghost use Rattle.plane_theorems.specs.Sight.Theorems.{SightTheorems};
-ghost use Rattle.plane_theorems.specs.Parts.Theorems.{PartTheorems};
+ghost use Rattle.plane_theorems.specs.Ways.Theorems.{WayTheorems};
 
 /// Theorems: from a local mesh invariant to the tiling of the hull.
 pub fn tilings_hold()
@@ -32,6 +32,12 @@ pub fn segments_hold()
 /// Theorems: lines of sight over free faces.
 pub fn sight_holds()
     ensures { SightTheorems }
+{}
+
+/// Theorems: a chain of positions through free faces joins two positions exactly where sides of free
+/// faces lead from a corner at one to a corner at the other.
+pub fn ways_hold()
+    ensures { WayTheorems }
 {}
 
 /// Theorems: which faces of a part of the points and constraints are faces of the whole, and what

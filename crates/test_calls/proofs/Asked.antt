@@ -3,11 +3,8 @@
 use Rattle.std.proofs.Common.{◌≡◌, ◌∷◌, [], subst}
 use Rattle.std.specs.Prelude.{All}
 use Rattle.std.proofs.lemmas.List.Elements.{All-cons, All-nil}
-use Rattle.delaunay_interface.specs.plane.Fraction.{Point}
-use Rattle.delaunay_interface.specs.plane.Shape.{InClosedRectangle}
-use Rattle.delaunay_interface.specs.plane.Tests.{InRange}
-use Rattle.delaunay_shapes.specs.Start.{HasStartAt}
-use Rattle.delaunay_shapes.specs.Tests.{corners}
+use Rattle.plane.specs.{InClosedRectangle, InRange, Point}
+use Rattle.delaunay_shapes.specs.{corners, HasStartAt}
 use Rattle.delaunay_shapes.proofs.Shapes.{rectangle_begins}
 
 -- a rectangle's search begins at its lower corner

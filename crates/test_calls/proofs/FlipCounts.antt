@@ -1,2 +1,2 @@
 -- The flips of insertions fit in a count of 64 bits.
-pub use Rattle.delaunay_interface.proofs.delaunay_legalization_lemmas.Flips.{counted_flips}
+pub use Rattle.delaunay_legalization.proofs.Flips.{counted_flips}

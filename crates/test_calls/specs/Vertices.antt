@@ -1,7 +1,6 @@
 -- The vertices of the tests.
-use Rattle.delaunay_interface.specs.plane.Fraction.{Point}
-use Rattle.delaunay_interface.specs.delaunay_core.Place.{place_of}
-use Rattle.test_calls.specs.declared.vertices.TaggedVertex.{TaggedVertex}
+use Rattle.{plane.specs.Point, test_calls.specs.declared.vertices.TaggedVertex.TaggedVertex}
+use Rattle.delaunay_core.specs.{place_of}
 
 -- the position of a vertex of the tests
 abbrev pub position_of : TaggedVertex → Point

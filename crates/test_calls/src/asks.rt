@@ -1,18 +1,17 @@
 //! How often a search asks a shape of its own.
 ghost use Rattle.std.specs.Prelude.{All};
-ghost use Rattle.delaunay_interface.specs.plane.Tests.{InRange};
-ghost use Rattle.delaunay_interface.specs.delaunay_legalization.Shape.{IsTriangulated};
-ghost use Rattle.delaunay_interface.specs.delaunay_legalization.State.{state_of};
-ghost use Rattle.test_calls.specs.Vertices.{position_of};
+ghost use Rattle.{plane.specs.InRange, test_calls.specs.Vertices.position_of};
+ghost use Rattle.delaunay_legalization.specs.{IsTriangulated, state_of};
 
 use crate::counting::counting_rectangle;
 use crate::shapes::edge_indexes;
 use crate::vertices::{TaggedVertex, both_in_range};
-use delaunay_interface::delaunay_core::point::Point2;
-use delaunay_interface::half_edge_mesh::{Dcel, FixedVertexHandle};
+use delaunay_core::point::Point2;
 use delaunay_queries::FloatTriangulation;
 use delaunay_shapes::edges_in_shape;
 use exact_predicates::ExactTests;
+use half_edge_dcel::Dcel;
+use half_edge_links::FixedVertexHandle;
 use std::alloc::Global;
 
 // The mesh of a triangulation, whose vertices are in range.

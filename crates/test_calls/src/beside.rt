@@ -4,8 +4,8 @@
 use crate::derived::{compare_answers, compare_edges, each_answer};
 use crate::markers::{free_and_fixed, made_and_unmade, markers, written};
 use crate::named::copy_named;
-use delaunay_interface::delaunay_core::point::Point2;
-use delaunay_interface::delaunay_core::{HintGenerator, LastUsedVertexHintGenerator};
+use delaunay_core::point::Point2;
+use delaunay_core::{HintGenerator, LastUsedVertexHintGenerator};
 use hint_hierarchy::HierarchyHintGeneratorWithBranchFactor as Hierarchy;
 use std::alloc::Global;
 use std::io;

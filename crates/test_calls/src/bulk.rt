@@ -2,8 +2,8 @@
 
 use crate::vertices::TaggedVertex;
 use delaunay_bulk::{BulkInsertion, BulkInsertionError, InsertAll};
+use delaunay_core::math::InsertionError;
 use delaunay_interface::Triangulation;
-use delaunay_interface::delaunay_core::math::InsertionError;
 use exact_predicates::ExactTests;
 use std::io;
 use test_reader::Call;

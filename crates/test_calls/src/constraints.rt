@@ -2,10 +2,10 @@
 
 use crate::points::Constrained;
 use crate::vertices::{TaggedVertex, both, edge_between};
+use delaunay_core::HintGenerator;
 use delaunay_interface::ConstraintError;
-use delaunay_interface::delaunay_core::HintGenerator;
-use delaunay_interface::half_edge_mesh::{FixedDirectedEdgeHandle, FixedVertexHandle};
 use exact_predicates::ExactTests;
+use half_edge_links::{FixedDirectedEdgeHandle, FixedVertexHandle};
 use std::alloc::AllocError;
 use std::io;
 use test_reader::Call;

@@ -1,12 +1,10 @@
 //! A shape that counts how often it is asked of an edge.
 ghost use Rattle.std.specs.Prelude.{◌≡◌, ◌↔◌, ◌≤ℤ◌, pos, All, IsTrue};
-ghost use Rattle.delaunay_interface.specs.plane.Fraction.{whole as fraction};
-ghost use Rattle.delaunay_interface.specs.plane.Tests.{InRange};
-ghost use Rattle.delaunay_interface.specs.plane_theorems.Delaunay.EdgeTests.{HasPointIn};
-ghost use Rattle.delaunay_interface.specs.delaunay_core.Place.{place_of};
+ghost use Rattle.plane_theorems.specs.{HasPointIn};
+ghost use Rattle.{delaunay_core.specs.place_of, plane.specs.InRange, plane.specs.whole as fraction};
 
-use delaunay_interface::delaunay_core::math::PlaneTests;
-use delaunay_interface::delaunay_core::point::{Point2, SpadeNum};
+use delaunay_core::math::PlaneTests;
+use delaunay_core::point::{Point2, SpadeNum};
 use delaunay_shapes::{DistanceMetric, RectangleMetric};
 use std::cell::Cell;
 

@@ -1,10 +1,8 @@
 //! What answers to a location and data of edges derive: equality, order, hashes and printed forms.
 
 use crate::markers::edge;
-use delaunay_interface::PositionInTriangulation;
-use delaunay_interface::half_edge_mesh::{
-    FixedDirectedEdgeHandle, FixedFaceHandle, FixedVertexHandle,
-};
+use delaunay_location::PositionInTriangulation;
+use half_edge_links::{FixedDirectedEdgeHandle, FixedFaceHandle, FixedVertexHandle};
 use std::cmp::Ordering;
 use std::hash::Hash;
 use test_reader::hash_of;

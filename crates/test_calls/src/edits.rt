@@ -1,11 +1,11 @@
 //! Lines that edit vertices: nothing where a call is not made.
 
 use crate::vertices::{TaggedVertex, in_range, vertex_at, vertex_of};
+use delaunay_core::math::InsertionError;
+use delaunay_core::point::Point2;
 use delaunay_interface::Triangulation;
-use delaunay_interface::delaunay_core::math::InsertionError;
-use delaunay_interface::delaunay_core::point::Point2;
-use delaunay_interface::half_edge_mesh::FixedVertexHandle;
 use exact_predicates::ExactTests;
+use half_edge_links::FixedVertexHandle;
 use std::alloc::{AllocError, Global};
 use std::io;
 use test_reader::{Call, index};

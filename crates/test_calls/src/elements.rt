@@ -3,8 +3,8 @@ ghost use Rattle.std.specs.Prelude.{◌<◌};
 
 use crate::vertices::TaggedVertex;
 use delaunay_interface::Triangulation;
-use delaunay_interface::delaunay_legalization::CdtEdge;
-use delaunay_interface::half_edge_mesh::{DirectedEdgeHandle, FaceHandle, VertexHandle};
+use delaunay_legalization::CdtEdge;
+use half_edge_dcel::{DirectedEdgeHandle, FaceHandle, VertexHandle};
 use std::io;
 
 /// What is printed of the data of an edge: its number, and whether it is a constraint.

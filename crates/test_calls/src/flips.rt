@@ -2,11 +2,11 @@
 
 use crate::points::Plain;
 use crate::vertices::TaggedVertex;
+use delaunay_core::HintGenerator;
+use delaunay_core::math::InsertionError;
 use delaunay_interface::Triangulation;
-use delaunay_interface::delaunay_core::HintGenerator;
-use delaunay_interface::delaunay_core::math::InsertionError;
-use delaunay_interface::half_edge_mesh::FixedVertexHandle;
 use exact_predicates::ExactTests;
+use half_edge_links::FixedVertexHandle;
 
 /// What an insertion gives.
 type Inserted = Result<FixedVertexHandle, InsertionError>;

@@ -1,6 +1,6 @@
 //! The generators that a triangulation has, one of which it asks.
 
-use delaunay_interface::delaunay_core::HintGenerator;
+use delaunay_core::HintGenerator;
 use hint_hierarchy::HierarchyHintGeneratorWithBranchFactor as Hierarchy;
 use std::io;
 use test_reader::Call;

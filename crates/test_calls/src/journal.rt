@@ -1,10 +1,10 @@
 //! Lists of edits, which are made on a triangulation one after another.
 
 use crate::vertices::TaggedVertex;
-use delaunay_interface::delaunay_core::point::Point2;
-use delaunay_interface::half_edge_mesh::FixedVertexHandle;
+use delaunay_core::point::Point2;
 use delaunay_journal::{Edit, Outcome, Replayable, replay};
 use exact_predicates::ExactTests;
+use half_edge_links::FixedVertexHandle;
 use std::alloc::AllocError;
 use std::io;
 use test_reader::{Call, index};

@@ -3,11 +3,9 @@
 use crate::elements::{Shown, print_state};
 use crate::vertices::TaggedVertex;
 use crate::walks::{walk, walk_between};
+use delaunay_core::point::{Point2, SpadeNum};
 use delaunay_interface::Triangulation;
-use delaunay_interface::delaunay_core::point::{Point2, SpadeNum};
-use delaunay_interface::half_edge_mesh::{
-    FixedDirectedEdgeHandle, FixedFaceHandle, FixedVertexHandle,
-};
+use half_edge_links::{FixedDirectedEdgeHandle, FixedFaceHandle, FixedVertexHandle};
 use std::io;
 use test_reader::Call;
 

@@ -27,8 +27,8 @@ mod vertices;
 mod walks;
 mod writes;
 
-use hints::{Choosing, Hints};
-use session::Session;
+use crate::hints::{Choosing, Hints};
+use crate::session::Session;
 use std::io;
 use std::rt::Env;
 use test_reader::run;

@@ -1,6 +1,6 @@
 //! The data of edges that may be constraints, and which edges they fix.
 
-use delaunay_interface::delaunay_legalization::{
+use delaunay_legalization::{
     CdtEdge, ConstraintMarker, EdgeConstraints, NoConstraints, free_edge_data,
 };
 

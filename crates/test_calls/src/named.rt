@@ -1,8 +1,8 @@
 //! A copy of a triangulation whose vertices have names, which take memory.
-ghost use Rattle.delaunay_interface.specs.delaunay_core.Place.{place_of};
+ghost use Rattle.delaunay_core.specs.{place_of};
 
-use delaunay_interface::delaunay_core::math::InsertionError;
-use delaunay_interface::delaunay_core::point::{HasPosition, Point2};
+use delaunay_core::math::InsertionError;
+use delaunay_core::point::{HasPosition, Point2};
 use delaunay_interface::{DelaunayTriangulation, Triangulation};
 use exact_predicates::ExactTests;
 use std::alloc::{AllocError, Global};

@@ -2,11 +2,12 @@
 
 use crate::points::Plain;
 use crate::vertices::{TaggedVertex, in_range, vertex_of};
-use delaunay_interface::delaunay_core::HintGenerator;
-use delaunay_interface::delaunay_core::point::Point2;
-use delaunay_interface::half_edge_mesh::FixedVertexHandle;
-use delaunay_interface::{PositionInTriangulation, Triangulation};
+use delaunay_core::HintGenerator;
+use delaunay_core::point::Point2;
+use delaunay_interface::Triangulation;
+use delaunay_location::PositionInTriangulation;
 use exact_predicates::ExactTests;
+use half_edge_links::FixedVertexHandle;
 use std::io;
 use test_reader::{Call, index};
 

@@ -2,7 +2,7 @@
 
 use crate::asks::asks_fewer;
 use crate::vertices::{TaggedVertex, both_in_range, circle_in_range};
-use delaunay_interface::delaunay_core::point::Point2;
+use delaunay_core::point::Point2;
 use delaunay_queries::FloatTriangulation;
 use delaunay_shapes::{EdgesInShapeIterator, VerticesInShapeIterator};
 use exact_predicates::ExactTests;

@@ -1,12 +1,11 @@
 //! Vertices with a number beside their position, and vertices, edges and points that a line names.
 ghost use Rattle.std.specs.Prelude.{◌<◌, ◌≤ℤ◌, length, pos, IfSome};
-ghost use Rattle.delaunay_interface.specs.plane.Tests.{InRange};
-ghost use Rattle.delaunay_interface.specs.delaunay_core.Place.{place_of};
+ghost use Rattle.{delaunay_core.specs.place_of, plane.specs.InRange};
 
+use delaunay_core::math::validate_vertex;
+use delaunay_core::point::{HasPosition, Point2};
 use delaunay_interface::Triangulation;
-use delaunay_interface::delaunay_core::math::validate_vertex;
-use delaunay_interface::delaunay_core::point::{HasPosition, Point2};
-use delaunay_interface::half_edge_mesh::{FixedUndirectedEdgeHandle, FixedVertexHandle};
+use half_edge_links::{FixedUndirectedEdgeHandle, FixedVertexHandle};
 use std::alloc::{AllocError, Global};
 use test_reader::Call;
 

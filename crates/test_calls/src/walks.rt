@@ -4,8 +4,9 @@ ghost use Rattle.std.specs.Iterator.{IsFinite};
 
 use crate::points::Constrained;
 use crate::vertices::{TaggedVertex, both, both_in_range};
-use delaunay_interface::delaunay_core::HintGenerator;
-use delaunay_interface::{LineIntersectionIterator, Triangulation};
+use delaunay_core::HintGenerator;
+use delaunay_interface::Triangulation;
+use delaunay_location::LineIntersectionIterator;
 use exact_predicates::ExactTests;
 use std::fmt::Debug;
 use std::io;

@@ -1,9 +1,7 @@
 //! Numbers that are written to edges and faces.
 
 use delaunay_interface::Triangulation;
-use delaunay_interface::half_edge_mesh::{
-    FixedDirectedEdgeHandle, FixedFaceHandle, FixedUndirectedEdgeHandle,
-};
+use half_edge_links::{FixedDirectedEdgeHandle, FixedFaceHandle, FixedUndirectedEdgeHandle};
 
 fn write_directed<T: Triangulation<DirectedEdge = u32>>(points: &mut T, index: u32, number: u32) {
     if (index as usize) < points.num_directed_edges() {

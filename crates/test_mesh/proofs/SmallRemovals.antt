@@ -2,12 +2,9 @@
 -- Lemmas: one_side, three_sides, four_sides.
 use Rattle.std.proofs.Common.{◌≡◌, ◌≢◌, ℕ, zero, suc, ◌<◌, [], ◌∷◌, length, sym, ap, ◌∙◌, arith}
 use Rattle.std.specs.Prelude.{slice_index}
-use Rattle.half_edge_mesh.specs.half_edge_links.Mesh.{Mesh, origin, next, prev, face, rev}
-use Rattle.half_edge_mesh.specs.half_edge_links.Mesh.{AreSoundLinks}
-use Rattle.half_edge_mesh.specs.half_edge_links.Peel.{turn, spoke}
-use Rattle.half_edge_mesh.specs.half_edge_links.Round.{neighbour}
-use Rattle.half_edge_mesh.specs.half_edge_dcel.Hole.{IsBorder}
-use Rattle.half_edge_mesh.specs.half_edge_dcel.Removal.{AreSidesOf}
+use Rattle.half_edge_links.specs.{AreSoundLinks, face, Mesh, neighbour, next, origin, prev, rev}
+use Rattle.half_edge_links.specs.{spoke, turn}
+use Rattle.half_edge_dcel.specs.{AreSidesOf, IsBorder}
 
 -- one face at a vertex
 pub one_side : (m : Mesh) (e : ℕ) → AreSoundLinks m → e < length m.half_edges

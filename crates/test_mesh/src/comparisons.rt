@@ -2,10 +2,9 @@
 //! printed forms.
 
 use crate::lookups::{directed, edge_at, vertex};
-use half_edge_mesh::{
-    AsVoronoiEdge, AsVoronoiFace, Dcel, DirectedEdgeHandle, DirectedVoronoiEdge, FixedFaceHandle,
-    HalfEdge, IsolateVertexResult, ReserveError,
-};
+use half_edge_dcel::{Dcel, DirectedEdgeHandle, IsolateVertexResult};
+use half_edge_links::{FixedFaceHandle, HalfEdge, ReserveError};
+use half_edge_mesh::{AsVoronoiEdge, AsVoronoiFace, DirectedVoronoiEdge};
 use std::cmp::Ordering;
 use std::fmt::Debug;
 use std::hash::Hash;

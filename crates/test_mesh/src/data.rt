@@ -3,7 +3,7 @@ ghost use Rattle.std.specs.Prelude.{◌/◌};
 
 use crate::elements::counts;
 use crate::lookups::{Mesh, directed, has_edge, has_face, undirected_at};
-use half_edge_mesh::FixedFaceHandle;
+use half_edge_links::FixedFaceHandle;
 use std::alloc::Global;
 use std::mem::replace;
 

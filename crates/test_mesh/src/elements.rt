@@ -3,7 +3,8 @@
 use crate::lookups::{
     directed, edge_at, has_edge, has_face, has_vertex, undirected_at, vertex as name,
 };
-use half_edge_mesh::{Dcel, DirectedEdgeHandle, FaceHandle, FixedFaceHandle, HalfEdge, MeshViews};
+use half_edge_dcel::{Dcel, DirectedEdgeHandle, FaceHandle, MeshViews};
+use half_edge_links::{FixedFaceHandle, HalfEdge};
 
 /// How many vertices, directed edges, undirected edges, inner faces and faces there are.
 pub fn counts<V, DE, UE, F>(mesh: &Dcel<V, DE, UE, F>) -> [usize; 5] {

@@ -1,7 +1,8 @@
 //! What the iterators of a mesh give from their far end, and how many items they have.
 
 use crate::iterators::count_of;
-use half_edge_mesh::{Dcel, MeshViews, VoronoiViews};
+use half_edge_dcel::{Dcel, MeshViews};
+use half_edge_mesh::VoronoiViews;
 use std::alloc::AllocError;
 
 /// How many vertices, directed edges, undirected edges, faces, inner faces, Voronoi faces, directed

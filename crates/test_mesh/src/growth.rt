@@ -1,15 +1,14 @@
 //! Calls that let a mesh grow, and the flip. Each looks first whether it may be made, makes just
 //! the room that it takes, and gives indexes, or nothing where it was not made.
 ghost use Rattle.std.specs.Prelude.{◌≡◌, ◌≢◌, ◌<◌, length, IsTrue};
-ghost use Rattle.half_edge_mesh.specs.half_edge_links.Flip.{IsBetweenFaces};
-ghost use Rattle.half_edge_mesh.specs.half_edge_links.Grow.{IsHalfSplittable};
-ghost use Rattle.half_edge_mesh.specs.half_edge_links.Mesh.{face, next, origin, rev};
-ghost use Rattle.half_edge_mesh.specs.half_edge_dcel.Contents.{HasRoom};
+ghost use Rattle.half_edge_links.specs.{face, IsBetweenFaces, IsHalfSplittable, next, origin, rev};
+ghost use Rattle.half_edge_dcel.specs.{HasRoom};
 
 use crate::lookups::{
     Mesh, directed, has_edge, has_face, has_vertex, is_inner, is_outer, undirected_at, vertex,
 };
-use half_edge_mesh::{FixedDirectedEdgeHandle, FixedFaceHandle, FixedVertexHandle, MeshViews};
+use half_edge_dcel::MeshViews;
+use half_edge_links::{FixedDirectedEdgeHandle, FixedFaceHandle, FixedVertexHandle};
 
 /// A vertex and the two parts of the edge that it split.
 pub type Split = (u32, [u32; 2]);

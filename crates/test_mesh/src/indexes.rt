@@ -2,7 +2,7 @@
 
 use crate::iterators::count_of;
 use crate::lookups::{directed, vertex};
-use half_edge_mesh::{
+use half_edge_links::{
     FixedDirectedEdgeIterator, FixedFaceHandle, FixedFaceIterator, FixedUndirectedEdgeIterator,
     FixedVertexIterator,
 };

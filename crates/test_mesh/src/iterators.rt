@@ -2,7 +2,8 @@
 ghost use Rattle.std.specs.Iterator.{IsFinite};
 
 use crate::lookups::vertex;
-use half_edge_mesh::{AsVoronoiFace, Dcel, MeshViews, VoronoiViews};
+use half_edge_dcel::{Dcel, MeshViews};
+use half_edge_mesh::{AsVoronoiFace, VoronoiViews};
 
 /// How many items are given. No list here is so long that it saturates.
 pub fn count_of<T: Drop, I: Iterator<Item = T> + Drop>(items: I) -> usize

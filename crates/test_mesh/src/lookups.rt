@@ -1,11 +1,12 @@
 //! Whether a part of a mesh is there.
 ghost use Rattle.std.specs.Prelude.{◌≡◌, ◌<◌, ◌≤◌, ◌↔◌, length, IsTrue, IfSome};
-ghost use Rattle.half_edge_mesh.specs.half_edge_links.Mesh.{face};
+ghost use Rattle.half_edge_links.specs.{face};
 
-use half_edge_mesh::{
-    Dcel, DirectedEdgeHandle, DirectedVoronoiEdge, FixedDirectedEdgeHandle, FixedFaceHandle,
-    FixedUndirectedEdgeHandle, FixedVertexHandle, MeshViews,
+use half_edge_dcel::{Dcel, DirectedEdgeHandle, MeshViews};
+use half_edge_links::{
+    FixedDirectedEdgeHandle, FixedFaceHandle, FixedUndirectedEdgeHandle, FixedVertexHandle,
 };
+use half_edge_mesh::DirectedVoronoiEdge;
 
 pub type Mesh = Dcel<u8, u16, u32, u64>;
 

@@ -17,8 +17,8 @@ mod rounds;
 mod script;
 mod voronoi;
 
-use lookups::Mesh;
-use script::answer;
+use crate::lookups::Mesh;
+use crate::script::answer;
 use std::io;
 use test_reader::Call;
 

@@ -1,13 +1,11 @@
 //! Calls that remove. Each looks first whether it may be made, and gives nothing where it may not.
 ghost use Rattle.std.specs.Prelude.{◌≡◌, ◌≢◌, ◌<◌, length, IsTrue, IfSome};
-ghost use Rattle.half_edge_mesh.specs.half_edge_links.Mesh.{face, next, origin, prev, rev};
-ghost use Rattle.half_edge_mesh.specs.half_edge_links.Peel.{turn};
-ghost use Rattle.half_edge_mesh.specs.half_edge_dcel.Removal.{HasFewEdges};
+ghost use Rattle.half_edge_links.specs.{face, next, origin, prev, rev, turn};
+ghost use Rattle.half_edge_dcel.specs.{HasFewEdges};
 
 use crate::lookups::{Mesh, directed, has_edge, has_vertex, is_inner, is_outer, vertex};
-use half_edge_mesh::{
-    Dcel, FixedDirectedEdgeHandle, FixedVertexHandle, IsolateVertexResult, MeshViews,
-};
+use half_edge_dcel::{Dcel, IsolateVertexResult, MeshViews};
+use half_edge_links::{FixedDirectedEdgeHandle, FixedVertexHandle};
 
 /// The data of a vertex without edges, which is gone.
 pub fn swap_remove_vertex<V, DE: Drop, UE: Drop, F>(

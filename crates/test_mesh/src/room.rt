@@ -1,7 +1,8 @@
 //! Room for a mesh, made and refused, and the links of a mesh without data.
 
 use crate::lookups::Mesh;
-use half_edge_mesh::{Dcel, HalfEdge, Links, MAX_ELEMENTS, ReserveError, are_few_enough, is_full};
+use half_edge_dcel::Dcel;
+use half_edge_links::{HalfEdge, Links, MAX_ELEMENTS, ReserveError, are_few_enough, is_full};
 use std::alloc::{AllocError, Global};
 
 pub fn reserve(mesh: &mut Mesh, vertices: u32, edges: u32, faces: u32) -> Result<(), ReserveError> {

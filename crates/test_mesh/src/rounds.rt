@@ -1,10 +1,8 @@
 //! What rounds give from behind, and from both ends in turn.
 
 use crate::lookups::vertex;
-use half_edge_mesh::{
-    AsVoronoiFace, CircularIterator, Dcel, DirectedEdgeHandle, DirectedVoronoiEdge, HullIterator,
-    MeshViews, VoronoiCircularIterator,
-};
+use half_edge_dcel::{CircularIterator, Dcel, DirectedEdgeHandle, HullIterator, MeshViews};
+use half_edge_mesh::{AsVoronoiFace, DirectedVoronoiEdge, VoronoiCircularIterator};
 
 fn index<V, DE, UE, F>(edge: Option<DirectedEdgeHandle<'_, V, DE, UE, F>>) -> Option<u32> {
     edge.map(|edge| edge.index())

@@ -24,7 +24,7 @@ use crate::room::{
 };
 use crate::rounds::{from_behind, from_both_ends};
 use crate::voronoi::{undirected_voronoi_edge, voronoi_edge, voronoi_face, voronoi_vertex};
-use half_edge_mesh::MeshViews;
+use half_edge_dcel::MeshViews;
 use std::io;
 use test_reader::Call;
 

@@ -1,9 +1,10 @@
 //! The Voronoi forms of a mesh, by the indexes of what they are forms of.
 
 use crate::lookups::{edge_at, has_face, undirected_at, vertex};
+use half_edge_dcel::{Dcel, MeshViews};
+use half_edge_links::FixedFaceHandle;
 use half_edge_mesh::{
-    AsVoronoiEdge, AsVoronoiFace, AsVoronoiVertex, Dcel, DirectedVoronoiEdge, FixedFaceHandle,
-    MeshViews, VoronoiVertex, VoronoiViews,
+    AsVoronoiEdge, AsVoronoiFace, AsVoronoiVertex, DirectedVoronoiEdge, VoronoiVertex, VoronoiViews,
 };
 
 fn index_of<V, DE, UE, F>(edge: &DirectedVoronoiEdge<'_, V, DE, UE, F>) -> u32 {

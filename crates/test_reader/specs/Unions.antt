@@ -1,7 +1,6 @@
 -- What hint generators hold together.
 use Rattle.std.specs.Prelude.{◌⊎◌}
-use Rattle.plane.specs.Fraction.{Point}
-use Rattle.test_reader.specs.declared.hints.switching.Switching.{Switching}
+use Rattle.{plane.specs.Point, test_reader.specs.declared.hints.switching.Switching.Switching}
 
 -- one of the two sets has the position
 abbrev IsInEither : (Point → Type 0) → (Point → Type 0) → Point → Type 0

@@ -2,10 +2,8 @@
 //! answer of a triangulation depends on them. And calls of generators by themselves.
 
 ghost use Rattle.std.specs.Prelude.{◌≡◌, Some};
-ghost use Rattle.plane.specs.Fraction.{Point};
-ghost use Rattle.plane.specs.Hint.{IsAtMostWith, IsAtMostWithout};
-ghost use Rattle.delaunay_core.specs.Held.{place_if};
-ghost use Rattle.delaunay_core.specs.Place.{place_of};
+ghost use Rattle.plane.specs.{IsAtMostWith, IsAtMostWithout, Point};
+ghost use Rattle.delaunay_core.specs.{place_if, place_of};
 
 pub mod generators;
 pub mod last_used;

@@ -1,11 +1,8 @@
 //! The calls that edit a triangulation.
-ghost use Rattle.c_calls.specs.Answers.{InsertsAt};
-ghost use Rattle.c_calls.specs.Calls.{EditsOpen};
+ghost use Rattle.c_calls.specs.{Answers.InsertsAt, Calls.EditsOpen, unnumbered_points};
 ghost use Rattle.c_calls.specs.Edits.{AddsKept, AllowsConstraints, ClearsKept, EditsAt};
-ghost use Rattle.c_calls.specs.Edits.{ReleasesKept, RemovesKept};
-ghost use Rattle.c_calls.specs.Kept.{unnumbered_at};
+ghost use Rattle.c_calls.specs.{Edits.ReleasesKept, Edits.RemovesKept, Kept.unnumbered_at};
 ghost use Rattle.c_calls.specs.Lists.{AddsChainKept, InsertsListKept, NumbersKept};
-ghost use Rattle.c_calls.specs.Lists.{unnumbered_points};
 
 use c_calls::{Handle, RawPoint};
 use std::alloc::Global;

@@ -4,9 +4,9 @@ ghost use Rattle.c_calls.specs.Calls.{CopiesOpen, OpensClosed, TellsBeyond, Tell
 ghost use Rattle.c_calls.specs.Calls.{TellsCrossed, TellsEdges, TellsEdgesIn, TellsFaces};
 ghost use Rattle.c_calls.specs.Calls.{TellsInSight, TellsLayers, TellsLine, TellsNearest};
 ghost use Rattle.c_calls.specs.Calls.{TellsNumbers, TellsPlaces, TellsPositions, TellsVerticesIn};
-ghost use Rattle.c_calls.specs.Words.{TellsWords};
-ghost use Rattle.c_triangulate.specs.Whole.{Triangulates};
+ghost use Rattle.{c_calls.specs.Words.TellsWords, tevasulim_c.specs.Whole.Triangulates};
 
+use crate::whole::triangulate;
 use c_calls::{
     Edges, Handle, InShape, ListBeyond, ListConflicts, ListEdges, ListFaces, ListLayers,
     ListNumbers, ListPositions, Locate, LookAlong, RawBox, RawCounts, RawEdge, RawFace, RawMeeting,
@@ -278,5 +278,5 @@ pub extern "C" fn tevasulim_triangulate(
     ensures { Triangulates points.now segments.now result at.new length.old length.new faces.old
         faces.new }
 {
-    c_triangulate::triangulate(points, segments, faces, length, at, alloc)
+    triangulate(points, segments, faces, length, at, alloc)
 }

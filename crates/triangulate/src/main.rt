@@ -1,7 +1,7 @@
 //! The program over standard input and output.
 #![tactic(auto)]
 
-use delaunay_interface::delaunay_core::LastUsedVertexHintGenerator;
+use delaunay_core::LastUsedVertexHintGenerator;
 use std::env::FillError;
 use std::io;
 use std::io::{BufReader, Input, Read};

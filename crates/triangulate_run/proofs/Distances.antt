@@ -9,22 +9,13 @@ use Rattle.std.proofs.lemmas.Bool.{cases_lt}
 use Rattle.std.proofs.lemmas.Int.{ints}
 use Rattle.std.proofs.lemmas.List.{length-map}
 use Rattle.std.proofs.lemmas.List.Elements.{All-get_or}
-use Rattle.delaunay_edit.specs.plane.Fraction.{Point, whole}
-use Rattle.delaunay_edit.specs.plane.Circle.{gap}
-use Rattle.delaunay_edit.specs.plane.Shape.{IsNearest}
-use Rattle.delaunay_edit.specs.plane.Tests.{InRange}
-use Rattle.delaunay_edit.specs.plane.Pairs.{place as at}
-use Rattle.delaunay_edit.specs.plane.Tiling.{Triangulation}
-use Rattle.delaunay_edit.proofs.plane.Signs.{less_without_ones}
-use Rattle.delaunay_edit.specs.delaunay_core.declared.point.Point2.{Point2}
-use Rattle.delaunay_edit.specs.delaunay_legalization.Known.{point_at}
-use Rattle.delaunay_edit.proofs.Removing.{read_place}
-use Rattle.triangulate_run.specs.declared.points.SheetPoint.{SheetPoint}
-use Rattle.triangulate_run.specs.Points.{place, nowhere, HoldsAt, IsListed}
-use Rattle.triangulate_run.specs.Stage.{position}
-use Rattle.triangulate_run.specs.declared.reply.Reply.{Reply}
-use Rattle.triangulate_run.specs.declared.reply.Reply.TheVariants.{Distance, NoNeighbor}
+use Rattle.plane.specs.{gap, InRange, IsNearest, place as at, Point, Triangulation, whole}
+use Rattle.delaunay_core.specs.{Point2}
+use Rattle.{delaunay_legalization.specs.point_at, triangulate_run.specs.declared.reply.Reply.Reply}
+use Rattle.{delaunay_edit.proofs.Removing.read_place, plane.proofs.less_without_ones}
+use Rattle.triangulate_run.specs.{HoldsAt, IsListed, nowhere, place, position, SheetPoint}
 use Rattle.triangulate_run.specs.Answer.{IsVertexDistance, MayMeasure}
+use Rattle.triangulate_run.specs.declared.reply.Reply.TheVariants.{Distance, NoNeighbor}
 
 -- a vertex is in range where all are
 pub vertex_in_range : (vs : List (Point2 ℤ)) (i : ℕ) (v : Point2 ℤ) → i < length (map position vs)

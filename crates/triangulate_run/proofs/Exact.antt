@@ -6,20 +6,18 @@ use Rattle.std.proofs.Common.{Some, None, refl, sym, ap, inl, inr, subst}
 use Rattle.std.specs.List.{AllZip}
 use Rattle.std.specs.Str.{bytes_eq}
 use Rattle.std.specs.Cmp.Lexicographic.{same_text}
-use Rattle.triangulate_run.specs.declared.command.Coordinates.{Coordinates}
-use Rattle.triangulate_run.specs.declared.command.Command.{Command}
-use Rattle.triangulate_run.specs.declared.command.Command.TheVariants.{Insert, Remove, Constrain}
-use Rattle.triangulate_run.specs.declared.command.Command.TheVariants.{Release, Locate, Nearest}
-use Rattle.triangulate_run.specs.declared.command.Command.TheVariants.{Line, Counts, Faces}
-use Rattle.triangulate_run.specs.Grammar.{IsDigits, IsNumber, AreWordsOf}
-use Rattle.triangulate_run.specs.Reading.{◌>>=◌}
-use Rattle.triangulate_run.specs.Reading.{index_value, number_value, first_index, coordinates_of}
-use Rattle.triangulate_run.specs.Reading.{pair_of, command_named, command_of, arity, ended}
 use Rattle.std.proofs.lemmas.Option.{some_pair_parts}
 use Rattle.std.proofs.Common.{IfSome, IfNone, ◌≤◌}
-use Rattle.triangulate_run.specs.Grammar.{Spells, SpellsNone, words_of}
-use Rattle.triangulate_run.proofs.Values.{index_value-ok, index_value-is, number_value-ok}
-use Rattle.triangulate_run.proofs.Values.{number_value-is}
+use Rattle.triangulate_run.specs.{declared.command.Coordinates.Coordinates, words_of}
+use Rattle.triangulate_run.specs.Grammar.{AreWordsOf, IsDigits, IsNumber, Spells, SpellsNone}
+use Rattle.triangulate_run.specs.Reading.{◌>>=◌, arity, command_named, command_of, coordinates_of}
+use Rattle.triangulate_run.specs.Reading.{ended, first_index, index_value, number_value, pair_of}
+use Rattle.triangulate_run.specs.declared.command.Command.{Command}
+use Rattle.triangulate_run.specs.declared.command.Command.TheVariants.{Constrain, Counts, Faces}
+use Rattle.triangulate_run.specs.declared.command.Command.TheVariants.{Insert, Line, Locate}
+use Rattle.triangulate_run.specs.declared.command.Command.TheVariants.{Nearest, Release, Remove}
+use Rattle.triangulate_run.proofs.Values.{index_value-is, index_value-ok, number_value-is}
+use Rattle.triangulate_run.proofs.Values.{number_value-ok}
 
 bind_some : {A B : Type 0} (o : Option A) (f : A → Option B) (y : B) → (o >>= f) ≡ Some y
     → (x : A) × (o ≡ Some x) × (f x ≡ Some y)

@@ -9,16 +9,13 @@ use Rattle.std.proofs.lemmas.Int.{ints}
 use Rattle.std.proofs.lemmas.List.{get_or-map, get_or_default, length-map}
 use Rattle.std.proofs.lemmas.List.Sorted.{IsPermutation-sym, Contains-permutation}
 use Rattle.std.proofs.lemmas.Bool.{cases_lt}
-use Rattle.delaunay_edit.specs.plane.Fraction.{Fraction, IsPositive}
-use Rattle.delaunay_edit.specs.plane.Side.{Side, left, right, on, side, opposite, TurnsLeft}
-use Rattle.delaunay_edit.specs.plane.Tiling.{Face, Triangulation, IsFace, InsideCorners, AreApart}
-use Rattle.delaunay_edit.specs.plane.Tiling.{IsTiling, JoinsLine, face, vertex}
-use Rattle.delaunay_edit.proofs.plane.Means.{mean_of_three}
-use Rattle.delaunay_edit.proofs.plane.Sides.{side_swapped, side_turned}
-use Rattle.delaunay_edit.proofs.plane.Triangles.{turned_inside, turned_face}
-use Rattle.triangulate_run.specs.declared.corners.Corners.{Corners}
-use Rattle.triangulate_run.specs.Corners.{corners, least_first, ComesFirst}
-use Rattle.triangulate_run.specs.Answer.{IsFaceFromLeast, ListsFaces}
+use Rattle.plane.specs.{AreApart, Face, face, Fraction, InsideCorners, IsFace, IsPositive, IsTiling}
+use Rattle.plane.specs.{JoinsLine, left, on, opposite, right, Side, side, Triangulation, TurnsLeft}
+use Rattle.plane.specs.{vertex}
+use Rattle.plane.proofs.{Means.mean_of_three, side_swapped, turned_face, turned_inside}
+use Rattle.{plane.proofs.Sides.side_turned, triangulate_run.specs.declared.corners.Corners.Corners}
+use Rattle.triangulate_run.specs.{Answer.IsFaceFromLeast, Answer.ListsFaces, least_first}
+use Rattle.triangulate_run.specs.Corners.{ComesFirst, corners}
 
 -- ---- the least corner first
 and_no : (b : Bool) → (b && false) ≡ false

@@ -8,11 +8,9 @@ use Rattle.std.specs.Prelude.{All, Option, MatchOption}
 use Rattle.std.proofs.lemmas.List.{get_or_default, at_drop_more}
 use Rattle.std.proofs.lemmas.Bool.{cases_eq, and_from, true≢false}
 use Rattle.std.proofs.lemmas.Bool.Decides.{Decides-int_eq}
-use Rattle.delaunay_edit.specs.plane.Fraction.{Point}
-use Rattle.triangulate_run.specs.declared.points.SheetPoint.{SheetPoint}
-use Rattle.triangulate_run.specs.declared.circles.Circle.{Circle}
-use Rattle.triangulate_run.specs.Table.{lists, circle_in}
-use Rattle.triangulate_run.specs.Points.{point_in, place, nowhere, IsListed, IsListedSite}
+use Rattle.plane.specs.{Point}
+use Rattle.triangulate_run.specs.{Circle, IsListed, nowhere, place, point_in, SheetPoint}
+use Rattle.triangulate_run.specs.{Points.IsListedSite, Table.circle_in, Table.lists}
 
 -- what holds neither below i nor at i holds at no number below i + 1
 pub none_up_to : (P : ℕ → Type 0) (i : ℕ) → ((k : ℕ) → k < i → P k → ⊥) → (P i → ⊥) → (k : ℕ)

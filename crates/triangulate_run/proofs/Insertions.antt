@@ -10,22 +10,12 @@ use Rattle.std.proofs.lemmas.List.{get_or-map, length-map}
 use Rattle.std.proofs.lemmas.List.Elements.{All-push}
 use Rattle.std.proofs.Math.Seq.{map-set_same}
 use Rattle.std.proofs.lemmas.List.{map-append}
-use Rattle.delaunay_edit.specs.plane.Fraction.{Point}
-use Rattle.delaunay_edit.specs.plane.Plain.{DifferInPosition}
-use Rattle.delaunay_edit.specs.delaunay_core.declared.point.Point2.{Point2}
-use Rattle.triangulate_run.specs.declared.points.SheetPoint.{SheetPoint}
-use Rattle.delaunay_edit.specs.plane.Tests.{InRange}
-use Rattle.delaunay_edit.specs.delaunay_core.declared.math.InsertionError.{InsertionError}
-use Rattle.delaunay_edit.specs.delaunay_core.declared.math.InsertionError.TheVariants.{TooLarge}
-use Rattle.delaunay_edit.specs.delaunay_core.declared.math.InsertionError.TheVariants.{OutOfMemory}
-use Rattle.delaunay_edit.specs.delaunay_core.declared.math.InsertionError.TheVariants.{OutOfIndexes}
-use Rattle.triangulate_run.specs.declared.reply.Reply.TheVariants.{Refused}
-use Rattle.triangulate_run.specs.Answer.{MayInsert, most_elements}
-use Rattle.triangulate_run.specs.Engine.{stage_by}
-use Rattle.delaunay_edit.specs.delaunay_legalization.State.{State}
-use Rattle.triangulate_run.specs.Points.{place, nowhere, HoldsAt, IsSiteAt, IsListed, IsListedSite}
-use Rattle.triangulate_run.specs.Stage.{position}
-use Rattle.delaunay_edit.specs.delaunay_legalization.Known.{point_at, IsKnown}
+use Rattle.plane.specs.{DifferInPosition, InRange, Point}
+use Rattle.delaunay_core.specs.{InsertionError, OutOfIndexes, OutOfMemory, Point2, TooLarge}
+use Rattle.delaunay_legalization.specs.{IsKnown, point_at}
+use Rattle.{delaunay_legalization.specs.State.State, triangulate_run.specs.Points.IsListedSite}
+use Rattle.triangulate_run.specs.{HoldsAt, IsListed, IsSiteAt, nowhere, place, position, Refused}
+use Rattle.triangulate_run.specs.{Answer.MayInsert, Answer.most_elements, SheetPoint, stage_by}
 
 module _ (vs : List (Point2 ℤ)) (p : Point2 ℤ) where
   placed : (k : ℕ) (d : Point2 ℤ) → k < length vs

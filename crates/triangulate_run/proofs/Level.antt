@@ -4,14 +4,10 @@ use Rattle.std.proofs.Common.{◌≡◌, ℕ, ◌<◌, Bool, true, List, [], ◌
 use Rattle.std.specs.Prelude.{pos}
 use Rattle.std.specs.Ordering.{int_eq}
 use Rattle.std.proofs.lemmas.Bool.Decides.{Decides-int_eq}
-use Rattle.delaunay_edit.specs.plane.Fraction.{Point, whole}
-use Rattle.delaunay_edit.specs.plane.Side.{side, on}
-use Rattle.delaunay_edit.proofs.plane.Bracket.{bracket, bracketᵖ, lift, liftᵖ}
-use Rattle.delaunay_edit.proofs.plane.Sides.{on_if}
-use Rattle.delaunay_edit.proofs.plane.Solver.{num, ring_in}
-use Rattle.triangulate_run.specs.declared.points.SheetPoint.{SheetPoint}
-use Rattle.triangulate_run.specs.Points.{point_in}
-use Rattle.triangulate_run.proofs.Rule.{all_below, all_below_at, SidesAreTrue, CirclesAreTrue}
+use Rattle.plane.specs.{on, Point, side, whole}
+use Rattle.plane.proofs.{bracket, bracketᵖ, lift, liftᵖ, num, on_if, ring_in}
+use Rattle.triangulate_run.specs.{point_in, SheetPoint}
+use Rattle.triangulate_run.proofs.Rule.{all_below, all_below_at, CirclesAreTrue, SidesAreTrue}
 
 -- the test whether each point of a list has y = 0
 unfoldable pub are_level : List SheetPoint → Bool

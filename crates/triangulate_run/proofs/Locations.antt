@@ -3,23 +3,17 @@
 -- located.
 use Rattle.std.proofs.Common.{◌≡◌, ◌≢◌, ◌≤◌, ◌<◌}
 use Rattle.std.proofs.Common.{List, ℕ, inl, inr, length, arith, sym, cond, ltb, lt-ltb, le-ltb}
-use Rattle.delaunay_edit.specs.plane.Fraction.{Point, whole, Fraction, IsPositive}
 use Rattle.std.proofs.lemmas.Bool.{cases_lt}
-use Rattle.delaunay_edit.specs.plane.Pairs.{EachPairOnce}
-use Rattle.delaunay_edit.specs.plane.Tiling.{Triangulation, IsEdge, IsTiling, vertex}
-use Rattle.delaunay_edit.specs.plane.Location.{IsLocation, on_edge, on_face}
-use Rattle.delaunay_edit.proofs.plane.Means.{turned_mean_of_two}
-use Rattle.delaunay_edit.proofs.plane.Triangles.{turned_inside, turned_face}
-use Rattle.delaunay_edit.proofs.plane_theorems.Segments.Items.Begins.{edge_flipped}
-use Rattle.triangulate_run.specs.Corners.{least_first}
+use Rattle.plane.specs.{EachPairOnce, Fraction, IsEdge, IsLocation, IsPositive, IsTiling, on_edge}
+use Rattle.plane.specs.{on_face, Point, Triangulation, vertex, whole}
+use Rattle.plane.proofs.{turned_face, turned_inside, turned_mean_of_two}
+use Rattle.plane_theorems.proofs.{edge_flipped}
+use Rattle.triangulate_run.specs.{declared.reply.Reply.Reply, IsListed, least_first, SheetPoint}
 use Rattle.triangulate_run.specs.Answer.{AreSoMany, IsThere, MayLocate}
-use Rattle.triangulate_run.specs.Points.{IsListed}
-use Rattle.triangulate_run.specs.declared.points.SheetPoint.{SheetPoint}
 use Rattle.triangulate_run.specs.declared.corners.Corners.{Corners}
-use Rattle.triangulate_run.specs.declared.reply.Reply.{Reply}
+use Rattle.triangulate_run.proofs.FaceList.{differ, first_least, from_least_of, is_first, is_second}
+use Rattle.triangulate_run.proofs.FaceList.{is_third, least, second_least, third_least}
 use Rattle.triangulate_run.specs.declared.reply.Reply.TheVariants as reply
-use Rattle.triangulate_run.proofs.FaceList.{is_first, is_second, is_third, least, first_least}
-use Rattle.triangulate_run.proofs.FaceList.{second_least, third_least, differ, from_least_of}
 
 module _ (t : Triangulation) (p : Fraction) where
   -- a point on an edge is on it by the ends in the other order, too

@@ -7,20 +7,13 @@ use Rattle.std.specs.Prelude.{ℤ, All, AllPairs}
 use Rattle.std.proofs.lemmas.List.{get_or-map, length-map, get_or_default}
 use Rattle.std.proofs.lemmas.List.Elements.{All-nil, All-cons}
 use Rattle.std.proofs.lemmas.List.Kept.{AllPairs-cons}
-use Rattle.delaunay_edit.specs.half_edge_dcel.Contents.{Contents}
-use Rattle.delaunay_edit.specs.plane.Pairs.{EachPairOnce, AreDifferent}
-use Rattle.delaunay_edit.specs.delaunay_legalization.Legal.{pair_at}
-use Rattle.delaunay_edit.specs.delaunay_core.declared.point.Point2.{Point2}
-use Rattle.delaunay_edit.specs.delaunay_legalization.CdtEdge.{is_constraint}
-use Rattle.delaunay_edit.specs.delaunay_legalization.declared.cdt_edge.CdtEdge.{CdtEdge}
-use Rattle.delaunay_edit.specs.delaunay_legalization.Constraints.{marked_from}
-use Rattle.delaunay_edit.specs.delaunay_legalization.Shape.{IsTriangulated}
-use Rattle.delaunay_edit.specs.delaunay_legalization.State.{State}
-use Rattle.delaunay_edit.proofs.delaunay_legalization_lemmas.Constraints.{fixed_within}
-use Rattle.delaunay_edit.proofs.Releasing.{one_edge}
-use Rattle.delaunay_edit.specs.Constrained.{constraints_of, constraint_edges}
-use Rattle.triangulate_run.specs.Answer.{AreSoMany}
-use Rattle.triangulate_run.specs.Stage.{position}
+use Rattle.{plane.specs.AreDifferent, plane.specs.EachPairOnce, triangulate_run.specs.position}
+use Rattle.{half_edge_dcel.specs.Contents, triangulate_run.specs.Answer.AreSoMany}
+use Rattle.delaunay_core.specs.{Point2}
+use Rattle.delaunay_legalization.specs.{is_constraint, IsTriangulated, marked_from, pair_at}
+use Rattle.delaunay_legalization.specs.{declared.cdt_edge.CdtEdge.CdtEdge, State.State}
+use Rattle.delaunay_edit.specs.{constraint_edges, constraints_of}
+use Rattle.{delaunay_edit.proofs.Releasing.one_edge, delaunay_legalization.proofs.fixed_within}
 
 -- the indexes of marked data rise
 module _ {U : Type 0} (marks : U → Bool) where

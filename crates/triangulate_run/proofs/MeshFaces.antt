@@ -7,13 +7,10 @@ use Rattle.std.specs.List.{range_with_len}
 use Rattle.std.proofs.lemmas.List.{get_or-map, length-map, same_lists}
 use Rattle.std.proofs.Math.ListN.{get_or-map as get_or-map-default}
 use Rattle.std.proofs.lemmas.List.FromFn.{get_or-map-range_with_len, length-map-range_with_len}
-use Rattle.delaunay_edit.specs.plane.Fraction.{Point}
-use Rattle.delaunay_edit.specs.half_edge_links.Mesh.{Mesh, face_edge}
-use Rattle.delaunay_edit.specs.half_edge_links.Triangles.{Triangle, triangle_at, triangles}
-use Rattle.triangulate_run.specs.declared.corners.Corners.{Corners}
-use Rattle.triangulate_run.specs.Corners.{least_first}
-use Rattle.triangulate_run.specs.MeshFaces.{row_of, row_at}
-use Rattle.delaunay_edit.specs.delaunay_legalization.Drawn.{corners_of}
+use Rattle.plane.specs.{Point}
+use Rattle.half_edge_links.specs.{face_edge, Mesh, Triangle, triangle_at, triangles}
+use Rattle.{delaunay_legalization.specs.corners_of, triangulate_run.specs.MeshFaces.row_of}
+use Rattle.triangulate_run.specs.{declared.corners.Corners.Corners, least_first, row_at}
 
 module _ (m : Mesh) (points : List Point) where
   row_same : (k : ℕ) (d : Corners) → k < length m.face_edges

@@ -10,9 +10,9 @@ use Rattle.std.specs.List.{flat_map}
 use Rattle.std.proofs.lemmas.Grind.{flat_map-append}
 use Rattle.std.proofs.Math.Seq.{split_at, take-suc}
 use Rattle.std.specs.Io.KnownBytes.{Appends, Keeps}
-use Rattle.triangulate_run.specs.Output.{AppendsPart, Sends}
 use Rattle.std.proofs.Common.{Result, Ok, Err, Bool, true, false}
 use Rattle.std.specs.Prelude.{MatchResult, OnOk, OnErr, is_err}
+use Rattle.triangulate_run.specs.{AppendsPart, Sends}
 
 -- a text that is written behind another one is written with it
 pub appends_more : (a b c : Option (List ℕ)) (s t : List ℕ) → Appends a b s → Appends b c t

@@ -10,22 +10,15 @@ use Rattle.std.specs.Bool.{◌==◌}
 use Rattle.std.proofs.lemmas.Bool.{cases_eq, eqb-true, eqb-false}
 use Rattle.std.proofs.lemmas.List.{nil_from_length}
 use Rattle.std.proofs.lemmas.List.Elements.{All-nil, All-cons}
-use Rattle.delaunay_edit.specs.plane.Fraction.{Point}
-use Rattle.delaunay_edit.specs.plane.Plain.{Plain, CanAdd, AreNeighboursOn}
-use Rattle.delaunay_edit.specs.plane_theorems.Segments.Constraints.{AreNextOn}
-use Rattle.delaunay_edit.specs.half_edge_links.Mesh.{Mesh, origin, rev}
-use Rattle.delaunay_edit.specs.delaunay_core.declared.point.Point2.{Point2}
-use Rattle.delaunay_edit.specs.delaunay_core.declared.math.InsertionError.TheVariants.{OutOfMemory}
-use Rattle.delaunay_edit.specs.delaunay_legalization.declared.cdt_edge.CdtEdge.{CdtEdge}
-use Rattle.delaunay_edit.specs.delaunay_legalization.State.{State}
-use Rattle.delaunay_edit.specs.PathEdges.{LeadAlong}
-use Rattle.delaunay_edit.specs.Constrained.{constrained, constraint_edges}
-use Rattle.delaunay_edit.specs.ConstraintEdits.{AddsPathIfFree}
-use Rattle.triangulate_run.specs.declared.reply.Reply.TheVariants.{NoPath, Refused}
+use Rattle.plane.specs.{AreNeighboursOn, CanAdd, Plain, Point}
+use Rattle.half_edge_links.specs.{Mesh, origin, rev}
+use Rattle.plane_theorems.specs.{AreNextOn}
+use Rattle.delaunay_core.specs.{OutOfMemory, Point2}
+use Rattle.delaunay_legalization.specs.{declared.cdt_edge.CdtEdge.CdtEdge, State.State}
+use Rattle.delaunay_edit.specs.{AddsPathIfFree, constrained, constraint_edges, LeadAlong}
+use Rattle.triangulate_run.specs.{ends_in, position, Refused, stage_by}
 use Rattle.triangulate_run.specs.Answer.{ConstrainsPath, LeadsTo, MayRefuse}
-use Rattle.triangulate_run.specs.Engine.{ends_in, stage_by}
-use Rattle.triangulate_run.specs.Reply.{piece_text}
-use Rattle.triangulate_run.specs.Stage.{position}
+use Rattle.triangulate_run.specs.{declared.reply.Reply.TheVariants.NoPath, Reply.piece_text}
 
 -- neighbours on a segment, in the words of plain states
 neighbours : (points : List Point) (i j a b : ℕ) → AreNextOn points i j a b

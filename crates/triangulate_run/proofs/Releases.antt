@@ -3,31 +3,18 @@
 use Rattle.std.proofs.Common.{◌≡◌, ◌*◌, ◌/◌, ◌<◌}
 use Rattle.std.proofs.Common.{ℕ, Bool, true, false, length, refl, inl, inr, ap, sym, subst}
 use Rattle.std.specs.Prelude.{◌↔◌, ℤ, Contains, Result, Ok, Err}
-use Rattle.delaunay_edit.specs.half_edge_links.Mesh.{origin, rev}
-use Rattle.delaunay_edit.specs.plane.Pairs.{Joins, IsSamePair}
-use Rattle.delaunay_edit.specs.plane.Plain.{Plain, Releases}
-use Rattle.delaunay_edit.specs.plane.Tiling.{IsEdge}
-use Rattle.delaunay_edit.proofs.plane.Indexes.{same_joined}
-use Rattle.delaunay_edit.proofs.plane_theorems.Edits.Legalization.Flipping.{joins_or_not}
-use Rattle.delaunay_edit.proofs.delaunay_legalization_lemmas.EdgePairs.{edge_joins, joins_edge}
-use Rattle.delaunay_edit.specs.delaunay_core.declared.point.Point2.{Point2}
-use Rattle.delaunay_edit.specs.delaunay_core.declared.math.InsertionError.TheVariants.{OutOfMemory}
-use Rattle.delaunay_edit.specs.delaunay_legalization.CdtEdge.{is_constraint}
-use Rattle.delaunay_edit.specs.delaunay_legalization.declared.cdt_edge.CdtEdge.{CdtEdge}
-use Rattle.delaunay_edit.specs.delaunay_legalization.Shape.{IsTriangulated}
-use Rattle.delaunay_edit.specs.delaunay_legalization.State.{State, triangulation_of}
-use Rattle.delaunay_edit.proofs.delaunay_legalization_lemmas.Questions.{both_ways}
-use Rattle.delaunay_edit.proofs.AddingPieces.{half_ends}
+use Rattle.plane.specs.{IsEdge, IsSamePair, Joins, Plain, Releases}
+use Rattle.half_edge_links.specs.{origin, rev}
+use Rattle.{delaunay_core.specs.OutOfMemory, delaunay_core.specs.Point2, plane.proofs.same_joined}
+use Rattle.delaunay_legalization.specs.{is_constraint, IsTriangulated, triangulation_of}
+use Rattle.delaunay_legalization.specs.{declared.cdt_edge.CdtEdge.CdtEdge, State.State}
+use Rattle.delaunay_legalization.proofs.{both_ways, edge_joins, joins_edge}
+use Rattle.delaunay_edit.specs.{constrained, constraint_edges, constraints_of, ReleasesConstraint}
+use Rattle.{delaunay_edit.proofs.AddingSubconstraints.half_ends, plane_theorems.proofs.joins_or_not}
+use Rattle.{delaunay_interface.specs.AreNotJoined, triangulate_run.proofs.Marks.contents_of}
+use Rattle.triangulate_run.specs.{Answer.MayRelease, position, Refused, stage_by}
+use Rattle.triangulate_run.specs.declared.reply.Reply.TheVariants.{NotConstrained, Released}
 use Rattle.delaunay_edit.proofs.JoinedPairs as joined
-use Rattle.delaunay_edit.specs.Constrained.{constrained, constraints_of, constraint_edges}
-use Rattle.delaunay_edit.specs.ConstraintEdits.{ReleasesConstraint}
-use Rattle.delaunay_interface.specs.Views.{AreNotJoined}
-use Rattle.triangulate_run.specs.declared.reply.Reply.TheVariants.{NotConstrained, Refused}
-use Rattle.triangulate_run.specs.declared.reply.Reply.TheVariants.{Released}
-use Rattle.triangulate_run.specs.Answer.{MayRelease}
-use Rattle.triangulate_run.specs.Engine.{stage_by}
-use Rattle.triangulate_run.specs.Stage.{position}
-use Rattle.triangulate_run.proofs.Marks.{contents_of}
 
 -- ---- edges between two vertices
 module _ {D U F : Type 0} (s : State (Point2 ℤ) D U F) (kept : IsTriangulated position s)

@@ -7,16 +7,11 @@ use Rattle.std.proofs.Common.{inr, IsTrue, sym}
 use Rattle.std.specs.Prelude.{pos, int_lt}
 use Rattle.std.proofs.lemmas.Bool.{and_parts, cases_eq}
 use Rattle.std.specs.Bool.{beq}
-use Rattle.delaunay_edit.specs.plane.Fraction.{whole}
-use Rattle.delaunay_edit.specs.plane.Side.{Side, side, left, right, on, TurnsLeft}
-use Rattle.delaunay_edit.specs.plane.Circle.{InsideCircle}
-use Rattle.delaunay_edit.specs.plane.Laws.{lifted_determinant}
-use Rattle.delaunay_edit.proofs.plane.Circles.{inside_is_determinant}
-use Rattle.delaunay_edit.proofs.plane.Sides.{less_by_test, test_true}
-use Rattle.triangulate_run.specs.declared.points.SheetPoint.{SheetPoint}
-use Rattle.triangulate_run.specs.declared.circles.Circle.{Circle}
-use Rattle.triangulate_run.specs.Points.{point_in, is_site_in}
-use Rattle.triangulate_run.specs.Table.{is_left_in, side_in, is_inside_in}
+use Rattle.plane.specs.{InsideCircle, left, lifted_determinant, on, right, Side, side, TurnsLeft}
+use Rattle.plane.specs.{whole}
+use Rattle.plane.proofs.{inside_is_determinant, less_by_test, test_true}
+use Rattle.triangulate_run.specs.{Circle, point_in, Points.is_site_in, SheetPoint}
+use Rattle.triangulate_run.specs.Table.{is_inside_in, is_left_in, side_in}
 
 -- the test of all numbers below a bound by one test
 abbrev pub all_below : (ℕ → Bool) → ℕ → Bool

@@ -14,15 +14,11 @@ use Rattle.std.proofs.lemmas.List.Elements.{All-push, All-nil}
 use Rattle.std.proofs.lemmas.Bool.{eqb-true, eqb-false}
 use Rattle.std.proofs.lemmas.List.{length_push, nil_from_length, take_all, take-append-le}
 use Rattle.std.specs.Bool.{◌==◌}
-use Rattle.triangulate_run.specs.Grammar.{Spells}
-use Rattle.triangulate_run.specs.declared.watched.Watched.{Watched}
-use Rattle.triangulate_run.specs.Watched.{inner_of, has_failed}
-use Rattle.triangulate_run.specs.declared.points.SheetPoint.{SheetPoint}
-use Rattle.triangulate_run.specs.Stage.{Stage, first_stage, Fits}
-use Rattle.triangulate_run.specs.Line.{kept}
-use Rattle.triangulate_run.specs.Output.{AppendsPart}
-use Rattle.triangulate_run.specs.Run.{Cut, IsOneLine, Answers, AnswersAll, IsAllowed, bad_line}
-use Rattle.triangulate_run.specs.Run.{RanToEnd, RanToFault, RanInPart, end_text}
+use Rattle.triangulate_run.specs.{AppendsPart, Fits, has_failed, inner_of, SheetPoint}
+use Rattle.{triangulate_run.specs.Grammar.Spells, triangulate_run.specs.Line.kept}
+use Rattle.triangulate_run.specs.Run.{Answers, AnswersAll, bad_line, Cut, end_text, IsAllowed}
+use Rattle.triangulate_run.specs.Run.{IsOneLine, RanInPart, RanToEnd, RanToFault}
+use Rattle.triangulate_run.specs.{declared.watched.Watched.Watched, Stage.first_stage, Stage.Stage}
 use Rattle.triangulate_run.proofs.OutputLemmas.{appends_more, appends_nil, part_behind}
 
 -- between two bytes: these lines were read and answered, and this much of the next

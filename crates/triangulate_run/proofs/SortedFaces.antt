@@ -9,9 +9,9 @@ use Rattle.std.proofs.lemmas.Bool.{and_parts, and_from}
 use Rattle.std.proofs.lemmas.Bool.Decides.{nat_tests, Decides-eqb}
 use Rattle.std.proofs.lemmas.Map.Keys.{IsDistinct-IsPermutation}
 use Rattle.std.proofs.lemmas.Map.Made.{AllPairs-from_IsDistinct, IsDistinct-from_AllPairs}
+use Rattle.triangulate_run.specs.Corners.{ComesFirst, corners}
 use Rattle.triangulate_run.specs.declared.corners.Corners.{Corners}
 use Rattle.triangulate_run.specs.contracts.corners.CornersOrd.TheImpl as ord
-use Rattle.triangulate_run.specs.Corners.{corners, ComesFirst}
 
 before_if : (c d : Corners) → is_lt ((ord.ghosts).cmp d c) ≡ false → c ≢ d → ComesFirst c d
 before_if c d e apart = grind (arith, nat_tests)

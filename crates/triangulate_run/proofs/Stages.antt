@@ -2,19 +2,14 @@
 -- Lemmas: fits, joins_there, answered_so.
 use Rattle.std.proofs.Common.{◌≡◌, List, refl, subst}
 use Rattle.std.specs.Prelude.{ℕ, ℤ}
-use Rattle.delaunay_edit.specs.delaunay_core.declared.point.Point2.{Point2}
-use Rattle.delaunay_edit.specs.delaunay_legalization.State.{State}
-use Rattle.delaunay_edit.specs.Headline.{IsWellFormed}
-use Rattle.triangulate_run.specs.declared.command.Command.{Command}
-use Rattle.triangulate_run.specs.declared.command.Command.TheVariants.{Insert, Remove, Release}
-use Rattle.triangulate_run.specs.declared.command.Command.TheVariants.{Constrain, Locate, Line}
-use Rattle.triangulate_run.specs.declared.command.Command.TheVariants.{Nearest, Counts, Faces}
-use Rattle.triangulate_run.specs.declared.points.SheetPoint.{SheetPoint}
-use Rattle.triangulate_run.specs.declared.reply.Reply.{Reply}
-use Rattle.triangulate_run.specs.Answer.{MayAnswer, MayJoin, MayReply}
-use Rattle.triangulate_run.specs.Engine.{stage_by}
-use Rattle.triangulate_run.specs.Reply.{reply_text}
-use Rattle.triangulate_run.specs.Stage.{Fits, Stage, position}
+use Rattle.delaunay_core.specs.{Point2}
+use Rattle.{delaunay_edit.specs.IsWellFormed, delaunay_legalization.specs.State.State}
+use Rattle.triangulate_run.specs.{Fits, position, reply_text, SheetPoint, stage_by}
+use Rattle.triangulate_run.specs.{Answer.MayAnswer, Answer.MayJoin, Answer.MayReply, Stage.Stage}
+use Rattle.triangulate_run.specs.{declared.command.Command.Command, declared.reply.Reply.Reply}
+use Rattle.triangulate_run.specs.declared.command.Command.TheVariants.{Constrain, Counts, Faces}
+use Rattle.triangulate_run.specs.declared.command.Command.TheVariants.{Insert, Line, Locate}
+use Rattle.triangulate_run.specs.declared.command.Command.TheVariants.{Nearest, Release, Remove}
 
 -- the stage of a sound triangulation fits
 pub fits : {D U F : Type 0} (constraints : List U → List ℕ) (s : State (Point2 ℤ) D U F)

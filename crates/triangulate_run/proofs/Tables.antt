@@ -1,12 +1,10 @@
 -- The tables of the sheets pass the tests.
 -- Lemmas: g_sides, g_circles, b_sides, b_circles, l_sides, l_circles, x_sides, x_circles, r_level.
 use Rattle.std.proofs.Common.{◌≡◌, true, refl}
-use Rattle.delaunay_edit.specs.plane.Side.{side}
-use Rattle.triangulate_run.specs.declared.table.TheConstants.{G_POINTS, B_POINTS, R_POINTS}
-use Rattle.triangulate_run.specs.declared.table.TheConstants.{L_POINTS, X_POINTS, GRID_CIRCLES}
-use Rattle.triangulate_run.specs.declared.table.TheConstants.{L_CIRCLES, X_CIRCLES}
-use Rattle.triangulate_run.proofs.Rule.{sides_agree, side_agrees, circles_agree, circle_agrees}
-use Rattle.triangulate_run.proofs.Level.{are_level}
+use Rattle.{plane.specs.side, triangulate_run.proofs.Level.are_level}
+use Rattle.triangulate_run.specs.{B_POINTS, G_POINTS, L_POINTS, R_POINTS, X_POINTS}
+use Rattle.triangulate_run.specs.declared.table.TheConstants.{GRID_CIRCLES, L_CIRCLES, X_CIRCLES}
+use Rattle.triangulate_run.proofs.Rule.{circle_agrees, circles_agree, side_agrees, sides_agree}
 
 -- what the table of sheet G tells of sides passes the test
 pub g_sides : sides_agree G_POINTS GRID_CIRCLES ≡ true

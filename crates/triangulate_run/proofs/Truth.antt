@@ -1,23 +1,16 @@
 -- The answers of the sheets are true.
 -- Lemmas: side_from, inside_from.
 use Rattle.std.proofs.Common.{◌≡◌, ℕ, Bool, List, ap, ◌∙◌, IsTrue, ◌↔◌}
-use Rattle.delaunay_edit.specs.plane.Fraction.{Point, whole}
-use Rattle.delaunay_edit.specs.plane.Side.{Side, side, TurnsLeft}
-use Rattle.delaunay_edit.specs.plane.Circle.{InsideCircle}
-use Rattle.triangulate_run.specs.declared.sheet.Sheet.{Sheet}
-use Rattle.triangulate_run.specs.declared.sheet.Sheet.TheVariants.{G, B, R, L, X}
-use Rattle.triangulate_run.specs.declared.circles.Circle.{Circle}
-use Rattle.triangulate_run.specs.declared.points.SheetPoint.{SheetPoint}
-use Rattle.triangulate_run.specs.declared.table.TheConstants.{G_POINTS, B_POINTS, R_POINTS}
-use Rattle.triangulate_run.specs.declared.table.TheConstants.{L_POINTS, X_POINTS, GRID_CIRCLES}
-use Rattle.triangulate_run.specs.declared.table.TheConstants.{L_CIRCLES, X_CIRCLES}
-use Rattle.triangulate_run.specs.Points.{HoldsAt, IsSiteAt}
-use Rattle.triangulate_run.specs.Sheet.{points_of, circles_of}
-use Rattle.triangulate_run.specs.Table.{side_in, is_inside_in}
-use Rattle.triangulate_run.proofs.Rule.{SidesAreTrue, CirclesAreTrue, sides_true, circles_true}
-use Rattle.triangulate_run.proofs.Level.{level_sides_true, level_circles_true}
-use Rattle.triangulate_run.proofs.Tables.{g_sides, g_circles, b_sides, b_circles, l_sides}
-use Rattle.triangulate_run.proofs.Tables.{l_circles, x_sides, x_circles, r_level}
+use Rattle.plane.specs.{InsideCircle, Point, Side, side, TurnsLeft, whole}
+use Rattle.triangulate_run.specs.{B_POINTS, Circle, G_POINTS, HoldsAt, IsSiteAt, L_POINTS, R_POINTS}
+use Rattle.triangulate_run.specs.{SheetPoint, Table.is_inside_in, Table.side_in, X_POINTS}
+use Rattle.triangulate_run.specs.{declared.sheet.Sheet.Sheet, Sheet.circles_of, Sheet.points_of}
+use Rattle.triangulate_run.specs.declared.sheet.Sheet.TheVariants.{B, G, L, R, X}
+use Rattle.triangulate_run.specs.declared.table.TheConstants.{GRID_CIRCLES, L_CIRCLES, X_CIRCLES}
+use Rattle.triangulate_run.proofs.Level.{level_circles_true, level_sides_true}
+use Rattle.triangulate_run.proofs.Rule.{circles_true, CirclesAreTrue, sides_true, SidesAreTrue}
+use Rattle.triangulate_run.proofs.Tables.{b_circles, b_sides, g_circles, g_sides, l_circles}
+use Rattle.triangulate_run.proofs.Tables.{l_sides, r_level, x_circles, x_sides}
 
 -- the side that the table of a sheet tells of three of its points is their side in the plane
 sides_are_true : (s : Sheet) → SidesAreTrue (points_of s) (circles_of s)

@@ -7,21 +7,13 @@ use Rattle.std.proofs.Common.{append-nil, true, is_some, inl}
 use Rattle.std.specs.Prelude.{ℤ, codes, MatchOption, Result, MatchResult}
 use Rattle.std.specs.List.{flat_map}
 use Rattle.std.proofs.lemmas.Grind.{flat_map-append}
-use Rattle.delaunay_edit.specs.plane.Fraction.{Point, whole}
-use Rattle.delaunay_edit.specs.plane.Line.{Item, IsLineList}
-use Rattle.delaunay_edit.specs.plane.Tiling.{Triangulation}
-use Rattle.delaunay_edit.specs.delaunay_location.declared.intersection.Intersection.{Intersection}
-use Rattle.delaunay_edit.specs.delaunay_location.declared.iterator.LineIntersectionIterator.{LineIntersectionIterator}
-use Rattle.delaunay_edit.specs.delaunay_location.Items.{item_in}
-use Rattle.delaunay_edit.specs.delaunay_location.Walk.{AreLeft, GivesNext}
-use Rattle.triangulate_run.specs.declared.points.SheetPoint.{SheetPoint}
-use Rattle.triangulate_run.specs.Answer.{MayWalk}
-use Rattle.triangulate_run.specs.Output.{AppendsPart, Sends}
-use Rattle.triangulate_run.specs.Points.{HoldsAt, IsListed}
-use Rattle.triangulate_run.specs.Reply.{item_text, line_text, next_text}
-use Rattle.triangulate_run.proofs.Insertions.{listed_if_known}
-use Rattle.triangulate_run.proofs.OutputLemmas.{passes_nil, passes_more, first_fails}
-use Rattle.triangulate_run.proofs.OutputLemmas.{second_fails, puts_behind}
+use Rattle.plane.specs.{IsLineList, Item, Point, Triangulation, whole}
+use Rattle.delaunay_location.specs.{AreLeft, GivesNext, Intersection, item_in}
+use Rattle.delaunay_location.specs.{LineIntersectionIterator}
+use Rattle.triangulate_run.specs.{AppendsPart, HoldsAt, IsListed, Sends, SheetPoint}
+use Rattle.triangulate_run.specs.{Answer.MayWalk, Reply.item_text, Reply.line_text, Reply.next_text}
+use Rattle.triangulate_run.proofs.{Insertions.listed_if_known, OutputLemmas.second_fails}
+use Rattle.triangulate_run.proofs.OutputLemmas.{first_fails, passes_more, passes_nil, puts_behind}
 
 -- of the items that were left, these were put, and those are left
 pub record PutsSome {V D U F P S : Type 0} (at : V → Point) (number : S → ℤ)

@@ -7,7 +7,7 @@ use Rattle.std.specs.List.{All}
 use Rattle.std.proofs.lemmas.List.Splits.{slice_split_at, slice_split_none}
 use Rattle.std.proofs.lemmas.List.{take-append-drop, get_or-take, get_or_default, at_drop_more}
 use Rattle.std.proofs.lemmas.Bool.{ne_eqb}
-use Rattle.triangulate_run.specs.Grammar.{words_of}
+use Rattle.triangulate_run.specs.{words_of}
 
 no_space : (text : List ℕ) → ((k : ℕ) → k < length text → get_or text k 0 ≡ 32 → ⊥)
     → All (λ b. eqb b 32 ≡ false) text

@@ -1,34 +1,21 @@
 -- Which reply a command may get, and what it makes of the stage.
 use Rattle.std.specs.Prelude.{◌≡◌, ◌≢◌, ◌⊎◌, ◌↔◌, ◌<◌, ◌+◌, ◌*◌, [], ◌∷◌}
 use Rattle.std.specs.Prelude.{ℕ, ℤ, List, Some, length, slice_get, All, AllPairs, Contains, ⊤}
-use Rattle.delaunay_edit.specs.plane.Fraction.{Point, whole}
-use Rattle.delaunay_edit.specs.plane.Line.{Item, IsLineList}
-use Rattle.delaunay_edit.specs.plane.Pairs.{Joins, SamePairs, EachPairOnce}
-use Rattle.delaunay_edit.specs.plane.Plain.{Replaces, Appends, Removes, Adds, CanAdd, Releases}
-use Rattle.delaunay_edit.specs.plane.Plain.{AreNeighboursOn, DifferInPosition, points_of}
-use Rattle.delaunay_edit.specs.plane.Tests.{InRange}
-use Rattle.delaunay_edit.specs.plane.Circle.{gap}
-use Rattle.delaunay_edit.specs.plane.Shape.{IsNearest}
-use Rattle.delaunay_edit.specs.plane.Tiling.{Triangulation, IsEdge, IsFace, IsVertex, vertex}
-use Rattle.delaunay_edit.specs.plane.Location.{IsLocation, on_vertex, on_edge, on_face}
-use Rattle.delaunay_edit.specs.plane.Location.{outside_hull, no_triangulation}
-use Rattle.delaunay_edit.specs.delaunay_core.declared.point.Point2.{Point2}
-use Rattle.delaunay_edit.specs.delaunay_core.declared.math.InsertionError.TheVariants.{TooLarge}
-use Rattle.delaunay_edit.specs.delaunay_core.declared.math.InsertionError.TheVariants.{OutOfMemory}
-use Rattle.delaunay_edit.specs.delaunay_core.declared.math.InsertionError.TheVariants.{OutOfIndexes}
-use Rattle.triangulate_run.specs.declared.command.Coordinates.{Coordinates}
-use Rattle.triangulate_run.specs.declared.command.Command.{Command}
-use Rattle.triangulate_run.specs.declared.command.Command.TheVariants.{Insert, Remove, Release}
-use Rattle.triangulate_run.specs.declared.command.Command.TheVariants.{Constrain, Locate, Line}
-use Rattle.triangulate_run.specs.declared.command.Command.TheVariants.{Nearest, Counts, Faces}
-use Rattle.triangulate_run.specs.declared.points.SheetPoint.{SheetPoint}
+use Rattle.plane.specs.{Adds, Appends, AreNeighboursOn, CanAdd, DifferInPosition, EachPairOnce, gap}
+use Rattle.plane.specs.{InRange, IsEdge, IsFace, IsLineList, IsLocation, IsNearest, IsVertex, Item}
+use Rattle.plane.specs.{Joins, no_triangulation, on_edge, on_face, on_vertex, outside_hull, Point}
+use Rattle.plane.specs.{points_of, Releases, Removes, Replaces, SamePairs, Triangulation, vertex}
+use Rattle.{plane.specs.whole, triangulate_run.specs.declared.command.Command.Command}
+use Rattle.delaunay_core.specs.{OutOfIndexes, OutOfMemory, Point2, TooLarge}
+use Rattle.triangulate_run.specs.{Corners.ComesFirst, declared.command.Coordinates.Coordinates}
+use Rattle.triangulate_run.specs.{Points.IsListed, Points.IsListedSite, Stage.position, Stage.Stage}
+use Rattle.triangulate_run.specs.Reply.{line_text, path_text, reply_text}
+use Rattle.triangulate_run.specs.declared.command.Command.TheVariants.{Constrain, Counts, Faces}
+use Rattle.triangulate_run.specs.declared.command.Command.TheVariants.{Insert, Line, Locate}
+use Rattle.triangulate_run.specs.declared.command.Command.TheVariants.{Nearest, Release, Remove}
 use Rattle.triangulate_run.specs.declared.corners.Corners.{Corners}
-use Rattle.triangulate_run.specs.declared.reply.Reply.{Reply}
+use Rattle.triangulate_run.specs.{declared.points.SheetPoint.SheetPoint, declared.reply.Reply.Reply}
 use Rattle.triangulate_run.specs.declared.reply.Reply.TheVariants as reply
-use Rattle.triangulate_run.specs.Points.{IsListed, IsListedSite}
-use Rattle.triangulate_run.specs.Corners.{ComesFirst}
-use Rattle.triangulate_run.specs.Reply.{reply_text, path_text, line_text}
-use Rattle.triangulate_run.specs.Stage.{Stage, position}
 
 -- the point with these coordinates
 abbrev pub point_at : Coordinates → Point2 ℤ

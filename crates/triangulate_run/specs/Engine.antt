@@ -1,17 +1,12 @@
 -- The stage of a triangulation of points, and what it needs to answer commands.
 use Rattle.std.specs.Prelude.{◌≡◌, ℕ, ℤ, true, List, All, map}
-use Rattle.delaunay_edit.specs.plane.Fraction.{Point}
-use Rattle.delaunay_edit.specs.half_edge_links.Mesh.{Mesh, origin, rev}
-use Rattle.delaunay_edit.specs.delaunay_core.declared.point.Point2.{Point2}
-use Rattle.delaunay_edit.specs.delaunay_legalization.Constraints.{points_and_constraints_by}
-use Rattle.delaunay_edit.specs.delaunay_legalization.State.{State, triangulation_of}
-use Rattle.delaunay_edit.specs.Constrained.{none, constraint_edges}
-use Rattle.triangulate_run.specs.declared.engine.Either.{Either}
-use Rattle.triangulate_run.specs.declared.engine.PointEngine.{PointEngine}
-use Rattle.triangulate_run.specs.declared.engine.Either.TheVariants.{Plain, Constrained}
-use Rattle.triangulate_run.specs.declared.points.SheetPoint.{SheetPoint}
-use Rattle.triangulate_run.specs.Points.{place}
-use Rattle.triangulate_run.specs.Stage.{Stage, position}
+use Rattle.half_edge_links.specs.{Mesh, origin, rev}
+use Rattle.{delaunay_core.specs.Point2, triangulate_run.specs.declared.points.SheetPoint.SheetPoint}
+use Rattle.delaunay_legalization.specs.{points_and_constraints_by, State.State, triangulation_of}
+use Rattle.{delaunay_edit.specs.constraint_edges, delaunay_edit.specs.none, plane.specs.Point}
+use Rattle.triangulate_run.specs.{declared.engine.PointEngine.PointEngine, Points.place}
+use Rattle.triangulate_run.specs.{declared.engine.Either.Either, Stage.position, Stage.Stage}
+use Rattle.triangulate_run.specs.declared.engine.Either.TheVariants.{Constrained, Plain}
 
 -- the stage of a triangulation whose constraints the data of its edges tell
 abbrev pub stage_by : {D U F : Type 0} → (List U → List ℕ) → State (Point2 ℤ) D U F → Stage

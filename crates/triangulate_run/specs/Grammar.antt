@@ -4,9 +4,9 @@ use Rattle.std.specs.Prelude.{ℕ, ℤ, pos, neg_ℤ, List, length, codes}
 use Rattle.std.specs.List.{AllZip, slice_split}
 use Rattle.std.specs.Str.Parse.{AllDigits, digits_value}
 use Rattle.triangulate_run.specs.declared.command.Command.{Command}
-use Rattle.triangulate_run.specs.declared.command.Command.TheVariants.{Insert, Remove, Constrain}
-use Rattle.triangulate_run.specs.declared.command.Command.TheVariants.{Release, Locate, Nearest}
-use Rattle.triangulate_run.specs.declared.command.Command.TheVariants.{Line, Counts, Faces}
+use Rattle.triangulate_run.specs.declared.command.Command.TheVariants.{Constrain, Counts, Faces}
+use Rattle.triangulate_run.specs.declared.command.Command.TheVariants.{Insert, Line, Locate}
+use Rattle.triangulate_run.specs.declared.command.Command.TheVariants.{Nearest, Release, Remove}
 
 -- the word is 1 to 18 digits, which write n
 pub record IsDigits (word : List ℕ) (n : ℕ) : Type 0 where

@@ -1,9 +1,7 @@
 -- The faces of a mesh as they are written.
 use Rattle.std.specs.Prelude.{ℕ}
-use Rattle.delaunay_edit.specs.half_edge_links.Mesh.{Mesh, face_edge}
-use Rattle.delaunay_edit.specs.half_edge_links.Triangles.{Triangle, triangle_at}
-use Rattle.triangulate_run.specs.declared.corners.Corners.{Corners}
-use Rattle.triangulate_run.specs.Corners.{least_first}
+use Rattle.half_edge_links.specs.{face_edge, Mesh, Triangle, triangle_at}
+use Rattle.triangulate_run.specs.{Corners.least_first, declared.corners.Corners.Corners}
 
 -- the corners of a face as they are written, from the least on
 abbrev pub row_of : Triangle → Corners

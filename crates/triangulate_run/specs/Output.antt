@@ -1,8 +1,8 @@
 -- What is written to a watched writer.
 use Rattle.std.specs.Prelude.{◌≡◌, ℕ, true, false, List, ◌++◌, Option, Result, MatchResult}
 use Rattle.std.specs.Io.KnownBytes.{Appends}
+use Rattle.triangulate_run.specs.Watched.{has_failed, inner_of}
 use Rattle.triangulate_run.specs.declared.watched.Watched.{Watched}
-use Rattle.triangulate_run.specs.Watched.{inner_of, has_failed}
 
 -- new holds some beginning of the text behind what old held
 pub record AppendsPart (old new : Option (List ℕ)) (text : List ℕ) : Type 0 where

@@ -2,7 +2,7 @@
 use Rattle.std.specs.Prelude.{ℕ, List, decimal}
 use Rattle.std.specs.Fmt.{signed_decimal}
 use Rattle.triangulate_run.specs.declared.output.Piece.{Piece}
-use Rattle.triangulate_run.specs.declared.output.Piece.TheVariants.{Text, Index, Signed}
+use Rattle.triangulate_run.specs.declared.output.Piece.TheVariants.{Index, Signed, Text}
 
 -- the bytes of a piece: those of a text, or the decimal digits of a number
 abbrev pub text_of : Piece → List ℕ

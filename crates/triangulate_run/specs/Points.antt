@@ -1,8 +1,7 @@
 -- A list of points, some of them sites.
 use Rattle.std.specs.Prelude.{◌≡◌, ℕ, ◌<◌, pos, Bool, true, false, List, length, get_or}
-use Rattle.delaunay_edit.specs.plane.Fraction.{Point}
-use Rattle.delaunay_edit.specs.delaunay_core.Place.{place_of}
-use Rattle.triangulate_run.specs.declared.points.SheetPoint.{SheetPoint}
+use Rattle.{plane.specs.Point, triangulate_run.specs.declared.points.SheetPoint.SheetPoint}
+use Rattle.delaunay_core.specs.{place_of}
 
 -- the point of the plane that a listed point is
 abbrev pub place : SheetPoint → Point

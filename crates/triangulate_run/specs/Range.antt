@@ -3,13 +3,10 @@ use Rattle.std.specs.Prelude.{◌≡◌, ◌&&◌, [], ◌∷◌, ◌≤ℤ◌}
 use Rattle.std.specs.Prelude.{ℕ, zero, suc, ℤ, negsuc, Bool, true, List, int_le, T}
 use Rattle.std.proofs.Common.{refl, sym, subst}
 use Rattle.std.proofs.lemmas.Bool.{and_parts}
-use Rattle.delaunay_edit.specs.plane.Fraction.{Point}
-use Rattle.delaunay_edit.specs.plane.Tests.{limit, IsCoordinate, InRange}
-use Rattle.triangulate_run.specs.declared.sheet.Sheet.{Sheet}
-use Rattle.triangulate_run.specs.declared.sheet.Sheet.TheVariants.{G, B, R, L, X}
-use Rattle.triangulate_run.specs.declared.points.SheetPoint.{SheetPoint}
-use Rattle.triangulate_run.specs.Points.{place, point_in}
-use Rattle.triangulate_run.specs.Sheet.{points_of, IsCovered}
+use Rattle.plane.specs.{InRange, IsCoordinate, Point, Tests.limit}
+use Rattle.triangulate_run.specs.{Points.place, Points.point_in, Sheet.IsCovered, Sheet.points_of}
+use Rattle.triangulate_run.specs.{declared.points.SheetPoint.SheetPoint, declared.sheet.Sheet.Sheet}
+use Rattle.triangulate_run.specs.declared.sheet.Sheet.TheVariants.{B, G, L, R, X}
 
 abbrev is_coordinate : ℤ → Bool
 is_coordinate z = int_le (negsuc 536870911) z && int_le z limit

@@ -5,11 +5,11 @@ use Rattle.std.specs.Prelude.{Some, None, option_and_then}
 use Rattle.std.specs.Option.{option_map}
 use Rattle.std.specs.Str.{all_ascii_digits, bytes_eq}
 use Rattle.std.specs.Str.Parse.{digits_value}
-use Rattle.triangulate_run.specs.declared.command.Coordinates.{Coordinates}
 use Rattle.triangulate_run.specs.declared.command.Command.{Command}
-use Rattle.triangulate_run.specs.declared.command.Command.TheVariants.{Insert, Remove, Constrain}
-use Rattle.triangulate_run.specs.declared.command.Command.TheVariants.{Release, Locate, Nearest}
-use Rattle.triangulate_run.specs.declared.command.Command.TheVariants.{Line, Counts, Faces}
+use Rattle.triangulate_run.specs.declared.command.Command.TheVariants.{Constrain, Counts, Faces}
+use Rattle.triangulate_run.specs.declared.command.Command.TheVariants.{Insert, Line, Locate}
+use Rattle.triangulate_run.specs.declared.command.Command.TheVariants.{Nearest, Release, Remove}
+use Rattle.triangulate_run.specs.declared.command.Coordinates.{Coordinates}
 
 infixl 10 ◌>>=◌
 -- what f makes of a value, where there is one

@@ -2,13 +2,9 @@
 use Rattle.std.specs.Prelude.{ℕ, List, [], ◌∷◌, ◌++◌, codes, decimal}
 use Rattle.std.specs.Fmt.{signed_decimal}
 use Rattle.std.specs.List.{flat_map}
-use Rattle.delaunay_edit.specs.plane.Line.{Item, at_vertex, across, along}
-use Rattle.delaunay_edit.specs.delaunay_core.declared.math.InsertionError.{InsertionError}
-use Rattle.delaunay_edit.specs.delaunay_core.declared.math.InsertionError.TheVariants.{TooLarge}
-use Rattle.delaunay_edit.specs.delaunay_core.declared.math.InsertionError.TheVariants.{OutOfMemory}
-use Rattle.delaunay_edit.specs.delaunay_core.declared.math.InsertionError.TheVariants.{OutOfIndexes}
-use Rattle.triangulate_run.specs.declared.corners.Corners.{Corners}
-use Rattle.triangulate_run.specs.declared.reply.Reply.{Reply}
+use Rattle.plane.specs.{across, along, at_vertex, Item}
+use Rattle.delaunay_core.specs.{InsertionError, OutOfIndexes, OutOfMemory, TooLarge}
+use Rattle.triangulate_run.specs.{declared.corners.Corners.Corners, declared.reply.Reply.Reply}
 use Rattle.triangulate_run.specs.declared.reply.Reply.TheVariants as reply
 
 -- the name of an error of an insertion

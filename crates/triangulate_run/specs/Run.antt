@@ -3,16 +3,14 @@ use Rattle.std.specs.Prelude.{◌≡◌, ◌≢◌, ◌⊎◌, [], ◌∷◌, �
 use Rattle.std.specs.Prelude.{ℕ, true, false, List, codes, Option, Result, Ok, Err, All}
 use Rattle.std.specs.List.{flat_map}
 use Rattle.std.specs.Io.KnownBytes.{Consumes, Appends, IsAtEnd}
-use Rattle.triangulate_run.specs.declared.watched.Watched.{Watched}
-use Rattle.triangulate_run.specs.Watched.{inner_of, has_failed}
+use Rattle.triangulate_run.specs.{Answer.MayAnswer, declared.points.SheetPoint.SheetPoint}
 use Rattle.triangulate_run.specs.Grammar.{Spells, SpellsNone}
+use Rattle.triangulate_run.specs.{Output.AppendsPart, Stage.first_stage, Stage.Fits, Stage.Stage}
+use Rattle.triangulate_run.specs.Watched.{has_failed, inner_of}
 use Rattle.triangulate_run.specs.declared.command.Command.{Command}
-use Rattle.triangulate_run.specs.declared.points.SheetPoint.{SheetPoint}
 use Rattle.triangulate_run.specs.declared.fault.RunError.{RunError}
 use Rattle.triangulate_run.specs.declared.fault.RunError.TheVariants.{Read, Write}
-use Rattle.triangulate_run.specs.Stage.{Stage, first_stage, Fits}
-use Rattle.triangulate_run.specs.Answer.{MayAnswer}
-use Rattle.triangulate_run.specs.Output.{AppendsPart}
+use Rattle.triangulate_run.specs.declared.watched.Watched.{Watched}
 
 -- what a line that spells no command is answered
 abbrev pub bad_line : List ℕ

@@ -1,12 +1,10 @@
 -- The sheets: their points, and the tables of their answers.
 use Rattle.std.specs.Prelude.{ℕ, zero, suc, ℤ, pos, neg_ℤ, ◌+ℤ◌, true, false, List, [], ◌∷◌, codes}
-use Rattle.delaunay_edit.specs.plane.Fraction.{Point}
-use Rattle.triangulate_run.specs.declared.sheet.Sheet.{Sheet}
-use Rattle.triangulate_run.specs.declared.sheet.Sheet.TheVariants.{G, B, R, L, X}
-use Rattle.triangulate_run.specs.declared.points.SheetPoint.{SheetPoint}
-use Rattle.triangulate_run.specs.declared.circles.Circle.{Circle}
-use Rattle.triangulate_run.specs.declared.table.TheConstants.{GRID_CIRCLES, L_CIRCLES, X_CIRCLES}
+use Rattle.{plane.specs.Point, triangulate_run.specs.declared.circles.Circle.Circle}
 use Rattle.triangulate_run.specs.Points.{IsListed, IsListedSite}
+use Rattle.triangulate_run.specs.{declared.points.SheetPoint.SheetPoint, declared.sheet.Sheet.Sheet}
+use Rattle.triangulate_run.specs.declared.sheet.Sheet.TheVariants.{B, G, L, R, X}
+use Rattle.triangulate_run.specs.declared.table.TheConstants.{GRID_CIRCLES, L_CIRCLES, X_CIRCLES}
 
 -- a point that is a site
 abbrev pub site : ℤ → ℤ → SheetPoint

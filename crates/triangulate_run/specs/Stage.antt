@@ -1,12 +1,8 @@
 -- What stands between two lines: the vertices and constraints so far, and a triangulation of them.
 use Rattle.std.specs.Prelude.{◌≡◌, ℕ, ℤ, [], map}
-use Rattle.delaunay_edit.specs.plane.Fraction.{Point}
-use Rattle.delaunay_edit.specs.plane.Plain.{Plain, IsPlain}
-use Rattle.delaunay_edit.specs.plane.Tiling.{Triangulation, IsFace}
-use Rattle.delaunay_edit.specs.plane.Delaunay.{IsConstrainedDelaunay, IsStrictlyEmpty}
-use Rattle.delaunay_edit.specs.plane_theorems.Delaunay.History.{IsHistoryFree}
-use Rattle.delaunay_edit.specs.delaunay_core.declared.point.Point2.{Point2}
-use Rattle.delaunay_edit.specs.delaunay_core.Place.{place_of}
+use Rattle.plane.specs.{IsConstrainedDelaunay, IsFace, IsPlain, IsStrictlyEmpty, Plain, Point}
+use Rattle.plane_theorems.specs.{IsHistoryFree}
+use Rattle.{delaunay_core.specs.place_of, delaunay_core.specs.Point2, plane.specs.Triangulation}
 
 -- where a vertex is, which is a point and no more
 abbrev pub position : Point2 ℤ → Point

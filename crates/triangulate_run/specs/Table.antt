@@ -5,7 +5,7 @@ use Rattle.std.specs.Prelude.{Option, is_some}
 use Rattle.std.specs.Cmp.Lexicographic.{pointwise}
 use Rattle.std.specs.List.{list_any, find}
 use Rattle.std.specs.Option.{option_map_or}
-use Rattle.delaunay_edit.specs.plane.Side.{Side, left, right, on}
+use Rattle.plane.specs.{left, on, right, Side}
 use Rattle.triangulate_run.specs.declared.circles.Circle.{Circle}
 
 -- the triples have the triple t

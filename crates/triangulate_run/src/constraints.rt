@@ -1,11 +1,9 @@
 //! Constraints that are added and released.
 ghost use Rattle.std.specs.Prelude.{◌≡◌, ◌<◌, false, length, All};
-ghost use Rattle.triangulate_run.specs.Watched.{has_failed};
-ghost use Rattle.delaunay_edit.specs.Constrained.{none, constraint_edges};
-ghost use Rattle.triangulate_run.specs.Answer.{MayJoin, MayRelease};
-ghost use Rattle.triangulate_run.specs.Engine.{stage_by, ends_in, HasSites};
-ghost use Rattle.triangulate_run.specs.Output.{Puts, PutsSome};
-ghost use Rattle.triangulate_run.specs.Reply.{path_text};
+ghost use Rattle.delaunay_edit.specs.{constraint_edges, none};
+ghost use Rattle.triangulate_run.specs.{Answer.MayJoin, Answer.MayRelease, Watched.has_failed};
+ghost use Rattle.triangulate_run.specs.Engine.{ends_in, HasSites, stage_by};
+ghost use Rattle.triangulate_run.specs.{Output.Puts, Output.PutsSome, Reply.path_text};
 
 use crate::engine::{Constrained, Plain};
 use crate::line::put_ends;
@@ -13,10 +11,10 @@ use crate::output::Piece::Text;
 use crate::output::{Held, Written, put_pieces};
 use crate::reply::{Reply, put_reply};
 use crate::watched::Watched;
+use delaunay_core::HintGenerator;
+use delaunay_core::math::{InsertionError, PlaneTests};
 use delaunay_interface::Triangulation;
-use delaunay_interface::delaunay_core::HintGenerator;
-use delaunay_interface::delaunay_core::math::{InsertionError, PlaneTests};
-use delaunay_interface::half_edge_mesh::{FixedDirectedEdgeHandle, FixedVertexHandle};
+use half_edge_links::{FixedDirectedEdgeHandle, FixedVertexHandle};
 use std::io::Write;
 
 /// Adds the path between two vertices, and puts its edges behind what is held.

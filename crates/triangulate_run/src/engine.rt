@@ -1,12 +1,10 @@
 //! The answers of a triangulation to commands.
 ghost use Rattle.std.specs.Prelude.{◌≡◌, false, MatchOption};
-ghost use Rattle.triangulate_run.specs.Watched.{has_failed};
-ghost use Rattle.triangulate_run.specs.Stage.{position, Fits};
-ghost use Rattle.triangulate_run.specs.Output.{PutsSome};
-ghost use Rattle.triangulate_run.specs.Engine.{stage_of, IsEngineReady};
 ghost use Rattle.triangulate_run.specs.Answer.{AreVertices, IsReplied, MayAnswer, MayCount};
 ghost use Rattle.triangulate_run.specs.Answer.{MayJoin, MayMeasure, MayRelease, MayReply, MayWalk};
-ghost use Rattle.triangulate_run.specs.Answer.{point_at};
+ghost use Rattle.triangulate_run.specs.{Answer.point_at, Stage.Fits, Stage.position};
+ghost use Rattle.triangulate_run.specs.{Engine.IsEngineReady, Engine.stage_of, Watched.has_failed};
+ghost use Rattle.triangulate_run.specs.Output.{PutsSome};
 
 use crate::command::{Command, Coordinates};
 use crate::constraints::{constrain, release, release_free};
@@ -17,11 +15,11 @@ use crate::points::{SheetPoint, index_of};
 use crate::reply::{Reply, put_reply};
 use crate::shared::{count_reply, faces, insert, locate, remove, vertices_at};
 use crate::watched::Watched;
-use delaunay_interface::delaunay_core::HintGenerator;
-use delaunay_interface::delaunay_core::math::{InsertionError, PlaneTests};
-use delaunay_interface::delaunay_core::point::Point2;
-use delaunay_interface::half_edge_mesh::FixedVertexHandle;
+use delaunay_core::HintGenerator;
+use delaunay_core::math::{InsertionError, PlaneTests};
+use delaunay_core::point::Point2;
 use delaunay_interface::{ConstrainedDelaunayTriangulation, DelaunayTriangulation, Triangulation};
+use half_edge_links::FixedVertexHandle;
 use std::alloc::Global;
 use std::io::Write;
 use std::mem::replace;

@@ -4,7 +4,7 @@
 //! 18 digits, and a line has at most [`MAX_LINE`] bytes.
 
 ghost use Rattle.std.specs.Prelude.{IfSome, IfNone};
-ghost use Rattle.triangulate_run.specs.Grammar.{Spells, SpellsNone, SpellsAtMostOne};
+ghost use Rattle.triangulate_run.specs.Grammar.{Spells, SpellsAtMostOne, SpellsNone};
 
 use crate::command::Command;
 use crate::words::Words;

@@ -1,15 +1,11 @@
 //! What the way from one point to another meets.
 ghost use Rattle.std.specs.Prelude.{◌≡◌, ◌++◌, List, false};
 ghost use Rattle.std.specs.List.{flat_map};
-ghost use Rattle.delaunay_edit.specs.half_edge_links.Mesh.{origin, rev};
-ghost use Rattle.triangulate_run.specs.Watched.{has_failed};
-ghost use Rattle.delaunay_edit.specs.plane.Line.{Item};
-ghost use Rattle.delaunay_edit.specs.delaunay_legalization.State.{triangulation_of};
-ghost use Rattle.delaunay_edit.specs.delaunay_location.Items.{item_in};
-ghost use Rattle.delaunay_edit.specs.delaunay_location.Walk.{AreLeft, IsReady};
-ghost use Rattle.triangulate_run.specs.Answer.{MayWalk};
-ghost use Rattle.triangulate_run.specs.Engine.{stage_by, IsStageReady};
-ghost use Rattle.triangulate_run.specs.Output.{Puts, PutsSome};
+ghost use Rattle.{half_edge_links.specs.origin, half_edge_links.specs.rev, plane.specs.Item};
+ghost use Rattle.delaunay_legalization.specs.{triangulation_of};
+ghost use Rattle.delaunay_location.specs.{AreLeft, IsReady, item_in};
+ghost use Rattle.triangulate_run.specs.{Answer.MayWalk, Output.Puts, Output.PutsSome};
+ghost use Rattle.triangulate_run.specs.{Engine.IsStageReady, Engine.stage_by, Watched.has_failed};
 ghost use Rattle.triangulate_run.specs.Reply.{edge_text, item_text, next_text};
 ghost use Rattle.triangulate_run.specs.Stage.{position};
 
@@ -18,11 +14,13 @@ use crate::output::{Held, Written, put_pieces};
 use crate::points::{SheetPoint, index_of};
 use crate::reply::{Reply, put_reply};
 use crate::watched::Watched;
-use delaunay_interface::delaunay_core::HintGenerator;
-use delaunay_interface::delaunay_core::math::PlaneTests;
-use delaunay_interface::delaunay_core::point::Point2;
-use delaunay_interface::half_edge_mesh::DirectedEdgeHandle;
-use delaunay_interface::{EdgeData, Intersection, LineIntersectionIterator, TriangulationCore};
+use delaunay_core::HintGenerator;
+use delaunay_core::math::PlaneTests;
+use delaunay_core::point::Point2;
+use delaunay_edit::EdgeData;
+use delaunay_interface::TriangulationCore;
+use delaunay_location::{Intersection, LineIntersectionIterator};
+use half_edge_dcel::DirectedEdgeHandle;
 use std::io::Write;
 
 /// Puts what the way from one point of the list to another meets, in order, behind what is held.

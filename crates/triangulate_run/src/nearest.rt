@@ -1,20 +1,17 @@
 //! How far the nearest vertex is.
 ghost use Rattle.std.specs.Prelude.{◌≡◌, ◌⊎◌, ◌≤ℤ◌, length, MatchOption};
-ghost use Rattle.delaunay_edit.specs.plane.Tests.{InRange};
-ghost use Rattle.delaunay_edit.specs.Constrained.{none};
-ghost use Rattle.delaunay_edit.specs.delaunay_legalization.State.{triangulation_of};
-ghost use Rattle.triangulate_run.specs.Answer.{IsVertexDistance};
-ghost use Rattle.triangulate_run.specs.Engine.{stage_by, HasSites};
-ghost use Rattle.triangulate_run.specs.Stage.{position};
+ghost use Rattle.{plane.specs.InRange, triangulate_run.specs.Stage.position};
+ghost use Rattle.{delaunay_edit.specs.none, delaunay_legalization.specs.triangulation_of};
+ghost use Rattle.triangulate_run.specs.{Answer.IsVertexDistance, Engine.HasSites, Engine.stage_by};
 ghost use Rattle.triangulate_run.specs.declared.reply.Reply.TheVariants.{Distance, NoNeighbor};
 
 use crate::engine::Plain;
 use crate::reply::Reply;
+use delaunay_core::HintGenerator;
+use delaunay_core::math::PlaneTests;
+use delaunay_core::point::Point2;
 use delaunay_interface::Triangulation;
-use delaunay_interface::delaunay_core::HintGenerator;
-use delaunay_interface::delaunay_core::math::PlaneTests;
-use delaunay_interface::delaunay_core::point::Point2;
-use delaunay_interface::half_edge_mesh::FixedVertexHandle;
+use half_edge_links::FixedVertexHandle;
 
 /// The least squared distance to a vertex, by the search of a triangulation without constraints.
 pub(crate) fn nearest_of_plain<L: HintGenerator<i64>, P: PlaneTests<i64>>(

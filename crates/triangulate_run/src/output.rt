@@ -1,8 +1,7 @@
 //! Writing text to a watched writer.
 ghost use Rattle.std.specs.Prelude.{◌≡◌, false};
 ghost use Rattle.std.specs.List.{flat_map};
-ghost use Rattle.triangulate_run.specs.Watched.{has_failed};
-ghost use Rattle.triangulate_run.specs.Output.{Writes, Puts};
+ghost use Rattle.triangulate_run.specs.{Output.Puts, Output.Writes, Watched.has_failed};
 ghost use Rattle.triangulate_run.specs.Piece.{text_of};
 
 use crate::watched::{Failed, Watched};

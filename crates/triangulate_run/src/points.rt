@@ -1,9 +1,9 @@
 //! Points of a sheet, and where they stand in its list.
 ghost use Rattle.std.specs.Prelude.{MatchOption};
-ghost use Rattle.delaunay_edit.specs.delaunay_core.Place.{place_of};
-ghost use Rattle.triangulate_run.specs.Points.{HoldsAt, IsSiteAt, IsListed, IsListedSite};
+ghost use Rattle.delaunay_core.specs.{place_of};
+ghost use Rattle.triangulate_run.specs.Points.{HoldsAt, IsListed, IsListedSite, IsSiteAt};
 
-use delaunay_edit::delaunay_core::point::Point2;
+use delaunay_core::point::Point2;
 
 /// A point at which the program may ask its tests.
 #[derive(Clone, Copy, Debug, PartialEq, Eq)]

@@ -1,16 +1,14 @@
 //! The replies of the program, and how they are written.
 ghost use Rattle.std.specs.Prelude.{◌≡◌, ◌++◌, codes, false};
 ghost use Rattle.std.specs.List.{flat_map};
-ghost use Rattle.triangulate_run.specs.Watched.{has_failed};
-ghost use Rattle.triangulate_run.specs.Output.{Puts};
-ghost use Rattle.triangulate_run.specs.Reply.{corners_text, reply_text};
-ghost use Rattle.triangulate_run.specs.declared.reply.Reply.TheVariants.{Refused};
+ghost use Rattle.triangulate_run.specs.{declared.reply.Reply.TheVariants.Refused, Output.Puts};
+ghost use Rattle.triangulate_run.specs.{Reply.corners_text, Reply.reply_text, Watched.has_failed};
 
 use crate::corners::Corners;
 use crate::output::Piece::{Index, Signed, Text};
 use crate::output::{Held, Written, put_pieces};
 use crate::watched::Watched;
-use delaunay_edit::delaunay_core::math::InsertionError;
+use delaunay_core::math::InsertionError;
 use std::io::Write;
 
 /// What the program answers to a line. Vertices stand by their indexes.

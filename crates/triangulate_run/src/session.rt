@@ -1,11 +1,9 @@
 //! Lines in, replies out.
 ghost use Rattle.std.specs.Prelude.{◌≡◌, true, false, All};
-ghost use Rattle.triangulate_run.specs.Watched.{has_failed};
-ghost use Rattle.triangulate_run.specs.Points.{place};
+ghost use Rattle.triangulate_run.specs.{Engine.IsEngineReady, Engine.stage_of, Watched.has_failed};
 ghost use Rattle.triangulate_run.specs.Output.{Writes, WritesSome};
+ghost use Rattle.triangulate_run.specs.{Points.place, Run.Answers, Run.bad_line, Run.Ran};
 ghost use Rattle.triangulate_run.specs.Stage.{first_stage, Fits};
-ghost use Rattle.triangulate_run.specs.Engine.{stage_of, IsEngineReady};
-ghost use Rattle.triangulate_run.specs.Run.{Answers, Ran, bad_line};
 
 use crate::engine::{Either, Plain, PointEngine};
 use crate::fault::RunError;
@@ -14,9 +12,9 @@ use crate::output::{Held, Written, write_all};
 use crate::points::SheetPoint;
 use crate::watched::{Failed, Watched};
 use arrayvec::ArrayVec;
+use delaunay_core::HintGenerator;
+use delaunay_core::math::PlaneTests;
 use delaunay_interface::Triangulation;
-use delaunay_interface::delaunay_core::HintGenerator;
-use delaunay_interface::delaunay_core::math::PlaneTests;
 use std::alloc::Global;
 use std::io::{Read, Write};
 

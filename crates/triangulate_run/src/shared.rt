@@ -1,26 +1,23 @@
 //! Replies that a plain and a constrained triangulation give alike.
 ghost use Rattle.std.specs.Prelude.{◌≡◌, ◌<◌, IfOk, MatchOption, nat_lt, if◌then◌else◌};
-ghost use Rattle.delaunay_edit.specs.plane.Fraction.{Point, whole};
-ghost use Rattle.delaunay_edit.specs.plane.Location.{IsLocation};
-ghost use Rattle.delaunay_edit.specs.plane.Tiling.{IsTiling};
-ghost use Rattle.delaunay_edit.specs.Location.{location_of};
-ghost use Rattle.delaunay_edit.specs.Elements.{HasElement};
-ghost use Rattle.delaunay_edit.specs.delaunay_legalization.Constraints.{constraints_by};
-ghost use Rattle.delaunay_edit.specs.delaunay_legalization.State.{triangulation_of};
-ghost use Rattle.triangulate_run.specs.MeshFaces.{row_at};
-ghost use Rattle.triangulate_run.specs.Stage.{position};
-ghost use Rattle.triangulate_run.specs.Engine.{stage_by, HasSites, IsStageReady};
-ghost use Rattle.triangulate_run.specs.Answer.{AreSoMany, AreVertices, ListsFaces, IsThere};
+ghost use Rattle.plane.specs.{IsLocation, IsTiling, Point, whole};
+ghost use Rattle.delaunay_legalization.specs.{constraints_by, triangulation_of};
+ghost use Rattle.{delaunay_location.specs.location_of, triangulate_run.specs.Stage.position};
+ghost use Rattle.delaunay_edit.specs.{HasElement};
+ghost use Rattle.triangulate_run.specs.Answer.{AreSoMany, AreVertices, IsThere, ListsFaces};
 ghost use Rattle.triangulate_run.specs.Answer.{MayCount, MayInsert, MayList, MayLocate, MayRemove};
-ghost use Rattle.triangulate_run.specs.declared.reply.Reply.TheVariants.{Edge};
+ghost use Rattle.triangulate_run.specs.Engine.{HasSites, IsStageReady, stage_by};
+ghost use Rattle.triangulate_run.specs.{declared.reply.Reply.TheVariants.Edge, MeshFaces.row_at};
 
 use crate::corners::{Corners, from_least};
 use crate::points::{SheetPoint, index_of, site_index_of};
 use crate::reply::Reply;
-use delaunay_interface::delaunay_core::math::{InsertionError, PlaneTests, validate_vertex};
-use delaunay_interface::delaunay_core::point::Point2;
-use delaunay_interface::half_edge_mesh::{FaceHandle, FixedVertexHandle};
-use delaunay_interface::{PositionInTriangulation, Triangulation};
+use delaunay_core::math::{InsertionError, PlaneTests, validate_vertex};
+use delaunay_core::point::Point2;
+use delaunay_interface::Triangulation;
+use delaunay_location::PositionInTriangulation;
+use half_edge_dcel::FaceHandle;
+use half_edge_links::FixedVertexHandle;
 use std::alloc::{AllocError, Global};
 
 /// Inserts a point, if it is a site of the list.

@@ -1,23 +1,19 @@
 //! The sheets of points that the program knows, with their answers.
 ghost use Rattle.std.specs.Prelude.{◌≡◌, ◌↔◌, [], ◌∷◌};
 ghost use Rattle.std.specs.Prelude.{true, All, IfSome, IfNone, IsTrue, map, string_bytes};
-ghost use Rattle.delaunay_edit.specs.plane.Fraction.{whole};
-ghost use Rattle.delaunay_edit.specs.plane.Side.{side, TurnsLeft};
-ghost use Rattle.delaunay_edit.specs.plane.Circle.{InsideCircle};
-ghost use Rattle.triangulate_run.specs.Points.{place};
-ghost use Rattle.triangulate_run.specs.Sheet.{points_of, circles_of, letter_of, IsCovered, IsSite};
-ghost use Rattle.triangulate_run.specs.Range.{covered_in_range};
-ghost use Rattle.triangulate_run.specs.Stage.{position};
-ghost use Rattle.triangulate_run.specs.declared.sheet.Sheet.{Sheet};
+ghost use Rattle.plane.specs.{InsideCircle, side, TurnsLeft, whole};
+ghost use Rattle.{triangulate_run.specs.Points.place, triangulate_run.specs.Stage.position};
+ghost use Rattle.triangulate_run.specs.{declared.sheet.Sheet.Sheet, Range.covered_in_range};
+ghost use Rattle.triangulate_run.specs.Sheet.{circles_of, IsCovered, IsSite, letter_of, points_of};
 
 use crate::circles::{Circle, circle_of};
 use crate::points::{SheetPoint, index_of, site_index_of};
 use crate::table::{
     B_POINTS, G_POINTS, GRID_CIRCLES, L_CIRCLES, L_POINTS, R_POINTS, X_CIRCLES, X_POINTS,
 };
-use delaunay_edit::delaunay_core::line_side_info::LineSideInfo;
-use delaunay_edit::delaunay_core::math::PlaneTests;
-use delaunay_edit::delaunay_core::point::Point2;
+use delaunay_core::line_side_info::LineSideInfo;
+use delaunay_core::math::PlaneTests;
+use delaunay_core::point::Point2;
 
 /// A sheet of points, by its letter. As tests it covers its points, and its answers stand in
 /// tables.

@@ -3,7 +3,7 @@
 
 use crate::circles::Circle;
 use crate::points::SheetPoint;
-use delaunay_edit::delaunay_core::point::Point2;
+use delaunay_core::point::Point2;
 
 macro_rules! site {
     ($x:expr, $y:expr) => {

@@ -4,7 +4,7 @@ ghost use Rattle.std.specs.Prelude.{◌≡◌, ◌<◌, ◌+◌, ◌-◌, ◌^�
 ghost use Rattle.std.specs.Prelude.{true, false, OnOk, OnErr, IfOk, length};
 ghost use Rattle.std.specs.Io.{ReadsAtMost, WritesAtMost};
 ghost use Rattle.std.specs.Io.KnownBytes.{ReadConsumes, WriteAppends, Keeps};
-ghost use Rattle.triangulate_run.specs.Watched.{inner_of, has_failed, reads_left_of};
+ghost use Rattle.triangulate_run.specs.Watched.{has_failed, inner_of, reads_left_of};
 
 use std::io::{Read, Write};
 

@@ -1,8 +1,8 @@
 //! The words of a line, and what they stand for.
 ghost use Rattle.std.specs.Prelude.{◌≡◌, ◌<◌, ◌^◌, [], ◌∷◌};
 ghost use Rattle.std.specs.Prelude.{MatchOption, IfSome, OnSome, drop};
-ghost use Rattle.triangulate_run.specs.Reading.{index_value, first_index, first_number};
-ghost use Rattle.triangulate_run.specs.Reading.{coordinates_of, pair_of};
+ghost use Rattle.triangulate_run.specs.Reading.{coordinates_of, first_index, first_number};
+ghost use Rattle.triangulate_run.specs.Reading.{index_value, pair_of};
 
 use crate::command::Coordinates;
 use std::marker::Model;

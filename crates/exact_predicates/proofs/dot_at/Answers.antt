@@ -1,4 +1,4 @@
-use Rattle.exact_predicates.proofs.Widths.{sum_of, sum_fits, sum_bound, product_of}
+use Rattle.exact_predicates.proofs.Widths.{product_of, sum_bound, sum_fits, sum_of}
 use Rattle.exact_predicates.proofs.dot_at.Goals as goal
 
 pub overflow_add-result : goal.overflow_add-result

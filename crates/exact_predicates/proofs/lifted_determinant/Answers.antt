@@ -1,5 +1,5 @@
 use Rattle.std.proofs.Common.{◌∙◌}
-use Rattle.delaunay_core.specs.Place.{place_of}
+use Rattle.delaunay_core.specs.{place_of}
 use Rattle.exact_predicates.proofs.Determinants.{determinant_by_angles}
 use Rattle.exact_predicates.proofs.Widths.{long_difference_fits, long_difference_of, term_of}
 use Rattle.exact_predicates.proofs.lifted_determinant.Goals as goal

@@ -1,4 +1,4 @@
-use Rattle.exact_predicates.proofs.Widths.{difference_of, difference_fits, difference_bound}
+use Rattle.exact_predicates.proofs.Widths.{difference_bound, difference_fits, difference_of}
 use Rattle.exact_predicates.proofs.Widths.{product_of}
 use Rattle.exact_predicates.proofs.turn_at.Goals as goal
 

@@ -2,13 +2,12 @@
 -- Lemmas: links_from, flips, flips_is.
 use Rattle.std.proofs.Common.{◌≡◌, ℕ, refl, ap, arith}
 use Rattle.std.proofs.lemmas.List.{get_or-set_same, get_or-set_other, length-set}
-use Rattle.half_edge_links.specs.declared.records.HalfEdge.{HalfEdge}
-use Rattle.half_edge_links.specs.Mesh.{Mesh, no_edge, edge_at, rev, AreSoundLinks, HasLinks}
-use Rattle.half_edge_links.specs.Flip.{IsFlippable, flip_by, flipped, Flips}
-use Rattle.half_edge_links.proofs.Lists.Writes.{length-set_six, get_or-set_six_a, get_or-set_six_b}
+use Rattle.half_edge_links.specs.{AreSoundLinks, edge_at, flip_by, flipped, Flips, HalfEdge}
+use Rattle.half_edge_links.specs.{HasLinks, IsFlippable, Mesh, no_edge, rev}
+use Rattle.half_edge_links.proofs.Lists.Writes.{get_or-set_six_a, get_or-set_six_b}
 use Rattle.half_edge_links.proofs.Lists.Writes.{get_or-set_six_c, get_or-set_six_d}
 use Rattle.half_edge_links.proofs.Lists.Writes.{get_or-set_six_e, get_or-set_six_f}
-use Rattle.half_edge_links.proofs.Lists.Writes.{get_or-set_six_other}
+use Rattle.half_edge_links.proofs.Lists.Writes.{get_or-set_six_other, length-set_six}
 use Rattle.half_edge_links.proofs.Sound.Triangles.{six_round}
 
 -- the links of edge h are those of the record that the list has for it

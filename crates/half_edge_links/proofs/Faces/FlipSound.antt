@@ -4,16 +4,13 @@
 use Rattle.std.proofs.Common.{◌≡◌, ◌≢◌, ◌⊎◌, ◌<◌, ◌∙◌}
 use Rattle.std.proofs.Common.{ℕ, length, Some, refl, sym, ap, inl, inr, arith}
 use Rattle.std.proofs.lemmas.Bool.{cases_eq}
-use Rattle.half_edge_links.proofs.Lists.Cases.{◌or_else◌}
-use Rattle.half_edge_links.specs.declared.records.HalfEdge.{HalfEdge}
-use Rattle.half_edge_links.specs.Mesh.{Mesh, edge_at, origin, next, prev, face, face_edge, out_edge}
-use Rattle.half_edge_links.specs.Mesh.{rev, AreSoundLinks, IsSoundEdge}
-use Rattle.half_edge_links.specs.Flip.{IsFlippable, Flips}
-use Rattle.half_edge_links.proofs.Lists.Rev.{rev-rev}
-use Rattle.half_edge_links.specs.Places.{AreSixPlaces}
-use Rattle.half_edge_links.proofs.Sound.Parts.{sound_kept, loop_sound, KeepsBusy, KeepsOutEdges}
-use Rattle.half_edge_links.proofs.Sound.Parts.{NamesFaces, NamesOutEdges, NamesOuterEdge}
-use Rattle.half_edge_links.proofs.Sound.Triangles.{IsTriangle, triangle_at, same_loop, six_round}
+use Rattle.half_edge_links.specs.{AreSixPlaces, AreSoundLinks, edge_at, face, face_edge, Flips}
+use Rattle.half_edge_links.specs.{HalfEdge, IsFlippable, IsSoundEdge, Mesh, next, origin, out_edge}
+use Rattle.half_edge_links.specs.{prev, rev}
+use Rattle.half_edge_links.proofs.{Lists.Cases.◌or_else◌, Lists.Rev.rev-rev}
+use Rattle.half_edge_links.proofs.Sound.Parts.{KeepsBusy, KeepsOutEdges, loop_sound, NamesFaces}
+use Rattle.half_edge_links.proofs.Sound.Parts.{NamesOutEdges, NamesOuterEdge, sound_kept}
+use Rattle.half_edge_links.proofs.Sound.Triangles.{IsTriangle, same_loop, six_round, triangle_at}
 
 -- an edge is none of the six round e
 pub record IsOffFlip (m : Mesh) (e h : ℕ) : Type 0 where

@@ -5,13 +5,11 @@ use Rattle.std.proofs.Common.{ℕ, length, get_or, set, sym, ap, inl, inr, arith
 use Rattle.std.proofs.lemmas.Bool.{cases_eq}
 use Rattle.std.proofs.lemmas.List.{get_or-set_same, get_or-set_other, length-set, same_lists}
 use Rattle.std.proofs.lemmas.List.{get_or-map, length-map}
-use Rattle.half_edge_links.specs.Mesh.{Mesh, origin, next, prev, face, face_edge, rev}
-use Rattle.half_edge_links.specs.Mesh.{AreSoundLinks}
-use Rattle.half_edge_links.specs.Flip.{IsFlippable, Flips, flipped}
-use Rattle.half_edge_links.specs.Triangles.{Triangle, triangle_at, triangles, FlipsTriangles}
-use Rattle.half_edge_links.proofs.Faces.FlipLemmas.{flips}
-use Rattle.half_edge_links.proofs.Faces.FlipSound.{IsOffFlip, six, next_away, prev_away, kept}
-use Rattle.half_edge_links.proofs.Faces.FlipSound.{origin_kept, away_by_face}
+use Rattle.half_edge_links.specs.{AreSoundLinks, face, face_edge, flipped, Flips, FlipsTriangles}
+use Rattle.half_edge_links.specs.{IsFlippable, Mesh, next, origin, prev, rev, Triangle, triangle_at}
+use Rattle.{half_edge_links.proofs.Faces.FlipLemmas.flips, half_edge_links.specs.triangles}
+use Rattle.half_edge_links.proofs.Faces.FlipSound.{away_by_face, IsOffFlip, kept, next_away}
+use Rattle.half_edge_links.proofs.Faces.FlipSound.{origin_kept, prev_away, six}
 
 module _ (m new : Mesh) (e : ℕ) (s : AreSoundLinks m) (can : IsFlippable m e)
     (f : Flips m new e) where

@@ -4,14 +4,12 @@ use Rattle.std.proofs.Common.{◌≡◌, ◌-◌, [], ◌∷◌, ◌++◌}
 use Rattle.std.proofs.Common.{ℕ, length, None, set, refl, sym, arith, append_assoc, length-append}
 use Rattle.std.proofs.lemmas.List.{get_or-set_same, get_or-set_other, length-set}
 use Rattle.std.proofs.lemmas.List.{get_or_append_left, get_or_at}
-use Rattle.half_edge_links.specs.Mesh.{Mesh, no_edge, next, prev, face, AreSoundLinks, IsInnerEdge}
-use Rattle.half_edge_links.specs.Mesh.{IsAlone}
-use Rattle.half_edge_links.specs.Insert.{insert_by, inserted, Inserts}
-use Rattle.half_edge_links.proofs.Lists.Pushes.{AreThreePlaces, written, length-grown, grown_at_i}
-use Rattle.half_edge_links.proofs.Lists.Pushes.{grown_at_j, grown_at_k, grown_at, grown_at_0}
-use Rattle.half_edge_links.proofs.Lists.Pushes.{grown_other}
-use Rattle.half_edge_links.proofs.Sound.Triangles.{triangle_at}
-use Rattle.half_edge_links.proofs.Faces.FlipLemmas.{links_from}
+use Rattle.half_edge_links.specs.{AreSoundLinks, face, insert_by, inserted, Inserts, IsAlone}
+use Rattle.half_edge_links.specs.{IsInnerEdge, Mesh, next, no_edge, prev}
+use Rattle.half_edge_links.proofs.{Faces.FlipLemmas.links_from, Sound.Triangles.triangle_at}
+use Rattle.half_edge_links.proofs.Lists.Pushes.{AreThreePlaces, grown_at, grown_at_0, grown_at_i}
+use Rattle.half_edge_links.proofs.Lists.Pushes.{grown_at_j, grown_at_k, grown_other, length-grown}
+use Rattle.half_edge_links.proofs.Lists.Pushes.{written}
 
 -- a lonely vertex v put into an inner face changes the links of the face, its edges and v, and no
 -- others

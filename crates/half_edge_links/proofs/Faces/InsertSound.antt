@@ -4,17 +4,15 @@
 use Rattle.std.proofs.Common.{◌≡◌, ◌≢◌, ◌+◌, ◌%◌, ◌<◌, ◌≤◌, ◌∙◌}
 use Rattle.std.proofs.Common.{ℕ, length, refl, sym, ap, inl, inr, arith}
 use Rattle.std.proofs.lemmas.Bool.{cases_eq}
-use Rattle.half_edge_links.proofs.Lists.Cases.{◌or_else◌}
-use Rattle.half_edge_links.specs.declared.records.HalfEdge.{HalfEdge}
-use Rattle.half_edge_links.specs.Mesh.{Mesh, edge_at, origin, next, prev, face, face_edge, rev}
-use Rattle.half_edge_links.specs.Mesh.{AreSoundLinks, IsSoundEdge, IsInnerEdge, IsAlone, HasLinks}
-use Rattle.half_edge_links.specs.Insert.{Inserts}
-use Rattle.half_edge_links.proofs.Lists.Rev.{rev_within}
-use Rattle.half_edge_links.proofs.Sound.Parts.{late_cases, rev_of_even, rev_of_odd, loop_sound}
-use Rattle.half_edge_links.proofs.Sound.Parts.{still_out, still_named, sound_kept, EachEdgeIsSound}
-use Rattle.half_edge_links.proofs.Sound.Parts.{KeepsBusy, KeepsOutEdges, NamesFaces, NamesOutEdges}
-use Rattle.half_edge_links.proofs.Sound.Parts.{NamesOuterEdge}
-use Rattle.half_edge_links.proofs.Sound.Triangles.{IsTriangle, triangle_at, same_loop}
+use Rattle.half_edge_links.specs.{AreSoundLinks, edge_at, face, face_edge, HalfEdge, HasLinks}
+use Rattle.half_edge_links.specs.{Inserts, IsAlone, IsInnerEdge, IsSoundEdge, Mesh, next, origin}
+use Rattle.half_edge_links.specs.{prev, rev}
+use Rattle.half_edge_links.proofs.{Lists.Cases.◌or_else◌, Lists.Rev.rev_within}
+use Rattle.half_edge_links.proofs.Sound.Parts.{EachEdgeIsSound, KeepsBusy, KeepsOutEdges}
+use Rattle.half_edge_links.proofs.Sound.Parts.{late_cases, loop_sound, NamesFaces, NamesOutEdges}
+use Rattle.half_edge_links.proofs.Sound.Parts.{NamesOuterEdge, rev_of_even, rev_of_odd, sound_kept}
+use Rattle.half_edge_links.proofs.Sound.Parts.{still_named, still_out}
+use Rattle.half_edge_links.proofs.Sound.Triangles.{IsTriangle, same_loop, triangle_at}
 
 -- an edge is none of those round the face
 pub record IsOffFace (m : Mesh) (a h : ℕ) : Type 0 where

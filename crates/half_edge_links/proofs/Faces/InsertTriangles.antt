@@ -6,13 +6,11 @@ use Rattle.std.proofs.Common.{length-append}
 use Rattle.std.proofs.lemmas.Bool.{cases_eq}
 use Rattle.std.proofs.lemmas.List.{get_or-set_same, get_or-set_other, length-set, same_lists}
 use Rattle.std.proofs.lemmas.List.{get_or-map, length-map, get_or_append_left, get_or-append-add}
-use Rattle.half_edge_links.proofs.Lists.Cases.{◌or_else◌}
-use Rattle.half_edge_links.specs.Mesh.{Mesh, origin, next, prev, face, face_edge, AreSoundLinks}
-use Rattle.half_edge_links.specs.Mesh.{IsInnerEdge, IsAlone}
-use Rattle.half_edge_links.specs.Insert.{Inserts, inserted}
-use Rattle.half_edge_links.specs.Triangles.{Triangle, triangle_at, triangles, InsertsTriangles}
-use Rattle.half_edge_links.proofs.Faces.InsertLemmas.{inserts}
-use Rattle.half_edge_links.proofs.Faces.InsertSound.{IsOffFace, kept, origin_kept, away_by_face}
+use Rattle.half_edge_links.specs.{AreSoundLinks, face, face_edge, inserted, Inserts}
+use Rattle.half_edge_links.specs.{InsertsTriangles, IsAlone, IsInnerEdge, Mesh, next, origin, prev}
+use Rattle.half_edge_links.specs.{Triangle, triangle_at, triangles}
+use Rattle.half_edge_links.proofs.{Faces.InsertLemmas.inserts, Lists.Cases.◌or_else◌}
+use Rattle.half_edge_links.proofs.Faces.InsertSound.{away_by_face, IsOffFace, kept, origin_kept}
 
 module _ (m new : Mesh) (v a : ℕ) (s : AreSoundLinks m) (inner : IsInnerEdge m a) (alone : IsAlone m
     v) (i : Inserts m new v (face m a) a (length m.half_edges) (length m.face_edges)) where

@@ -1,15 +1,11 @@
 -- A flip, and a vertex put into a face, keep the outer edges.
 -- Lemmas: outer_flipped, outer_flipped_is, outer_inserted.
 use Rattle.std.proofs.Common.{◌≡◌, ◌≢◌, ℕ, ◌<◌, sym, ap, ◌∙◌, arith, ◌+◌, length, refl}
-use Rattle.half_edge_links.specs.declared.records.HalfEdge.{HalfEdge}
-use Rattle.half_edge_links.specs.Mesh.{Mesh, face, rev, AreSoundLinks, IsInnerEdge, IsAlone}
-use Rattle.half_edge_links.specs.Flip.{IsFlippable, Flips, flipped}
-use Rattle.half_edge_links.specs.Outline.{KeepsOuter}
-use Rattle.half_edge_links.proofs.Lists.Rev.{rev-rev, rev_within}
+use Rattle.half_edge_links.specs.{AreSoundLinks, face, flipped, Flips, HalfEdge, Inserts, IsAlone}
+use Rattle.half_edge_links.specs.{IsFlippable, IsInnerEdge, KeepsOuter, Mesh, rev}
+use Rattle.half_edge_links.proofs.{Faces.FlipLemmas.flips, Lists.Rev.rev-rev, Lists.Rev.rev_within}
+use Rattle.half_edge_links.proofs.Faces.FlipSound.{away_by_face, kept, origin_kept}
 use Rattle.half_edge_links.proofs.OuterLoop.Outer.{same_outer}
-use Rattle.half_edge_links.proofs.Faces.FlipLemmas.{flips}
-use Rattle.half_edge_links.proofs.Faces.FlipSound.{origin_kept, away_by_face, kept}
-use Rattle.half_edge_links.specs.Insert.{Inserts}
 use Rattle.half_edge_links.proofs.Faces.InsertSound as inserting
 
 -- an outer edge is none with an inner face

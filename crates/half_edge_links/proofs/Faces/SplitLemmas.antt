@@ -4,23 +4,16 @@
 use Rattle.std.proofs.Common.{◌≡◌, ◌-◌, ◌<◌, [], ◌∷◌, ◌++◌, ◌∙◌, ◌≢◌, ◌/◌}
 use Rattle.std.proofs.Common.{ℕ, List, length, set, refl, sym, ap, arith}
 use Rattle.std.proofs.lemmas.List.{set-set, set-append_left, length-set, length-map}
-use Rattle.half_edge_links.specs.declared.records.HalfEdge.{HalfEdge}
-use Rattle.half_edge_links.specs.Mesh.{Mesh, edge_at, origin, next, prev, face, rev, AreSoundLinks}
-use Rattle.half_edge_links.specs.Mesh.{IsAlone, IsInnerEdge}
-use Rattle.half_edge_links.specs.Flip.{IsFlippable, flipped}
-use Rattle.half_edge_links.specs.Insert.{Inserts, inserted}
-use Rattle.half_edge_links.specs.Triangles.{triangle_at, triangles, InsertsTriangles}
-use Rattle.half_edge_links.specs.Triangles.{FlipsTriangles, SplitsTriangles}
-use Rattle.half_edge_links.proofs.Lists.Rev.{rev_within}
+use Rattle.half_edge_links.specs.{along, AreSoundLinks, edge_at, ends, face, flipped}
+use Rattle.half_edge_links.specs.{FlipsTriangles, HalfEdge, inserted, Inserts, InsertsTriangles}
+use Rattle.half_edge_links.specs.{IsAlone, IsFlippable, IsInnerEdge, KeepsOuter, Mesh, MovesEdge}
+use Rattle.half_edge_links.specs.{next, origin, prev, rev, SplitsTriangles, triangle_at, triangles}
+use Rattle.half_edge_links.specs.Outline.{InsertsEnds, SplitsEnds}
+use Rattle.half_edge_links.proofs.{Faces.FlipTriangles.triangles_flipped, Lists.Rev.rev_within}
+use Rattle.half_edge_links.proofs.{Faces.InsertLemmas.inserts, Faces.InsertSound.sound_after_insert}
+use Rattle.half_edge_links.proofs.Faces.InsertSound.{away_by_face, kept, origin_kept}
+use Rattle.half_edge_links.proofs.{Faces.InsertTriangles.triangles_inserted, Sound.Ends.length-ends}
 use Rattle.half_edge_links.proofs.Growing.FaceBeside.{differs_alone}
-use Rattle.half_edge_links.proofs.Faces.InsertLemmas.{inserts}
-use Rattle.half_edge_links.proofs.Faces.InsertSound.{kept, away_by_face, origin_kept}
-use Rattle.half_edge_links.proofs.Faces.InsertSound.{sound_after_insert}
-use Rattle.half_edge_links.proofs.Faces.InsertTriangles.{triangles_inserted}
-use Rattle.half_edge_links.proofs.Faces.FlipTriangles.{triangles_flipped}
-use Rattle.half_edge_links.specs.Outline.{ends, along, KeepsOuter, InsertsEnds, MovesEdge}
-use Rattle.half_edge_links.specs.Outline.{SplitsEnds}
-use Rattle.half_edge_links.proofs.Sound.Ends.{length-ends}
 use Rattle.half_edge_links.proofs.Faces.InsertSound as inserting
 
 overwritten : {X : Type 0} (xs ys : List X) (i j : ℕ) (a b c : X) → i < length xs → j < length xs

@@ -4,18 +4,15 @@ use Rattle.std.proofs.Common.{◌≡◌, ◌≢◌, ◌⊎◌, ◌+◌, ◌-◌,
 use Rattle.std.proofs.Common.{ℕ, length, refl, sym, ap, inl, inr, arith, length-append}
 use Rattle.std.proofs.lemmas.Bool.{cases_eq}
 use Rattle.std.proofs.lemmas.List.{get_or_append_left, get_or_at}
-use Rattle.half_edge_links.proofs.Lists.Cases.{◌or_else◌}
-use Rattle.half_edge_links.specs.Mesh.{Mesh, origin, next, prev, face, face_edge, rev}
-use Rattle.half_edge_links.specs.Mesh.{AreSoundLinks, IsSoundEdge}
-use Rattle.half_edge_links.specs.Grow.{IsClosable, closed, Closes}
-use Rattle.half_edge_links.proofs.Lists.Rev.{rev_within}
-use Rattle.half_edge_links.proofs.Faces.FlipLemmas.{links_from}
-use Rattle.half_edge_links.proofs.Growing.CloseReads.{closes_edges}
-use Rattle.half_edge_links.proofs.Sound.Parts.{grown_cases, rev_of_even, rev_of_odd, IsInnerSound}
-use Rattle.half_edge_links.proofs.Sound.Parts.{sound_from, next_of_sound, next_kept, inner_kept}
-use Rattle.half_edge_links.proofs.Sound.Parts.{next_at, prev_sound, loop_sound, EachEdgeIsSound}
-use Rattle.half_edge_links.proofs.Sound.Parts.{EachNextIsSound, KeepsBusy, KeepsEnds}
-use Rattle.half_edge_links.proofs.Sound.Parts.{KeepsFaceEdges, NamesFaces}
+use Rattle.half_edge_links.specs.{AreSoundLinks, closed, Closes, face, face_edge, IsClosable}
+use Rattle.half_edge_links.specs.{IsSoundEdge, Mesh, next, origin, prev, rev}
+use Rattle.half_edge_links.proofs.{Faces.FlipLemmas.links_from, Growing.CloseReads.closes_edges}
+use Rattle.half_edge_links.proofs.{Lists.Cases.◌or_else◌, Lists.Rev.rev_within}
+use Rattle.half_edge_links.proofs.Sound.Parts.{EachEdgeIsSound, EachNextIsSound, grown_cases}
+use Rattle.half_edge_links.proofs.Sound.Parts.{inner_kept, IsInnerSound, KeepsBusy, KeepsEnds}
+use Rattle.half_edge_links.proofs.Sound.Parts.{KeepsFaceEdges, loop_sound, NamesFaces, next_at}
+use Rattle.half_edge_links.proofs.Sound.Parts.{next_kept, next_of_sound, prev_sound, rev_of_even}
+use Rattle.half_edge_links.proofs.Sound.Parts.{rev_of_odd, sound_from}
 
 -- the edges round the place of a new face
 pub record IsNewCorner (m : Mesh) (e : ℕ) : Type 0 where

@@ -1,12 +1,11 @@
 -- What the links are after an outer edge and the next one got a face.
 -- Notions: ClosesEdges; closes_edges.
 use Rattle.std.proofs.Common.{◌≡◌, ◌≢◌, ℕ, ◌+◌, ◌<◌, List, length, refl, sym, ap, ◌∙◌}
-use Rattle.half_edge_links.specs.declared.records.HalfEdge.{HalfEdge}
-use Rattle.half_edge_links.specs.Mesh.{no_edge, edge_at}
-use Rattle.half_edge_links.specs.Grow.{with_next, with_prev, with_face, closed_edges}
-use Rattle.half_edge_links.proofs.Sound.FieldWrites.{writes_next, writes_prev, writes_face}
-use Rattle.half_edge_links.proofs.Sound.FieldWrites.{next_link, prev_link, face_link, origin_link}
-use Rattle.half_edge_links.proofs.Lists.Writes.{length-two, two_before, two_at_0, two_at_1}
+use Rattle.half_edge_links.specs.{closed_edges, edge_at, HalfEdge, no_edge, with_face, with_next}
+use Rattle.half_edge_links.specs.{with_prev}
+use Rattle.half_edge_links.proofs.Lists.Writes.{length-two, two_at_0, two_at_1, two_before}
+use Rattle.half_edge_links.proofs.Sound.FieldWrites.{face_link, next_link, origin_link, prev_link}
+use Rattle.half_edge_links.proofs.Sound.FieldWrites.{writes_face, writes_next, writes_prev}
 
 -- edges e, second and a new one go round face g; the reverse of the new one lies between before and
 -- after

@@ -5,9 +5,8 @@ use Rattle.std.proofs.Common.{ℕ, zero, suc, length, Some, None, IsSome, set, r
 use Rattle.std.proofs.Common.{inr, arith}
 use Rattle.std.proofs.lemmas.List.{get_or-set_same, get_or-set_other, length-set}
 use Rattle.std.proofs.lemmas.Bool.{cases_eq}
+use Rattle.half_edge_links.specs.{AreSoundLinks, connected, IsSoundEdge, Mesh, origin, out_edge}
 use Rattle.half_edge_links.proofs.Lists.Cases.{◌or_else◌}
-use Rattle.half_edge_links.specs.Mesh.{Mesh, AreSoundLinks, IsSoundEdge, origin, out_edge}
-use Rattle.half_edge_links.specs.Mesh.{connected}
 
 module _ (m : Mesh) (a b : ℕ) (s : AreSoundLinks m) (none : m.half_edges ≡ [])
     (a_in : a < length m.out_edges) (b_in : b < length m.out_edges) where

@@ -2,10 +2,9 @@
 -- Lemmas: differs_alone, adds_face, replaces_outer.
 use Rattle.std.proofs.Common.{◌≡◌, ◌≢◌, ◌+◌, ◌<◌, [], ◌∷◌, ◌++◌, ◌∙◌}
 use Rattle.std.proofs.Common.{ℕ, length, Some, None, sym, ap, inl, inr, arith}
-use Rattle.half_edge_links.specs.Mesh.{Mesh, origin, next, prev, out_edge, rev, AreSoundLinks}
-use Rattle.half_edge_links.specs.Mesh.{IsAlone}
-use Rattle.half_edge_links.specs.Grow.{OnOuter, Hangs, Closes, AddsFace}
-use Rattle.half_edge_links.specs.Outline.{HangsOuter, ClosesOuter, ReplacesOuter}
+use Rattle.half_edge_links.specs.{AddsFace, AreSoundLinks, Closes, ClosesOuter, Hangs, IsAlone}
+use Rattle.half_edge_links.specs.{Mesh, next, OnOuter, origin, out_edge, prev, ReplacesOuter, rev}
+use Rattle.half_edge_links.specs.Outline.{HangsOuter}
 use Rattle.half_edge_links.proofs.Sound.Parts.{rev_of_even}
 
 -- a vertex without edges is none of an edge's

@@ -1,19 +1,17 @@
 -- What a new edge at the hull and new faces beside it do, in one record each.
 -- Lemmas: hangs_edge, closes_corner, adds_face_beside, extends_line.
 use Rattle.std.proofs.Common.{◌≡◌, ℕ, length, Option, Some, ap, ◌∙◌}
-use Rattle.half_edge_links.specs.Mesh.{Mesh, origin, next, rev, out_edge, AreSoundLinks, IsAlone}
-use Rattle.half_edge_links.specs.Grow.{OnOuter, IsClosable, Hangs, Closes, hung, closed, or_zero}
-use Rattle.half_edge_links.specs.Grow.{edge_into}
-use Rattle.half_edge_links.specs.Grown.{HangsEdge, ClosesCorner, AddsFaceBeside, ExtendsLine}
-use Rattle.half_edge_links.proofs.Growing.Hang.{hangs}
-use Rattle.half_edge_links.proofs.Growing.Close.{closes}
+use Rattle.half_edge_links.specs.{AreSoundLinks, closed, Closes, edge_into, Hangs, hung, IsAlone}
+use Rattle.half_edge_links.specs.{IsClosable, Mesh, next, OnOuter, origin, out_edge, rev}
+use Rattle.half_edge_links.specs.Grow.{or_zero}
+use Rattle.half_edge_links.specs.Grown.{AddsFaceBeside, ClosesCorner, ExtendsLine, HangsEdge}
+use Rattle.half_edge_links.proofs.{Growing.Close.closes, Growing.Hang.hangs}
 use Rattle.half_edge_links.proofs.Growing.FaceBeside.{adds_face, replaces_outer}
-use Rattle.half_edge_links.proofs.Growing.SplitLine.{into_ends}
-use Rattle.half_edge_links.proofs.Sound.Parts.{rev_of_even}
-use Rattle.half_edge_links.proofs.Sound.Corners.{triangles_hung, triangles_closed}
-use Rattle.half_edge_links.proofs.Sound.EndsKept.{ends_hung, ends_closed, ends_beside}
-use Rattle.half_edge_links.proofs.OuterLoop.Outer.{outer_hung, outer_closed}
-use Rattle.half_edge_links.proofs.OuterLoop.Outline.{outline_hung, outline_closed}
+use Rattle.half_edge_links.proofs.{Growing.SplitLine.into_ends, Sound.Parts.rev_of_even}
+use Rattle.half_edge_links.proofs.OuterLoop.Outer.{outer_closed, outer_hung}
+use Rattle.half_edge_links.proofs.OuterLoop.Outline.{outline_closed, outline_hung}
+use Rattle.half_edge_links.proofs.Sound.Corners.{triangles_closed, triangles_hung}
+use Rattle.half_edge_links.proofs.Sound.EndsKept.{ends_beside, ends_closed, ends_hung}
 
 -- what the mesh with an edge from the end of outer edge x to vertex v has of links, ends, corners
 -- and outer edges

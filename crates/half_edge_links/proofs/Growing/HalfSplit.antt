@@ -4,17 +4,13 @@
 use Rattle.std.proofs.Common.{◌≤◌, ◌+◌, ◌≡◌, ◌≢◌, ◌-◌, ◌<◌, [], ◌∷◌, ◌++◌, ◌∙◌}
 use Rattle.std.proofs.Common.{ℕ, List, length, set, refl, sym, ap, arith}
 use Rattle.std.proofs.lemmas.List.{set-append_left, set-append_right, length-set, length-map}
-use Rattle.half_edge_links.specs.declared.records.HalfEdge.{HalfEdge}
-use Rattle.half_edge_links.specs.Mesh.{edge_at, Mesh, origin, next, prev, face, rev, AreSoundLinks}
-use Rattle.half_edge_links.specs.Mesh.{IsAlone}
-use Rattle.half_edge_links.specs.Flip.{Flips, IsFlippable}
-use Rattle.half_edge_links.specs.Triangles.{triangle_at, triangles, FlipsTriangles}
-use Rattle.half_edge_links.specs.Grow.{HalfSplits, AddsFace, IsHalfSplittable, OnOuter}
-use Rattle.half_edge_links.specs.Outline.{KeepsOuter, ReplacesOuter, AddsTriangle}
-use Rattle.half_edge_links.specs.Outline.{HalfSplitsTriangles}
-use Rattle.half_edge_links.proofs.Faces.FlipSound.{origin_kept}
-use Rattle.half_edge_links.proofs.Growing.FaceBeside.{differs_alone}
-use Rattle.half_edge_links.proofs.Lists.Rev.{rev-rev, rev_within, rev_differs}
+use Rattle.half_edge_links.specs.{AddsFace, AddsTriangle, AreSoundLinks, edge_at, face, Flips}
+use Rattle.half_edge_links.specs.{FlipsTriangles, HalfEdge, HalfSplitsTriangles, IsAlone}
+use Rattle.half_edge_links.specs.{IsFlippable, IsHalfSplittable, KeepsOuter, Mesh, next, OnOuter}
+use Rattle.half_edge_links.specs.{origin, prev, ReplacesOuter, rev, triangle_at, triangles}
+use Rattle.half_edge_links.specs.Grow.{HalfSplits}
+use Rattle.half_edge_links.proofs.{Faces.FlipSound.origin_kept, Growing.FaceBeside.differs_alone}
+use Rattle.half_edge_links.proofs.Lists.Rev.{rev-rev, rev_differs, rev_within}
 
 -- the reverse of an edge of the hull is outer
 pub twin_outer : (m : Mesh) (e : ℕ) → AreSoundLinks m → IsHalfSplittable m e → OnOuter m (rev e)

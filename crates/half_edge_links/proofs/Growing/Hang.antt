@@ -5,21 +5,19 @@ use Rattle.std.proofs.Common.{◌≡◌, ◌≢◌, ◌+◌, ◌<◌, ◌≤◌,
 use Rattle.std.proofs.Common.{ℕ, List, length, None, refl, sym, ap, inl, inr, arith}
 use Rattle.std.proofs.lemmas.Bool.{cases_eq}
 use Rattle.std.proofs.lemmas.List.{get_or-set_same, get_or-set_other, length-set}
-use Rattle.half_edge_links.proofs.Lists.Cases.{◌or_else◌}
-use Rattle.half_edge_links.specs.declared.records.HalfEdge.{HalfEdge}
-use Rattle.half_edge_links.specs.Mesh.{Mesh, no_edge, edge_at, origin, next, prev, face, face_edge}
-use Rattle.half_edge_links.specs.Mesh.{rev, AreSoundLinks, IsSoundEdge, IsAlone}
-use Rattle.half_edge_links.specs.Grow.{with_next, with_prev, OnOuter, hung_edges, hung, Hangs}
+use Rattle.half_edge_links.specs.{AreSoundLinks, edge_at, face, face_edge, HalfEdge, Hangs, hung}
+use Rattle.half_edge_links.specs.{hung_edges, IsAlone, IsSoundEdge, Mesh, next, no_edge, OnOuter}
+use Rattle.half_edge_links.specs.{origin, prev, rev, with_next, with_prev}
+use Rattle.half_edge_links.proofs.{Faces.FlipLemmas.links_from, Lists.Cases.◌or_else◌}
 use Rattle.half_edge_links.proofs.Lists.Rev.{rev_within}
-use Rattle.half_edge_links.proofs.Faces.FlipLemmas.{links_from}
-use Rattle.half_edge_links.proofs.Sound.FieldWrites.{writes_next, writes_prev, next_link, prev_link}
-use Rattle.half_edge_links.proofs.Sound.FieldWrites.{face_link, origin_link}
-use Rattle.half_edge_links.proofs.Lists.Writes.{length-two, two_before, two_at_0, two_at_1}
-use Rattle.half_edge_links.proofs.Sound.Parts.{rev_of_even, rev_of_odd, IsInMesh, IsInnerSound}
-use Rattle.half_edge_links.proofs.Sound.Parts.{sound_from, next_kept, inner_kept, next_at}
-use Rattle.half_edge_links.proofs.Sound.Parts.{prev_sound, grown_cases, still_out, still_named}
-use Rattle.half_edge_links.proofs.Sound.Parts.{EachEdgeIsSound, EachNextIsSound, KeepsEnds}
-use Rattle.half_edge_links.proofs.Sound.Parts.{KeepsOutEdges, NamesOutEdges}
+use Rattle.half_edge_links.proofs.Lists.Writes.{length-two, two_at_0, two_at_1, two_before}
+use Rattle.half_edge_links.proofs.Sound.FieldWrites.{face_link, next_link, origin_link, prev_link}
+use Rattle.half_edge_links.proofs.Sound.FieldWrites.{writes_next, writes_prev}
+use Rattle.half_edge_links.proofs.Sound.Parts.{EachEdgeIsSound, EachNextIsSound, grown_cases}
+use Rattle.half_edge_links.proofs.Sound.Parts.{inner_kept, IsInMesh, IsInnerSound, KeepsEnds}
+use Rattle.half_edge_links.proofs.Sound.Parts.{KeepsOutEdges, NamesOutEdges, next_at, next_kept}
+use Rattle.half_edge_links.proofs.Sound.Parts.{prev_sound, rev_of_even, rev_of_odd, sound_from}
+use Rattle.half_edge_links.proofs.Sound.Parts.{still_named, still_out}
 
 module _ (hs : List HalfEdge) (x y v : ℕ) (x_in : x < length hs) (y_in : y < length hs) where
   abbrev first : List HalfEdge

@@ -4,18 +4,15 @@
 use Rattle.std.proofs.Common.{◌≡◌, ◌≢◌, ◌⊎◌, ℕ, ◌<◌, [], length, Some, refl, sym, ap, ◌∙◌}
 use Rattle.std.proofs.Common.{inl, inr, arith}
 use Rattle.std.proofs.lemmas.Bool.{cases_eq}
-use Rattle.half_edge_links.proofs.Lists.Cases.{◌or_else◌}
-use Rattle.half_edge_links.specs.Mesh.{Mesh, origin, next, prev, face, out_edge, rev, AreSoundLinks}
-use Rattle.half_edge_links.specs.Mesh.{HasApartEnds}
-use Rattle.half_edge_links.specs.Hull.{KeepsOneOutline}
-use Rattle.half_edge_links.specs.Outline.{MovesEdge}
-use Rattle.half_edge_links.proofs.Lists.Rev.{rev-rev, rev_same, rev_within, rev_differs}
-use Rattle.half_edge_links.proofs.Sound.Parts.{IsNextSound, IsInMesh, sound_from, prev_sound}
-use Rattle.half_edge_links.proofs.Sound.Parts.{next_at, next_kept, still_out, still_named}
-use Rattle.half_edge_links.proofs.Sound.Parts.{HasNoFace, EachNextIsSound}
+use Rattle.half_edge_links.specs.{AreSoundLinks, face, HasApartEnds, KeepsOneOutline, Mesh}
+use Rattle.half_edge_links.specs.{MovesEdge, next, origin, out_edge, prev, rev}
+use Rattle.half_edge_links.proofs.{Lists.Cases.◌or_else◌, Relinking.Walks.outline_exchanged}
+use Rattle.half_edge_links.proofs.Lists.Rev.{rev-rev, rev_differs, rev_same, rev_within}
+use Rattle.half_edge_links.proofs.Relinking.Walks.{exchange_moved, IsMoved, outer_walk}
 use Rattle.half_edge_links.proofs.Sound.Ends.{ends_moved}
-use Rattle.half_edge_links.proofs.Relinking.Walks.{outer_walk, outline_exchanged}
-use Rattle.half_edge_links.proofs.Relinking.Walks.{IsMoved, exchange_moved}
+use Rattle.half_edge_links.proofs.Sound.Parts.{EachNextIsSound, HasNoFace, IsInMesh, IsNextSound}
+use Rattle.half_edge_links.proofs.Sound.Parts.{next_at, next_kept, prev_sound, sound_from}
+use Rattle.half_edge_links.proofs.Sound.Parts.{still_named, still_out}
 
 -- edge k goes from between p and q to between r and a along the outer face; the other side of edge
 -- e starts where edge x does now, and the vertex where it started names the edge after e

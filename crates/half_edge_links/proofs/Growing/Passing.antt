@@ -4,19 +4,16 @@
 use Rattle.std.proofs.Common.{◌≡◌, ◌≢◌, ◌⊎◌, ◌<◌, ◌∙◌}
 use Rattle.std.proofs.Common.{ℕ, length, Some, None, refl, sym, ap, inr}
 use Rattle.std.proofs.lemmas.List.{get_or-set_same, get_or-set_other, length-set}
-use Rattle.half_edge_links.specs.Mesh.{Mesh, origin, next, prev, rev, AreSoundLinks, IsValidMesh}
-use Rattle.half_edge_links.specs.Mesh.{HasStars}
-use Rattle.half_edge_links.specs.Hull.{KeepsOneOutline}
-use Rattle.half_edge_links.specs.Outline.{MovesEdge}
+use Rattle.half_edge_links.specs.{AreSoundLinks, HasStars, IsValidMesh, KeepsOneOutline, Mesh}
+use Rattle.half_edge_links.specs.{MovesEdge, next, origin, Passes, prev, rev}
+use Rattle.half_edge_links.specs.Pass.{IsPassable, passed, passed_edges}
 use Rattle.half_edge_links.specs.Places.{ArePassedPlaces}
-use Rattle.half_edge_links.specs.Pass.{IsPassable, passed_edges, passed, Passes}
-use Rattle.half_edge_links.proofs.Lists.Rev.{rev-rev, rev_same, rev_within, rev_differs}
+use Rattle.half_edge_links.proofs.Growing.LineSound.{apart_moved, ends_move, IsLineMove}
+use Rattle.half_edge_links.proofs.Growing.LineSound.{outline_moved, sound_moved}
+use Rattle.half_edge_links.proofs.Lists.Rev.{rev-rev, rev_differs, rev_same, rev_within}
+use Rattle.half_edge_links.proofs.Relinking.Walks.{exchange_moved, IsMoved, star_walk}
+use Rattle.half_edge_links.proofs.{Relinking.Walks.stars_exchanged, Sound.Valid.small_same}
 use Rattle.half_edge_links.proofs.Sound.Relinks.{relinks}
-use Rattle.half_edge_links.proofs.Sound.Valid.{small_same}
-use Rattle.half_edge_links.proofs.Growing.LineSound.{IsLineMove, sound_moved, outline_moved}
-use Rattle.half_edge_links.proofs.Growing.LineSound.{apart_moved, ends_move}
-use Rattle.half_edge_links.proofs.Relinking.Walks.{star_walk, stars_exchanged}
-use Rattle.half_edge_links.proofs.Relinking.Walks.{IsMoved, exchange_moved}
 
 -- the edge k from the far end, that is the edge before the other side of e
 abbrev pub far_edge : Mesh → ℕ → ℕ

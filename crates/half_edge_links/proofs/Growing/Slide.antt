@@ -5,18 +5,14 @@ use Rattle.std.proofs.Common.{◌≡◌, ◌≢◌, ◌⊎◌, ◌<◌, ◌==◌
 use Rattle.std.proofs.Common.{ℕ, length, Some, None, refl, sym, ap, inl}
 use Rattle.std.proofs.lemmas.Bool.{eq-eqb, eqb-true}
 use Rattle.std.proofs.lemmas.List.{get_or-set_same, get_or-set_other, length-set}
-use Rattle.half_edge_links.specs.Mesh.{Mesh, origin, next, prev, rev, AreSoundLinks, HasStars}
-use Rattle.half_edge_links.specs.Mesh.{HasApartEnds, IsClosed}
-use Rattle.half_edge_links.specs.Hull.{KeepsOneOutline}
-use Rattle.half_edge_links.specs.Outline.{MovesEdge}
-use Rattle.half_edge_links.specs.Places.{AreSlidPlaces}
-use Rattle.half_edge_links.specs.Grow.{IsSlidable, slid_edges, slid, Slides}
-use Rattle.half_edge_links.proofs.Lists.Rev.{rev-rev, rev_same, rev_within, rev_differs}
-use Rattle.half_edge_links.proofs.Sound.Relinks.{relinks}
-use Rattle.half_edge_links.proofs.Growing.LineSound.{IsLineMove, sound_moved, outline_moved}
-use Rattle.half_edge_links.proofs.Growing.LineSound.{apart_moved, ends_move}
-use Rattle.half_edge_links.proofs.Relinking.Walks.{star_walk, stars_exchanged}
-use Rattle.half_edge_links.proofs.Relinking.Walks.{IsMoved, exchange_moved}
+use Rattle.half_edge_links.specs.{AreSoundLinks, HasApartEnds, HasStars, IsClosed, KeepsOneOutline}
+use Rattle.half_edge_links.specs.{Mesh, MovesEdge, next, origin, prev, rev, slid, slid_edges}
+use Rattle.half_edge_links.specs.{Grow.IsSlidable, Grow.Slides, Places.AreSlidPlaces}
+use Rattle.half_edge_links.proofs.Growing.LineSound.{apart_moved, ends_move, IsLineMove}
+use Rattle.half_edge_links.proofs.Growing.LineSound.{outline_moved, sound_moved}
+use Rattle.half_edge_links.proofs.Lists.Rev.{rev-rev, rev_differs, rev_same, rev_within}
+use Rattle.half_edge_links.proofs.Relinking.Walks.{exchange_moved, IsMoved, star_walk}
+use Rattle.half_edge_links.proofs.{Relinking.Walks.stars_exchanged, Sound.Relinks.relinks}
 
 -- the edges beside an edge that is moved
 pub record IsTail (m : Mesh) (e : ℕ) : Type 0 where

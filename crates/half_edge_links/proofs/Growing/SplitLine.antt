@@ -2,15 +2,13 @@
 -- Lemmas: line_outer, splits_line, splits_outer, into_outer, into_ends.
 use Rattle.std.proofs.Common.{◌≡◌, ◌≢◌, ℕ, ◌+◌, ◌<◌, length, Some, sym, ap, ◌∙◌, inl, inr, arith}
 use Rattle.std.proofs.lemmas.Bool.{cases_eq}
-use Rattle.half_edge_links.proofs.Lists.Cases.{◌or_else◌}
-use Rattle.half_edge_links.specs.Mesh.{Mesh, origin, next, prev, face, out_edge, rev, AreSoundLinks}
-use Rattle.half_edge_links.specs.Mesh.{IsAlone}
-use Rattle.half_edge_links.specs.Grow.{OnOuter, IsLineEdge, Hangs, Slides, SplitsLine, IsOnLine}
-use Rattle.half_edge_links.specs.Outline.{IsOuterEdge, SplitsOuter}
-use Rattle.half_edge_links.proofs.Lists.Rev.{rev-rev, rev_within, rev_differs}
-use Rattle.half_edge_links.proofs.Sound.Parts.{rev_of_even, rev_of_odd, HasNoFace}
-use Rattle.half_edge_links.proofs.OuterLoop.Outer.{same_outer, at_edge, is_edge}
-use Rattle.half_edge_links.proofs.Growing.FaceBeside.{differs_alone}
+use Rattle.half_edge_links.specs.{AreSoundLinks, face, Hangs, IsAlone, IsOuterEdge, Mesh, next}
+use Rattle.half_edge_links.specs.{OnOuter, origin, out_edge, prev, rev, SplitsOuter}
+use Rattle.half_edge_links.specs.Grow.{IsLineEdge, IsOnLine, Slides, SplitsLine}
+use Rattle.half_edge_links.proofs.{Growing.FaceBeside.differs_alone, Lists.Cases.◌or_else◌}
+use Rattle.half_edge_links.proofs.Lists.Rev.{rev-rev, rev_differs, rev_within}
+use Rattle.half_edge_links.proofs.OuterLoop.Outer.{at_edge, is_edge, same_outer}
+use Rattle.half_edge_links.proofs.Sound.Parts.{HasNoFace, rev_of_even, rev_of_odd}
 
 -- an edge of a mesh without inner faces is outer
 pub line_outer : (m : Mesh) (e : ℕ) → AreSoundLinks m → IsLineEdge m e → OnOuter m e

@@ -3,7 +3,7 @@
 use Rattle.std.proofs.Common.{◌≡◌, [], ◌∷◌, ◌++◌}
 use Rattle.std.proofs.Common.{ℕ, zero, suc, List, Option, None, get_or, refl, arith, length-append}
 use Rattle.std.proofs.lemmas.List.{get_or_append_left}
-use Rattle.half_edge_links.specs.Mesh.{Mesh, AreSoundLinks, with_vertex}
+use Rattle.half_edge_links.specs.{AreSoundLinks, Mesh, with_vertex}
 use Rattle.half_edge_links.proofs.Sound.Parts.{sound_kept}
 
 -- one more `None` changes no read

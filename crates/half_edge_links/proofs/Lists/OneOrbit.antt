@@ -2,18 +2,15 @@
 -- loop.
 -- Lemmas: one_orbit, edges_go_round, outline_goes_round.
 use Rattle.std.proofs.Common.{◌≡◌, ℕ, suc, ◌+◌, ◌-◌, ◌<◌, length, sym, ap, ◌∙◌, arith, zero}
-use Rattle.half_edge_links.specs.Mesh.{Mesh, origin, prev, rev, IsValidMesh, IsClosed, next, face}
-use Rattle.half_edge_links.specs.Mesh.{AreSoundLinks}
-use Rattle.half_edge_links.specs.Peel.{turn, spoke}
+use Rattle.half_edge_links.specs.{AreSoundLinks, face, IsClosed, IsClosedAlong, IsValidMesh, Mesh}
+use Rattle.half_edge_links.specs.{neighbour, next, origin, prev, rev, spoke, turn}
+use Rattle.half_edge_links.specs.{Hull.outer_step, Hull.OutlineGoesRound, Round.EdgesGoRound}
 use Rattle.half_edge_links.specs.Move.{IsOneOrbit}
-use Rattle.half_edge_links.specs.Round.{neighbour, EdgesGoRound}
-use Rattle.half_edge_links.proofs.Lists.Rev.{rev-rev}
-use Rattle.half_edge_links.proofs.Lists.Orbits.{IsPeriod, period_of}
-use Rattle.half_edge_links.proofs.Lists.Walks.{among_steps, to_steps, period_closed, in_period}
-use Rattle.half_edge_links.proofs.Lists.Walks.{steps_apart, steps_again}
+use Rattle.half_edge_links.proofs.{Lists.Orbits.IsPeriod, Lists.Orbits.period_of, Lists.Rev.rev-rev}
+use Rattle.half_edge_links.proofs.Lists.Walks.{among_steps, in_period, period_closed, steps_again}
+use Rattle.half_edge_links.proofs.Lists.Walks.{steps_apart, to_steps}
 use Rattle.half_edge_links.proofs.Removing.Conditions.{spoke_at, turn_in, turn_one}
 use Rattle.half_edge_links.proofs.Removing.ShrinkTriangles.{same_triangle}
-use Rattle.half_edge_links.specs.Hull.{IsClosedAlong, outer_step, OutlineGoesRound}
 
 turns : (m : Mesh) (o : ℕ) → IsValidMesh m → o < length m.half_edges
     → (k : ℕ) × IsPeriod (turn m) o k

@@ -9,8 +9,7 @@ use Rattle.std.proofs.lemmas.Bool.Decides.{eqb_tells}
 use Rattle.std.proofs.lemmas.List.Folds.{Any-from_list_any}
 use Rattle.std.proofs.lemmas.Map.Keys.{IsDistinct-from_apart}
 use Rattle.std.proofs.lemmas.Map.Steps.{length-le_from_distinct_below}
-use Rattle.half_edge_links.proofs.Lists.Cases.{◌or_else◌}
-use Rattle.half_edge_links.specs.Mesh.{iterate}
+use Rattle.{half_edge_links.proofs.Lists.Cases.◌or_else◌, half_edge_links.specs.iterate}
 
 -- the first places of a walk
 points : (ℕ → ℕ) → ℕ → ℕ → List ℕ

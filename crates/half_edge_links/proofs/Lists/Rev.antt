@@ -1,8 +1,11 @@
--- The other side of a directed edge.
--- Lemmas: rev-rev, rev_differs, rev_within, rev_same.
+-- The reverse of a directed edge, by its index.
+-- rev-rev: the reverse of the reverse is the edge
+-- rev_differs: no edge is its own reverse
+-- rev_within: below an even bound, the reverse is below it too
+-- rev_same: edges with the same reverse are the same
 use Rattle.std.proofs.Common.{◌≡◌, ◌≢◌, ℕ, ◌%◌, ◌<◌, sym, ap, ◌∙◌, arith}
 use Rattle.std.proofs.lemmas.Grind.{common_steps}
-use Rattle.half_edge_links.specs.Mesh.{rev}
+use Rattle.half_edge_links.specs.{rev}
 
 -- the reverse of the reverse of a directed edge is the edge
 pub rev-rev : (h : ℕ) → rev (rev h) ≡ h

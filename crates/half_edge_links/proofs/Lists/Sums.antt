@@ -7,7 +7,7 @@ use Rattle.std.specs.Prelude.{ℤ, pos, ◌+ℤ◌}
 use Rattle.std.proofs.lemmas.Int.{ints}
 use Rattle.std.proofs.lemmas.Bool.{cases_eq}
 use Rattle.std.proofs.lemmas.Bool.Decides.{nat_tests}
-use Rattle.half_edge_links.specs.Flow.{total}
+use Rattle.half_edge_links.specs.{total}
 
 -- the sum of the first n values of a function
 abbrev pub sum_to : (ℕ → ℤ) → ℕ → ℤ

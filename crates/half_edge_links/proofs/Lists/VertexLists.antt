@@ -10,11 +10,10 @@ use Rattle.std.proofs.lemmas.Bool.Decides.{nat_tests}
 use Rattle.std.proofs.lemmas.Option.{slice_get_read, slice_get-map}
 use Rattle.std.proofs.Math.Seq.{map-set_same}
 use Rattle.std.specs.List.{swap_remove, AllZip}
-use Rattle.half_edge_links.specs.declared.vertex_list.Vertex.{Vertex}
+use Rattle.half_edge_links.specs.{pair_moved, renamed, VertexList.TakesVertex, VertexList.values_of}
+use Rattle.half_edge_links.specs.VertexList.{IsCopiedVertex, IsNameable, named_by, out_edges_of}
 use Rattle.half_edge_links.specs.declared.vertex_list.TheConstants.{NO_EDGE}
-use Rattle.half_edge_links.specs.Renames.{pair_moved, renamed}
-use Rattle.half_edge_links.specs.VertexList.{IsCopiedVertex, named_by, out_edges_of, values_of}
-use Rattle.half_edge_links.specs.VertexList.{TakesVertex, IsNameable}
+use Rattle.half_edge_links.specs.declared.vertex_list.Vertex.{Vertex}
 use Rattle.half_edge_links.proofs.Removing.OpenSound.{swap_remove_default}
 
 -- an edge is named by its own number, and none by the one that is left for it

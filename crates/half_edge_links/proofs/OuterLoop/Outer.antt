@@ -2,13 +2,11 @@
 -- Lemmas: same_outer, at_edge, is_edge, outer_hung, outer_closed.
 use Rattle.std.proofs.Common.{◌≡◌, ◌≢◌, ℕ, ◌+◌, ◌<◌, length, sym, ap, ◌∙◌, inl, inr, arith}
 use Rattle.std.proofs.lemmas.Bool.{cases_eq}
-use Rattle.half_edge_links.proofs.Lists.Cases.{◌or_else◌}
-use Rattle.half_edge_links.specs.Mesh.{Mesh, origin, next, face, rev, AreSoundLinks}
-use Rattle.half_edge_links.specs.Grow.{OnOuter, IsClosable, Hangs, Closes}
-use Rattle.half_edge_links.specs.Outline.{IsOuterEdge, IsThis, HangsOuter, ClosesOuter}
-use Rattle.half_edge_links.proofs.Lists.Rev.{rev_within}
+use Rattle.half_edge_links.specs.{AreSoundLinks, Closes, ClosesOuter, face, Hangs, IsClosable}
+use Rattle.half_edge_links.specs.{IsOuterEdge, IsThis, Mesh, next, OnOuter, origin, rev}
+use Rattle.half_edge_links.proofs.{Growing.Close.corner, Lists.Cases.◌or_else◌}
+use Rattle.{half_edge_links.proofs.Lists.Rev.rev_within, half_edge_links.specs.Outline.HangsOuter}
 use Rattle.half_edge_links.proofs.Sound.Parts.{rev_of_even, rev_of_odd}
-use Rattle.half_edge_links.proofs.Growing.Close.{corner}
 
 -- an edge whose face and ends stay
 pub same_outer : (m new : Mesh) (h a b : ℕ) → IsOuterEdge m h a b → h < length new.half_edges

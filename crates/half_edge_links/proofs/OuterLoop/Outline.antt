@@ -3,20 +3,15 @@
 -- outline_closed, outline_connected.
 use Rattle.std.proofs.Common.{◌≡◌, ◌≢◌, ◌+◌, ◌<◌, [], ◌∷◌, ◌∙◌}
 use Rattle.std.proofs.Common.{ℕ, zero, suc, List, length, refl, sym, ap, arith}
-use Rattle.half_edge_links.specs.declared.records.HalfEdge.{HalfEdge}
-use Rattle.half_edge_links.specs.Mesh.{Mesh, origin, next, prev, face, rev, AreSoundLinks}
-use Rattle.half_edge_links.specs.Mesh.{IsInnerEdge, IsAlone, connected}
-use Rattle.half_edge_links.specs.Flip.{IsFlippable, Flips}
-use Rattle.half_edge_links.specs.Insert.{Inserts}
-use Rattle.half_edge_links.specs.Grow.{OnOuter, IsClosable, Hangs, Closes}
-use Rattle.half_edge_links.specs.Hull.{HasOneOutline, KeepsOneOutline}
+use Rattle.half_edge_links.specs.{AreSoundLinks, Closes, connected, face, Flips, HalfEdge, Hangs}
+use Rattle.half_edge_links.specs.{HasOneOutline, Inserts, IsAlone, IsClosable, IsFlippable}
+use Rattle.half_edge_links.specs.{IsInnerEdge, KeepsOneOutline, Mesh, next, OnOuter, origin, prev}
 use Rattle.half_edge_links.proofs.Faces.KeepsOuter.{outer_flipped, outer_inserted}
-use Rattle.half_edge_links.proofs.Growing.Close.{corner}
-use Rattle.half_edge_links.proofs.Lists.Named.{◌and◌}
-use Rattle.half_edge_links.proofs.Relinking.Rounds.{stand, stand_off, stand_first, stand_second}
-use Rattle.half_edge_links.proofs.Relinking.Walks.{outline_exchanged}
-use Rattle.half_edge_links.proofs.Faces.FlipSound as turning
+use Rattle.half_edge_links.proofs.{Growing.Close.corner, Relinking.Walks.outline_exchanged}
+use Rattle.{half_edge_links.proofs.Lists.Named.◌and◌, half_edge_links.specs.rev}
+use Rattle.half_edge_links.proofs.Relinking.Rounds.{stand, stand_first, stand_off, stand_second}
 use Rattle.half_edge_links.proofs.Sound.Triangles.{IsTriangle, triangle_at}
+use Rattle.half_edge_links.proofs.Faces.FlipSound as turning
 
 -- the outer edges are the same, and follow each other as before
 pub record SameOuter (m new : Mesh) : Type 0 where

@@ -2,18 +2,16 @@
 -- Lemmas: outline_filled.
 use Rattle.std.proofs.Common.{◌≡◌, ◌⊎◌, ◌-◌, ◌%◌, ◌<◌, ◌∙◌}
 use Rattle.std.proofs.Common.{ℕ, length, refl, sym, ap, inl, inr, subst, arith}
-use Rattle.half_edge_links.specs.Mesh.{Mesh, next, face, rev, AreSoundLinks}
-use Rattle.half_edge_links.specs.Hull.{KeepsOneOutline}
-use Rattle.half_edge_links.specs.Peel.{Peels, turn}
-use Rattle.half_edge_links.specs.Remove.{Opens, Removes, ClosesLoop, after_removal}
-use Rattle.half_edge_links.specs.Renames.{pair_moved}
-use Rattle.half_edge_links.proofs.Removing.CollapseLemmas as fan
-use Rattle.half_edge_links.proofs.Removing.Conditions.{IsFullWheel, IsFanOfTwo, IsFanOfOne}
-use Rattle.half_edge_links.proofs.OuterLoop.OutlineTraced.{TracesOuter, IsLeftOver, InLoop, Opened}
-use Rattle.half_edge_links.proofs.OuterLoop.OutlineTraced.{traces_itself, same_hole, traces_opened}
-use Rattle.half_edge_links.proofs.OuterLoop.OutlineTraced.{renamed, traces_removed, outline_traced}
+use Rattle.half_edge_links.specs.{after_removal, AreSoundLinks, ClosesLoop, face, KeepsOneOutline}
+use Rattle.half_edge_links.specs.{Mesh, next, Opens, pair_moved, Peels, Removes, rev, turn}
 use Rattle.half_edge_links.proofs.Lists.Rev.{rev_within}
-use Rattle.half_edge_links.proofs.Sound.Triangles.{IsTriangle, triangle_at, same_loop}
+use Rattle.half_edge_links.proofs.OuterLoop.OutlineTraced.{InLoop, IsLeftOver, Opened}
+use Rattle.half_edge_links.proofs.OuterLoop.OutlineTraced.{outline_traced, renamed, same_hole}
+use Rattle.half_edge_links.proofs.OuterLoop.OutlineTraced.{traces_itself, traces_opened}
+use Rattle.half_edge_links.proofs.OuterLoop.OutlineTraced.{traces_removed, TracesOuter}
+use Rattle.half_edge_links.proofs.Removing.Conditions.{IsFanOfOne, IsFanOfTwo, IsFullWheel}
+use Rattle.half_edge_links.proofs.Sound.Triangles.{IsTriangle, same_loop, triangle_at}
+use Rattle.half_edge_links.proofs.Removing.CollapseLemmas as fan
 use Rattle.half_edge_links.proofs.Removing.WheelLemmas as wheel
 
 -- the hole beside a vertex with two edges, a and then z

@@ -3,26 +3,20 @@
 use Rattle.std.proofs.Common.{◌≡◌, ◌≢◌, [], ◌∷◌, ◌<◌, ◌∙◌}
 use Rattle.std.proofs.Common.{ℕ, List, length, refl, sym, ap, inl, inr, arith}
 use Rattle.std.proofs.lemmas.Bool.{cases_eq}
-use Rattle.half_edge_links.specs.Mesh.{Mesh, next, prev, face, rev, AreSoundLinks, IsInner}
-use Rattle.half_edge_links.specs.Remove.{Opens, Removes}
-use Rattle.half_edge_links.specs.Peel.{Peels}
-use Rattle.half_edge_links.specs.Move.{MovesVertex}
-use Rattle.half_edge_links.specs.Hull.{HasOneOutline, KeepsOneOutline, IsPendant}
-use Rattle.half_edge_links.proofs.Lists.Named.{◌and◌}
-use Rattle.half_edge_links.proofs.Lists.Rev.{rev_within}
-use Rattle.half_edge_links.proofs.Removing.Conditions.{IsUnlinkable, IsHullEdge}
-use Rattle.half_edge_links.proofs.Removing.OpenSound.{sound_opened}
-use Rattle.half_edge_links.proofs.Removing.PeelLemmas.{removable_opened}
-use Rattle.half_edge_links.proofs.Removing.RemoveSound.{sound_removed}
-use Rattle.half_edge_links.proofs.Sound.Triangles.{triangle_at, same_loop}
-use Rattle.half_edge_links.proofs.Removing.Track.{IsLeft, name, name_in, face_at, next_at, old_at}
-use Rattle.half_edge_links.proofs.Removing.Track.{next_before, next_twin_before, former, former_is}
-use Rattle.half_edge_links.proofs.Removing.Track.{left_walk}
-use Rattle.half_edge_links.proofs.Relinking.Rounds.{HasOneRound, Exchange, one_round}
-use Rattle.half_edge_links.proofs.Relinking.Rounds.{round_renamed, stand, stand_off, stand_first}
-use Rattle.half_edge_links.proofs.Relinking.Rounds.{stand_second}
-use Rattle.half_edge_links.proofs.Relinking.Walks.{outer_walk, outer_goes, round_of_outline}
-use Rattle.half_edge_links.proofs.OuterLoop.Outline.{outline_same}
+use Rattle.half_edge_links.specs.{AreSoundLinks, face, HasOneOutline, IsInner, IsPendant}
+use Rattle.half_edge_links.specs.{KeepsOneOutline, Mesh, MovesVertex, next, Opens, Peels, prev}
+use Rattle.half_edge_links.specs.{Removes, rev}
+use Rattle.half_edge_links.proofs.{Lists.Named.◌and◌, Removing.RemoveSound.sound_removed}
+use Rattle.half_edge_links.proofs.{Lists.Rev.rev_within, Removing.PeelLemmas.removable_opened}
+use Rattle.half_edge_links.proofs.{OuterLoop.Outline.outline_same, Removing.OpenSound.sound_opened}
+use Rattle.half_edge_links.proofs.Relinking.Rounds.{Exchange, HasOneRound, one_round, round_renamed}
+use Rattle.half_edge_links.proofs.Relinking.Rounds.{stand, stand_first, stand_off, stand_second}
+use Rattle.half_edge_links.proofs.Relinking.Walks.{outer_goes, outer_walk, round_of_outline}
+use Rattle.half_edge_links.proofs.Removing.Conditions.{IsHullEdge, IsUnlinkable}
+use Rattle.half_edge_links.proofs.Removing.Track.{face_at, former, former_is, IsLeft, left_walk}
+use Rattle.half_edge_links.proofs.Removing.Track.{name, name_in, next_at, next_before}
+use Rattle.half_edge_links.proofs.Removing.Track.{next_twin_before, old_at}
+use Rattle.half_edge_links.proofs.Sound.Triangles.{same_loop, triangle_at}
 
 -- the outer face keeps one loop when the last vertex takes the index of another
 pub outline_moved : (m new : Mesh) (v : ℕ) → MovesVertex m new v → KeepsOneOutline m new

@@ -4,13 +4,10 @@
 use Rattle.std.proofs.Common.{◌≡◌, ◌≢◌, ◌⊎◌, ◌-◌, ◌%◌, ◌<◌, ◌∙◌}
 use Rattle.std.proofs.Common.{ℕ, length, sym, ap, inl, inr, subst, arith}
 use Rattle.std.proofs.lemmas.Bool.{cases_eq}
-use Rattle.half_edge_links.proofs.Lists.Cases.{◌or_else◌}
-use Rattle.half_edge_links.specs.Mesh.{Mesh, next, prev, face, rev, AreSoundLinks}
-use Rattle.half_edge_links.specs.Renames.{pair_moved}
-use Rattle.half_edge_links.specs.Remove.{Opens, Removes, ClosesLoop}
-use Rattle.half_edge_links.specs.Hull.{KeepsOneOutline}
-use Rattle.half_edge_links.proofs.Removing.Conditions.{IsUnlinkable}
-use Rattle.half_edge_links.proofs.Removing.Track.{IsLeft, name, name_in, name_same, face_at}
+use Rattle.half_edge_links.specs.{AreSoundLinks, ClosesLoop, face, KeepsOneOutline, Mesh, next}
+use Rattle.half_edge_links.specs.{Opens, pair_moved, prev, Removes, rev}
+use Rattle.half_edge_links.proofs.{Lists.Cases.◌or_else◌, Removing.Conditions.IsUnlinkable}
+use Rattle.half_edge_links.proofs.Removing.Track.{face_at, IsLeft, name, name_in, name_same}
 use Rattle.half_edge_links.proofs.Removing.Track.{next_at, old_at}
 
 -- an outer edge of the mesh m, with index k

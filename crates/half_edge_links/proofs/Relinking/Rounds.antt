@@ -11,8 +11,8 @@ use Rattle.std.proofs.Common.{◌≡◌, ◌≢◌, ◌⊎◌, [], ◌∷◌, �
 use Rattle.std.proofs.Common.{ℕ, Bool, true, List, refl, sym, ap, subst, inl, inr, arith}
 use Rattle.std.proofs.lemmas.Grind.{common_steps}
 use Rattle.half_edge_links.proofs.Lists.Cases.{◌each_with◌}
-use Rattle.half_edge_links.proofs.Lists.Named.{Each, OneOf, NoneOf, Off, itself, each_map}
-use Rattle.half_edge_links.proofs.Lists.Named.{one_or_none, at_places, elsewhere}
+use Rattle.half_edge_links.proofs.Lists.Named.{at_places, Each, each_map, elsewhere, itself, NoneOf}
+use Rattle.half_edge_links.proofs.Lists.Named.{Off, one_or_none, OneOf}
 
 -- a walk among some of the numbers, each of which has a label
 pub record Walk : Type 1 where

@@ -5,14 +5,11 @@
 -- Notions: star_walk, outer_walk, IsMoved; star_goes, outer_goes, round_of_outline,
 -- stars_exchanged, outline_exchanged, exchange_moved.
 use Rattle.std.proofs.Common.{◌≡◌, ◌≢◌, [], ◌∷◌, ℕ, ◌<◌, List, length, refl, sym, ap, ◌∙◌}
-use Rattle.half_edge_links.specs.Mesh.{Mesh, origin, next, prev, AreSoundLinks, HasStars}
-use Rattle.half_edge_links.specs.Grow.{OnOuter}
-use Rattle.half_edge_links.specs.Hull.{HasOneOutline, KeepsOneOutline}
-use Rattle.half_edge_links.specs.Peel.{turn}
-use Rattle.half_edge_links.proofs.Lists.Named.{◌and◌}
-use Rattle.half_edge_links.proofs.Lists.Rev.{rev_within}
-use Rattle.half_edge_links.proofs.Relinking.Rounds.{Walk, KeepsLabel, HasOneRound, Exchange}
-use Rattle.half_edge_links.proofs.Relinking.Rounds.{one_round, stand, stand_off, stand_first}
+use Rattle.half_edge_links.specs.{AreSoundLinks, HasOneOutline, HasStars, KeepsOneOutline, Mesh}
+use Rattle.half_edge_links.specs.{next, OnOuter, origin, prev, turn}
+use Rattle.half_edge_links.proofs.{Lists.Named.◌and◌, Lists.Rev.rev_within}
+use Rattle.half_edge_links.proofs.Relinking.Rounds.{Exchange, HasOneRound, KeepsLabel, one_round}
+use Rattle.half_edge_links.proofs.Relinking.Rounds.{stand, stand_first, stand_off, Walk}
 
 -- from each edge to the next one round its origin, against the clock
 abbrev pub star_walk : Mesh → Walk

@@ -4,14 +4,12 @@ use Rattle.std.proofs.Common.{◌≡◌, ◌≢◌, ◌⊎◌, ◌+◌, ◌-◌,
 use Rattle.std.proofs.Common.{ℕ, length, refl, sym, ap, inl, inr, arith, length-append}
 use Rattle.std.proofs.lemmas.Bool.{cases_eq}
 use Rattle.std.proofs.lemmas.List.{get_or_append_left, get_or_at}
-use Rattle.half_edge_links.specs.declared.room.TheConstants.{MAX_ELEMENTS}
-use Rattle.half_edge_links.specs.Mesh.{Mesh, IsSmall, origin, next, prev, face, face_edge, rev}
-use Rattle.half_edge_links.specs.Mesh.{AreSoundLinks, IsSoundEdge}
-use Rattle.half_edge_links.specs.Remove.{loop_closed, IsOpenTriangle, ClosesLoop}
-use Rattle.half_edge_links.proofs.Sound.Triangles.{IsTriangle}
-use Rattle.half_edge_links.proofs.Sound.FieldWrites.{sets_loop_face}
-use Rattle.half_edge_links.proofs.Sound.Parts.{loop_sound, sound_from, next_kept, prev_kept}
-use Rattle.half_edge_links.proofs.Sound.Parts.{inner_kept, KeepsBusy, KeepsFaceEdges}
+use Rattle.half_edge_links.specs.{AreSoundLinks, ClosesLoop, face, face_edge, IsOpenTriangle}
+use Rattle.half_edge_links.specs.{IsSmall, IsSoundEdge, MAX_ELEMENTS, Mesh, next, origin, prev, rev}
+use Rattle.half_edge_links.specs.Remove.{loop_closed}
+use Rattle.half_edge_links.proofs.{Sound.FieldWrites.sets_loop_face, Sound.Triangles.IsTriangle}
+use Rattle.half_edge_links.proofs.Sound.Parts.{inner_kept, KeepsBusy, KeepsFaceEdges, loop_sound}
+use Rattle.half_edge_links.proofs.Sound.Parts.{next_kept, prev_kept, sound_from}
 
 -- edge k is h, the edge after h or the one before it
 abbrev pub IsOfFace : Mesh → ℕ → ℕ → Type 0

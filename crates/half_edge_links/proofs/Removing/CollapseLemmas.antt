@@ -4,18 +4,17 @@
 -- c2_left, w_left, nz, rev_z, origin_now, to1, to2, fan_of_one.
 use Rattle.std.proofs.Common.{◌≡◌, ◌≢◌, ◌<◌, ◌∙◌}
 use Rattle.std.proofs.Common.{ℕ, length, Option, Some, None, IsSome, refl, sym, ap, inl, inr, arith}
-use Rattle.half_edge_links.specs.Mesh.{Mesh, origin, next, prev, face, rev, AreSoundLinks, IsInner}
-use Rattle.half_edge_links.specs.Remove.{Opens, Removes, IsOpenTriangle}
-use Rattle.half_edge_links.proofs.Removing.Conditions.{IsUnlinkable, IsFanOfTwo, IsFanOfOne}
-use Rattle.half_edge_links.proofs.Lists.Rev.{rev-rev, rev_within, rev_differs}
-use Rattle.half_edge_links.proofs.Sound.Triangles.{IsTriangle, triangle_at}
-use Rattle.half_edge_links.proofs.Removing.OpenSound.{sound_opened}
-use Rattle.half_edge_links.proofs.Removing.RemoveSound.{sound_removed}
-use Rattle.half_edge_links.proofs.Removing.UnlinkSound.{some_same}
+use Rattle.half_edge_links.specs.{AreSoundLinks, face, IsInner, IsOpenTriangle, Mesh, next, Opens}
+use Rattle.half_edge_links.specs.{origin, prev, Removes, rev}
+use Rattle.half_edge_links.proofs.Lists.Rev.{rev-rev, rev_differs, rev_within}
+use Rattle.half_edge_links.proofs.Removing.Conditions.{IsFanOfOne, IsFanOfTwo, IsUnlinkable}
+use Rattle.half_edge_links.proofs.{Removing.OpenSound.sound_opened, Removing.UnlinkSound.some_same}
 use Rattle.half_edge_links.proofs.Removing.PeelLemmas.{removable_opened}
-use Rattle.half_edge_links.proofs.Removing.Track.{IsLeft, name, name_in, name_same, origin_at}
-use Rattle.half_edge_links.proofs.Removing.Track.{face_at, next_at, next_before, next_twin_before}
-use Rattle.half_edge_links.proofs.Removing.Track.{old_at, rev_at, outer_at}
+use Rattle.half_edge_links.proofs.Removing.RemoveSound.{sound_removed}
+use Rattle.half_edge_links.proofs.Removing.Track.{face_at, IsLeft, name, name_in, name_same}
+use Rattle.half_edge_links.proofs.Removing.Track.{next_at, next_before, next_twin_before, old_at}
+use Rattle.half_edge_links.proofs.Removing.Track.{origin_at, outer_at, rev_at}
+use Rattle.half_edge_links.proofs.Sound.Triangles.{IsTriangle, triangle_at}
 
 -- the value that is there
 pub some_of : (o : Option ℕ) → IsSome o → (k : ℕ) × (o ≡ Some k)

@@ -1,22 +1,27 @@
--- What the steps of a removal find, and how it follows from what always holds of a mesh.
--- Notions: IsUnlinkable, IsHullEdge, IsFullWheel, IsFanOfTwo, IsFanOfOne, IsFullStrip; alone_at,
--- unlinkable, removable, hull_edge, peelable, turn_in, turn_starts, same_spoke, turned_apart,
--- full_wheel, spoke_at, turn_one, full_strip, faces_apart, flippable, turns_between,
--- between_faces.
+-- What the steps of a removal need, and how it follows from what always holds of a mesh.
+-- IsUnlinkable m e: an edge between the outer face and itself, with all that taking it out needs
+-- IsHullEdge m h: an inner face on the left, the outer one on the right, and two different ends
+-- IsFullWheel m o: a vertex with three different faces, and with no further edge
+-- IsFullStrip m h k: a hull vertex with k different faces in a row, and with no further edge
+-- IsFanOfTwo m a z, IsFanOfOne m z: what is left of a wheel after one edge, and after two, are gone
+-- unlinkable, removable: in a valid mesh, `IsRemovable` gives `IsUnlinkable`; and back
+-- full_wheel, full_strip: in a valid mesh, `IsWheel` gives `IsFullWheel`, and `IsStrip`
+--   `IsFullStrip`
+-- flippable: in a valid mesh, an edge with inner faces on both sides has two different ones
+-- spoke_at: each edge on the walk around a vertex is an edge of the mesh and starts there
+-- turn_one: the walk around a vertex is one to one
 use Rattle.std.proofs.Common.{◌≡◌, ◌≢◌, ◌⊎◌, ◌+◌, ◌-◌, ◌<◌, ◌≤◌, ◌==◌, if◌then◌else◌, ◌∙◌}
 use Rattle.std.proofs.Common.{ℕ, zero, suc, Bool, true, length, Some, refl, sym, ap, inl, inr}
 use Rattle.std.proofs.Common.{arith}
 use Rattle.std.proofs.lemmas.Bool.{eq-eqb, eqb-true}
 use Rattle.std.proofs.lemmas.Bool.Decides.{nat_tests}
-use Rattle.half_edge_links.specs.Mesh.{Mesh, origin, next, prev, face, rev, AreSoundLinks}
-use Rattle.half_edge_links.specs.Mesh.{IsValidMesh, IsClosed}
-use Rattle.half_edge_links.specs.Flip.{IsBetweenFaces, IsFlippable}
-use Rattle.half_edge_links.specs.Remove.{IsRemovable}
-use Rattle.half_edge_links.specs.Peel.{IsPeelable, IsWheel, IsStrip, turn, spoke}
-use Rattle.half_edge_links.proofs.Lists.Rev.{rev-rev, rev_within, rev_differs}
+use Rattle.half_edge_links.specs.{AreSoundLinks, face, IsBetweenFaces, IsClosed, IsFlippable}
+use Rattle.half_edge_links.specs.{IsPeelable, IsRemovable, IsStrip, IsValidMesh, IsWheel, Mesh}
+use Rattle.half_edge_links.specs.{next, origin, prev, rev, spoke, turn}
 use Rattle.half_edge_links.proofs.Lists.Orbits.{step_add, step_back}
-use Rattle.half_edge_links.proofs.Lists.Walks.{among_steps, to_steps, from_steps, steps_closed}
-use Rattle.half_edge_links.proofs.Sound.Triangles.{IsTriangle, triangle_at, same_loop}
+use Rattle.half_edge_links.proofs.Lists.Rev.{rev-rev, rev_differs, rev_within}
+use Rattle.half_edge_links.proofs.Lists.Walks.{among_steps, from_steps, steps_closed, to_steps}
+use Rattle.half_edge_links.proofs.Sound.Triangles.{IsTriangle, same_loop, triangle_at}
 
 -- an edge with the outer face on both sides, that can be taken out: where it is the last one at an
 -- end in its loop, it is the only one there

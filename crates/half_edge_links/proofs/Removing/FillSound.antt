@@ -9,19 +9,16 @@ use Rattle.std.proofs.lemmas.Bool.{cases_eq}
 use Rattle.std.proofs.lemmas.Bool.Decides.{nat_tests}
 use Rattle.std.proofs.lemmas.List.{get_or-set_same, get_or-set_other, length-set}
 use Rattle.std.specs.List.{swap_remove}
-use Rattle.half_edge_links.proofs.Lists.Cases.{◌each_with◌}
-use Rattle.half_edge_links.specs.declared.records.HalfEdge.{HalfEdge}
-use Rattle.half_edge_links.specs.Mesh.{Mesh, no_edge, edge_at, origin, next, prev, face, face_edge}
-use Rattle.half_edge_links.specs.Mesh.{out_edge, rev, HasLinks}
-use Rattle.half_edge_links.specs.Places.{AreJoined}
-use Rattle.half_edge_links.specs.Renames.{Renames, IsKeptEdge, pair_moved, renamed}
-use Rattle.half_edge_links.specs.Remove.{with_filled, with_out_renamed, with_face_renamed, filled}
-use Rattle.half_edge_links.specs.Remove.{edge_naming, IsSoundBut}
-use Rattle.half_edge_links.proofs.Removing.OpenSound.{get_or-swap_remove_same}
-use Rattle.half_edge_links.proofs.Removing.OpenSound.{get_or-swap_remove_other, length-swap_remove}
-use Rattle.half_edge_links.proofs.Removing.UnlinkSound.{both, next_of, prev_of, length_both}
-use Rattle.half_edge_links.proofs.Removing.UnlinkSound.{next_both, next_both_other, prev_both}
-use Rattle.half_edge_links.proofs.Removing.UnlinkSound.{prev_both_other, origin_both, face_both}
+use Rattle.half_edge_links.specs.{AreJoined, edge_at, edge_naming, face, face_edge, HalfEdge}
+use Rattle.half_edge_links.specs.{HasLinks, IsKeptEdge, IsSoundBut, Mesh, next, no_edge, origin}
+use Rattle.half_edge_links.specs.{out_edge, pair_moved, prev, renamed, rev}
+use Rattle.half_edge_links.specs.Remove.{filled, with_face_renamed, with_filled, with_out_renamed}
+use Rattle.{half_edge_links.proofs.Lists.Cases.◌each_with◌, half_edge_links.specs.Renames.Renames}
+use Rattle.half_edge_links.proofs.Removing.OpenSound.{get_or-swap_remove_other}
+use Rattle.half_edge_links.proofs.Removing.OpenSound.{get_or-swap_remove_same, length-swap_remove}
+use Rattle.half_edge_links.proofs.Removing.UnlinkSound.{both, face_both, length_both, next_both}
+use Rattle.half_edge_links.proofs.Removing.UnlinkSound.{next_both_other, next_of, origin_both}
+use Rattle.half_edge_links.proofs.Removing.UnlinkSound.{prev_both, prev_both_other, prev_of}
 
 -- the new index of an element
 module _ (from to : ℕ) where

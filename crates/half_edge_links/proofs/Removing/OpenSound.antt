@@ -10,16 +10,13 @@ use Rattle.std.proofs.lemmas.Bool.Decides.{nat_tests}
 use Rattle.std.proofs.lemmas.List.{get_or-set_same, get_or-set_other, get_or-take, length-set}
 use Rattle.std.proofs.lemmas.List.{length-take, get_or_default}
 use Rattle.std.specs.List.{swap_remove}
-use Rattle.half_edge_links.proofs.Lists.Cases.{◌or_else◌}
-use Rattle.half_edge_links.specs.declared.records.HalfEdge.{HalfEdge}
-use Rattle.half_edge_links.specs.Mesh.{Mesh, IsSmall, next, prev, face, face_edge}
-use Rattle.half_edge_links.specs.Mesh.{out_edge, AreSoundLinks, IsInner}
-use Rattle.half_edge_links.specs.Renames.{Naming, Renames, IsKeptEdge, moved, renamed}
-use Rattle.half_edge_links.specs.Remove.{opened, opened_face, with_loop_face, Opens}
-use Rattle.half_edge_links.specs.Remove.{IsLinkedWithin}
-use Rattle.half_edge_links.proofs.Sound.Triangles.{triangle_at, same_loop}
-use Rattle.half_edge_links.proofs.Sound.FieldWrites.{sets_loop_face}
+use Rattle.half_edge_links.specs.{AreSoundLinks, face, face_edge, HalfEdge, IsInner, IsKeptEdge}
+use Rattle.half_edge_links.specs.{IsSmall, Mesh, moved, Naming, next, Opens, out_edge, prev}
+use Rattle.half_edge_links.specs.{renamed, Renames.Renames, with_loop_face}
+use Rattle.half_edge_links.specs.Remove.{IsLinkedWithin, opened, opened_face}
+use Rattle.half_edge_links.proofs.{Lists.Cases.◌or_else◌, Sound.FieldWrites.sets_loop_face}
 use Rattle.half_edge_links.proofs.Sound.RenameSound.{sound_renamed}
+use Rattle.half_edge_links.proofs.Sound.Triangles.{same_loop, triangle_at}
 
 -- what may be missing stays the same where each index keeps its name
 pub same_renamed : (o : Option ℕ) → o ≡ renamed (λ h. h) o

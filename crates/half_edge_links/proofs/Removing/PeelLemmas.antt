@@ -2,11 +2,9 @@
 -- face is less.
 -- Lemmas: removable_opened, peels_faces.
 use Rattle.std.proofs.Common.{ℕ, ◌+◌, ◌≡◌, length, refl, sym, ap, ◌∙◌, arith}
-use Rattle.half_edge_links.specs.Mesh.{Mesh, prev, face, rev, AreSoundLinks}
-use Rattle.half_edge_links.specs.Remove.{Opens}
-use Rattle.half_edge_links.specs.Peel.{Peels}
-use Rattle.half_edge_links.proofs.Removing.Conditions.{IsUnlinkable, IsHullEdge}
+use Rattle.half_edge_links.specs.{AreSoundLinks, face, Mesh, Opens, Peels, prev, rev}
 use Rattle.half_edge_links.proofs.Lists.Rev.{rev_within}
+use Rattle.half_edge_links.proofs.Removing.Conditions.{IsHullEdge, IsUnlinkable}
 
 -- an edge of the hull can be taken out once the face on its left is given to the outer one
 pub removable_opened : (m new : Mesh) (h : ℕ) → AreSoundLinks m → IsHullEdge m h

@@ -1,16 +1,15 @@
 -- Removing an edge keeps a mesh sound.
 -- Lemmas: removes, joined_unlinked, unlinked_places, read_unlinked, sound_removed, small_removed.
 use Rattle.std.proofs.Common.{◌≡◌, ℕ, ◌+◌, ◌-◌, ◌%◌, List, length, sym, ap, ◌∙◌, arith}
-use Rattle.half_edge_links.specs.declared.records.HalfEdge.{HalfEdge}
-use Rattle.half_edge_links.specs.Mesh.{Mesh, IsSmall, edge_at, rev, AreSoundLinks, IsValidMesh}
-use Rattle.half_edge_links.specs.Places.{AreJoined, AreUnlinkedPlaces, IsHole}
-use Rattle.half_edge_links.specs.Remove.{with_unlinked, unlinked, removed, edge_naming, IsRemovable}
-use Rattle.half_edge_links.specs.Remove.{IsSoundBut, Removes}
+use Rattle.half_edge_links.specs.{AreJoined, AreSoundLinks, edge_at, edge_naming, HalfEdge}
+use Rattle.half_edge_links.specs.{IsRemovable, IsSmall, IsSoundBut, IsValidMesh, Mesh, Removes, rev}
+use Rattle.half_edge_links.specs.{Places.AreUnlinkedPlaces, Places.IsHole, unlinked, with_unlinked}
+use Rattle.half_edge_links.specs.Remove.{removed}
+use Rattle.half_edge_links.proofs.Lists.Rev.{rev_differs, rev_within}
 use Rattle.half_edge_links.proofs.Removing.Conditions.{IsUnlinkable, unlinkable}
+use Rattle.half_edge_links.proofs.Removing.FillSound.{counts, joined_but, renames_filled}
+use Rattle.half_edge_links.proofs.Removing.UnlinkSound.{sound_but, unlinks}
 use Rattle.half_edge_links.proofs.Sound.RenameSound.{sound_renamed}
-use Rattle.half_edge_links.proofs.Removing.UnlinkSound.{unlinks, sound_but}
-use Rattle.half_edge_links.proofs.Removing.FillSound.{renames_filled, counts, joined_but}
-use Rattle.half_edge_links.proofs.Lists.Rev.{rev_within, rev_differs}
 
 module _ (m : Mesh) (e : ℕ) (s : AreSoundLinks m) (can : IsUnlinkable m e) where
   -- with the edge taken out of its loops, the mesh is sound but for it

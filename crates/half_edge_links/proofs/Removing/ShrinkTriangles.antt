@@ -7,20 +7,15 @@ use Rattle.std.proofs.Common.{arith}
 use Rattle.std.proofs.lemmas.List.{map-set, take-map, get_or-map, length-map, same_lists}
 use Rattle.std.proofs.lemmas.List.{map-append}
 use Rattle.std.specs.List.{swap_remove}
-use Rattle.half_edge_links.specs.Mesh.{Mesh, origin, next, prev, face, face_edge, rev}
-use Rattle.half_edge_links.specs.Mesh.{AreSoundLinks, IsInner}
-use Rattle.half_edge_links.specs.Renames.{IsKeptEdge, pair_moved, moved}
-use Rattle.half_edge_links.specs.Triangles.{Triangle, triangle_at, triangles}
-use Rattle.half_edge_links.specs.Move.{MovesVertex}
-use Rattle.half_edge_links.specs.Peel.{Peels}
-use Rattle.half_edge_links.specs.Remove.{Opens, Removes, ClosesLoop, edge_naming}
-use Rattle.half_edge_links.proofs.Removing.Conditions.{IsUnlinkable, IsHullEdge}
-use Rattle.half_edge_links.proofs.Removing.OpenSound.{sound_opened}
-use Rattle.half_edge_links.proofs.Removing.PeelLemmas.{removable_opened}
-use Rattle.half_edge_links.proofs.Sound.RenameSound.{kept_edge}
-use Rattle.half_edge_links.proofs.Lists.Rev.{rev_within}
-use Rattle.half_edge_links.proofs.Removing.UnlinkSound.{inner_next, inner_prev}
+use Rattle.half_edge_links.specs.{AreSoundLinks, ClosesLoop, edge_naming, face, face_edge, IsInner}
+use Rattle.half_edge_links.specs.{IsKeptEdge, Mesh, moved, MovesVertex, next, Opens, origin}
+use Rattle.half_edge_links.specs.{pair_moved, Peels, prev, Removes, rev, Triangle, triangle_at}
+use Rattle.half_edge_links.specs.{triangles}
+use Rattle.half_edge_links.proofs.{Lists.Rev.rev_within, Removing.PeelLemmas.removable_opened}
+use Rattle.half_edge_links.proofs.Removing.Conditions.{IsHullEdge, IsUnlinkable}
+use Rattle.half_edge_links.proofs.{Removing.OpenSound.sound_opened, Sound.RenameSound.kept_edge}
 use Rattle.half_edge_links.proofs.Removing.Track.{last_pair, pair_at}
+use Rattle.half_edge_links.proofs.Removing.UnlinkSound.{inner_next, inner_prev}
 
 -- triangles with the same three corners are the same
 pub same_triangle : (a b c x y z : ℕ) → a ≡ x → b ≡ y → c ≡ z

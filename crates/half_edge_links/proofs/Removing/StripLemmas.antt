@@ -4,21 +4,19 @@
 use Rattle.std.proofs.Common.{◌≡◌, ◌≢◌, ◌-◌, ◌%◌, ◌<◌, ◌≤◌, ◌∙◌}
 use Rattle.std.proofs.Common.{ℕ, zero, suc, length, refl, sym, ap, inl, inr, arith}
 use Rattle.std.proofs.lemmas.Bool.{cases_eq}
-use Rattle.half_edge_links.specs.Mesh.{Mesh, origin, next, prev, face, rev, AreSoundLinks, IsInner}
-use Rattle.half_edge_links.specs.Renames.{pair_moved}
-use Rattle.half_edge_links.specs.Peel.{Peels, IsStrip, spoke, turn}
-use Rattle.half_edge_links.specs.Remove.{Opens, Removes, IsRemovable, after_removal}
-use Rattle.half_edge_links.proofs.Removing.Conditions.{spoke_at, IsUnlinkable, IsHullEdge}
-use Rattle.half_edge_links.proofs.Removing.Conditions.{IsFullStrip}
+use Rattle.half_edge_links.specs.{after_removal, AreSoundLinks, face, IsInner, IsRemovable, IsStrip}
+use Rattle.half_edge_links.specs.{Mesh, next, Opens, origin, pair_moved, Peels, prev, Removes, rev}
+use Rattle.half_edge_links.specs.{spoke, turn}
 use Rattle.half_edge_links.proofs.Lists.Rev.{rev-rev, rev_within}
-use Rattle.half_edge_links.proofs.Sound.Triangles.{IsTriangle, triangle_at}
+use Rattle.half_edge_links.proofs.Removing.Conditions.{IsFullStrip, IsHullEdge, IsUnlinkable}
+use Rattle.half_edge_links.proofs.{Removing.Conditions.spoke_at, Removing.RemoveSound.sound_removed}
 use Rattle.half_edge_links.proofs.Removing.OpenSound.{sound_opened}
-use Rattle.half_edge_links.proofs.Removing.RemoveSound.{sound_removed}
 use Rattle.half_edge_links.proofs.Removing.PeelLemmas.{removable_opened}
-use Rattle.half_edge_links.proofs.Removing.WheelLemmas.{still_inner, still_apart}
-use Rattle.half_edge_links.proofs.Removing.Track.{IsLeft, name, name_in, name_same, origin_at}
-use Rattle.half_edge_links.proofs.Removing.Track.{face_at, next_at, next_before, next_twin_before}
-use Rattle.half_edge_links.proofs.Removing.Track.{old_at, rev_at}
+use Rattle.half_edge_links.proofs.Removing.Track.{face_at, IsLeft, name, name_in, name_same}
+use Rattle.half_edge_links.proofs.Removing.Track.{next_at, next_before, next_twin_before, old_at}
+use Rattle.half_edge_links.proofs.Removing.Track.{origin_at, rev_at}
+use Rattle.half_edge_links.proofs.Removing.WheelLemmas.{still_apart, still_inner}
+use Rattle.half_edge_links.proofs.Sound.Triangles.{IsTriangle, triangle_at}
 
 -- the edge of a vertex of the hull that has no inner faces any more may be removed
 pub removable_strip : (m : Mesh) (h : ℕ) → IsStrip m h 0 → IsRemovable m h

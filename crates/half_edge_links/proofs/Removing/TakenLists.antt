@@ -7,32 +7,27 @@ use Rattle.std.proofs.Common.{ℕ, List, length, get_or, map, refl, sym, ap, inl
 use Rattle.std.proofs.lemmas.Bool.{cases_eq}
 use Rattle.std.proofs.lemmas.List.{same_lists, length-map, get_or-map}
 use Rattle.std.specs.List.{swap_remove}
-use Rattle.half_edge_links.proofs.Lists.Cases.{◌or_else◌}
-use Rattle.half_edge_links.specs.Mesh.{Mesh, origin, next, prev, face, rev, AreSoundLinks, IsInner}
-use Rattle.half_edge_links.specs.Renames.{moved, pair_moved}
-use Rattle.half_edge_links.specs.Triangles.{Triangle, triangle_at, triangles}
-use Rattle.half_edge_links.specs.Outline.{Ends, ends, origins, paired, IsOuterEdge}
-use Rattle.half_edge_links.specs.Remove.{Opens, Removes, ClosesLoop, IsOpenTriangle, after_removal}
-use Rattle.half_edge_links.specs.Taken.{no_ends, no_triangle, RemovesTriangle, RemovesEnds}
-use Rattle.half_edge_links.specs.Taken.{OpensOuter, ClosesLoopOuter, RemovesOuter, PeelsOuter}
-use Rattle.half_edge_links.specs.Taken.{MovesTriangles, MovesEnds, MovesOuter}
-use Rattle.half_edge_links.specs.Peel.{Peels}
-use Rattle.half_edge_links.specs.Move.{MovesVertex}
-use Rattle.half_edge_links.proofs.Removing.PeelLemmas.{removable_opened}
+use Rattle.half_edge_links.specs.{after_removal, AreSoundLinks, ClosesLoop, Ends, ends, face}
+use Rattle.half_edge_links.specs.{IsInner, IsOpenTriangle, IsOuterEdge, Mesh, moved, MovesVertex}
+use Rattle.half_edge_links.specs.{next, no_ends, no_triangle, Opens, origin, origins, pair_moved}
+use Rattle.half_edge_links.specs.{Peels, prev, Removes, rev, Triangle, triangle_at, triangles}
+use Rattle.half_edge_links.specs.{Outline.paired, Taken.RemovesTriangle}
+use Rattle.half_edge_links.specs.Taken.{ClosesLoopOuter, MovesEnds, MovesOuter, MovesTriangles}
+use Rattle.half_edge_links.specs.Taken.{OpensOuter, PeelsOuter, RemovesEnds, RemovesOuter}
+use Rattle.half_edge_links.proofs.{Lists.Cases.◌or_else◌, Sound.Ends.length-origins}
 use Rattle.half_edge_links.proofs.Lists.Rev.{rev_within}
-use Rattle.half_edge_links.proofs.Sound.Triangles.{IsTriangle, triangle_at as loop_at, same_loop}
-use Rattle.half_edge_links.proofs.Removing.Conditions.{IsUnlinkable, IsHullEdge}
+use Rattle.half_edge_links.proofs.{OuterLoop.Outer.same_outer, Removing.PeelLemmas.removable_opened}
+use Rattle.half_edge_links.proofs.Removing.Conditions.{IsHullEdge, IsUnlinkable}
+use Rattle.half_edge_links.proofs.Removing.FillSound.{pair_first, pair_other, pair_second}
+use Rattle.half_edge_links.proofs.Removing.OpenSound.{get_or-swap_remove_other}
+use Rattle.half_edge_links.proofs.Removing.OpenSound.{get_or-swap_remove_same, length-swap_remove}
 use Rattle.half_edge_links.proofs.Removing.OpenSound.{sound_opened, swap_remove_default}
-use Rattle.half_edge_links.proofs.Removing.OpenSound.{get_or-swap_remove_same}
-use Rattle.half_edge_links.proofs.Removing.OpenSound.{get_or-swap_remove_other, length-swap_remove}
+use Rattle.half_edge_links.proofs.Removing.ShrinkTriangles.{sides_removed, triangle_moved}
 use Rattle.half_edge_links.proofs.Removing.ShrinkTriangles.{triangles_opened, triangles_peeled}
-use Rattle.half_edge_links.proofs.Removing.ShrinkTriangles.{triangle_moved, sides_removed}
-use Rattle.half_edge_links.proofs.Removing.FillSound.{pair_first, pair_second, pair_other}
-use Rattle.half_edge_links.proofs.Removing.Track.{last_pair, pair_at, side_left, IsLeft, name_in}
-use Rattle.half_edge_links.proofs.Removing.Track.{origin_at, face_at, old_at, rev_at}
-use Rattle.half_edge_links.proofs.Sound.Ends.{length-origins, get_or-origins, length-ends_twice}
-use Rattle.half_edge_links.proofs.Sound.Ends.{get_or-ends}
-use Rattle.half_edge_links.proofs.OuterLoop.Outer.{same_outer}
+use Rattle.half_edge_links.proofs.Removing.Track.{face_at, IsLeft, last_pair, name_in, old_at}
+use Rattle.half_edge_links.proofs.Removing.Track.{origin_at, pair_at, rev_at, side_left}
+use Rattle.half_edge_links.proofs.Sound.Ends.{get_or-ends, get_or-origins, length-ends_twice}
+use Rattle.half_edge_links.proofs.Sound.Triangles.{IsTriangle, same_loop, triangle_at as loop_at}
 
 -- the corners of an inner face that is given to the outer one go, and the last face takes its index
 pub removes_triangle : (m new : Mesh) (f : ℕ) → IsInner m f → Opens m new f

@@ -3,15 +3,14 @@
 -- name_same, origin_at, face_at, next_at, next_before, next_twin_before, old_at, rev_at, outer_at.
 use Rattle.std.proofs.Common.{◌≡◌, ◌≢◌, ◌-◌, ◌%◌, ◌<◌, ◌≤◌, ◌∙◌}
 use Rattle.std.proofs.Common.{ℕ, length, Some, sym, ap, inl, inr, arith}
-use Rattle.half_edge_links.specs.Mesh.{Mesh, origin, next, prev, face, rev, AreSoundLinks}
-use Rattle.half_edge_links.specs.Renames.{IsKeptEdge, IsRenamedEdge, pair_moved, renamed}
-use Rattle.half_edge_links.specs.Remove.{Removes, edge_naming, outer_after}
-use Rattle.half_edge_links.proofs.Removing.Conditions.{IsUnlinkable}
+use Rattle.half_edge_links.specs.{AreSoundLinks, edge_naming, face, IsKeptEdge, Mesh, next, origin}
+use Rattle.half_edge_links.specs.{pair_moved, prev, Removes, renamed, rev}
+use Rattle.half_edge_links.specs.{Remove.outer_after, Renames.IsRenamedEdge}
 use Rattle.half_edge_links.proofs.Lists.Rev.{rev-rev, rev_within}
-use Rattle.half_edge_links.proofs.Relinking.Rounds.{Walk, renamed_walk}
-use Rattle.half_edge_links.proofs.Sound.RenameSound.{kept_edge}
-use Rattle.half_edge_links.proofs.Removing.UnlinkSound.{sides, sides_back, after_cases}
+use Rattle.half_edge_links.proofs.Relinking.Rounds.{renamed_walk, Walk}
+use Rattle.half_edge_links.proofs.{Removing.Conditions.IsUnlinkable, Sound.RenameSound.kept_edge}
 use Rattle.half_edge_links.proofs.Removing.FillSound.{new_left, old_left, old_rev}
+use Rattle.half_edge_links.proofs.Removing.UnlinkSound.{after_cases, sides, sides_back}
 
 -- an edge that is left
 pub record IsLeft (m : Mesh) (e k : ℕ) : Type 0 where

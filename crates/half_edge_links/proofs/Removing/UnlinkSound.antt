@@ -8,19 +8,16 @@ use Rattle.std.proofs.Common.{ap, inl, inr, arith}
 use Rattle.std.proofs.lemmas.Bool.{cases_eq}
 use Rattle.std.proofs.lemmas.Bool.Decides.{nat_tests}
 use Rattle.std.proofs.lemmas.List.{get_or-set_same, get_or-set_other, length-set}
-use Rattle.half_edge_links.proofs.Lists.Cases.{◌or_else◌}
-use Rattle.half_edge_links.specs.declared.records.HalfEdge.{HalfEdge}
-use Rattle.half_edge_links.specs.Mesh.{Mesh, edge_at, origin, next, prev, face, face_edge, out_edge}
-use Rattle.half_edge_links.specs.Mesh.{rev, AreSoundLinks, IsSoundEdge}
-use Rattle.half_edge_links.specs.Grow.{with_next, with_prev}
-use Rattle.half_edge_links.specs.Remove.{with_unlinked, unlinked, out_after, outer_after}
-use Rattle.half_edge_links.specs.Remove.{outer_beside, Unlinks, IsSoundBut}
-use Rattle.half_edge_links.proofs.Removing.Conditions.{IsUnlinkable}
-use Rattle.half_edge_links.proofs.Lists.Rev.{rev-rev, rev_within, rev_differs}
+use Rattle.half_edge_links.specs.{AreSoundLinks, edge_at, face, face_edge, HalfEdge, IsSoundBut}
+use Rattle.half_edge_links.specs.{IsSoundEdge, Mesh, next, origin, out_edge, prev, rev, unlinked}
+use Rattle.half_edge_links.specs.{with_next, with_prev, with_unlinked}
+use Rattle.half_edge_links.specs.Remove.{out_after, outer_after, outer_beside, Unlinks}
+use Rattle.half_edge_links.proofs.{Lists.Cases.◌or_else◌, Removing.Conditions.IsUnlinkable}
 use Rattle.half_edge_links.proofs.Lists.Orbits.{reached}
-use Rattle.half_edge_links.proofs.Sound.Parts.{sound_from, next_at, inner_kept}
-use Rattle.half_edge_links.proofs.Sound.FieldWrites.{writes_next, writes_prev, next_link, prev_link}
-use Rattle.half_edge_links.proofs.Sound.FieldWrites.{face_link, origin_link}
+use Rattle.half_edge_links.proofs.Lists.Rev.{rev-rev, rev_differs, rev_within}
+use Rattle.half_edge_links.proofs.Sound.FieldWrites.{face_link, next_link, origin_link, prev_link}
+use Rattle.half_edge_links.proofs.Sound.FieldWrites.{writes_next, writes_prev}
+use Rattle.half_edge_links.proofs.Sound.Parts.{inner_kept, next_at, sound_from}
 
 -- the edge after edge k in a list of directed edges
 abbrev pub next_of : List HalfEdge → ℕ → ℕ

@@ -6,23 +6,18 @@ use Rattle.std.proofs.Common.{ℕ, zero, suc, List, length, get_or, Option, Some
 use Rattle.std.proofs.Common.{inl, inr, arith}
 use Rattle.std.proofs.lemmas.Bool.{cases_eq}
 use Rattle.std.specs.List.{swap_remove}
-use Rattle.half_edge_links.specs.declared.records.HalfEdge.{HalfEdge}
-use Rattle.half_edge_links.specs.Mesh.{Mesh, IsSmall, edge_at, origin, next, prev, out_edge, rev}
-use Rattle.half_edge_links.specs.Mesh.{AreSoundLinks, IsAlone, iterate}
-use Rattle.half_edge_links.specs.Renames.{Naming, Renames, IsKeptEdge, moved}
-use Rattle.half_edge_links.specs.Grow.{with_origin}
-use Rattle.half_edge_links.specs.Move.{turn_of, MovesOrigins, CanWalk, IsOneOrbit, MovesVertex}
-use Rattle.half_edge_links.specs.Move.{MovesNamed}
+use Rattle.half_edge_links.specs.{AreSoundLinks, edge_at, HalfEdge, IsAlone, IsKeptEdge, IsSmall}
+use Rattle.half_edge_links.specs.{iterate, Mesh, moved, MovesVertex, Naming, next, origin, out_edge}
+use Rattle.half_edge_links.specs.{prev, Renames.Renames, rev, with_origin}
+use Rattle.half_edge_links.specs.Move.{CanWalk, IsOneOrbit, MovesNamed, MovesOrigins, turn_of}
+use Rattle.half_edge_links.proofs.{Growing.FaceBeside.differs_alone, Lists.Orbits.comes_back}
 use Rattle.half_edge_links.proofs.Lists.Rev.{rev_within}
-use Rattle.half_edge_links.proofs.Lists.Orbits.{comes_back}
-use Rattle.half_edge_links.proofs.Sound.FieldWrites.{writes_origin, next_link, prev_link, face_link}
-use Rattle.half_edge_links.proofs.Sound.FieldWrites.{origin_link}
-use Rattle.half_edge_links.proofs.Growing.FaceBeside.{differs_alone}
 use Rattle.half_edge_links.proofs.Removing.Conditions.{spoke_at, turn_one}
-use Rattle.half_edge_links.proofs.Removing.OpenSound.{same_renamed, moved_hit, moved_miss}
-use Rattle.half_edge_links.proofs.Removing.OpenSound.{get_or-swap_remove_same}
-use Rattle.half_edge_links.proofs.Removing.OpenSound.{get_or-swap_remove_other, length-swap_remove}
-use Rattle.half_edge_links.proofs.Sound.RenameSound.{sound_renamed}
+use Rattle.half_edge_links.proofs.Removing.OpenSound.{get_or-swap_remove_other}
+use Rattle.half_edge_links.proofs.Removing.OpenSound.{get_or-swap_remove_same, length-swap_remove}
+use Rattle.half_edge_links.proofs.Removing.OpenSound.{moved_hit, moved_miss, same_renamed}
+use Rattle.half_edge_links.proofs.Sound.FieldWrites.{face_link, next_link, origin_link, prev_link}
+use Rattle.half_edge_links.proofs.{Sound.FieldWrites.writes_origin, Sound.RenameSound.sound_renamed}
 
 -- a walk on a sound mesh
 pub can_walk : (m : Mesh) → AreSoundLinks m → CanWalk m.half_edges

@@ -1,11 +1,9 @@
 -- The corners of the hole that a vertex with three faces leaves.
 -- Notions: IsHoleOfFour, IsHoleOfThree; hole_of_four, hole_of_three, closed_corners.
 use Rattle.std.proofs.Common.{◌≡◌, ℕ, ◌-◌, ◌%◌, length, sym, ap, ◌∙◌}
-use Rattle.half_edge_links.specs.Mesh.{Mesh, origin, next, prev, face, rev, AreSoundLinks}
-use Rattle.half_edge_links.specs.Renames.{pair_moved}
-use Rattle.half_edge_links.specs.Peel.{Peels, turn}
-use Rattle.half_edge_links.specs.Remove.{Opens, Removes, after_removal}
-use Rattle.half_edge_links.proofs.Removing.Conditions.{IsFullWheel, IsFanOfTwo, IsFanOfOne}
+use Rattle.half_edge_links.specs.{after_removal, AreSoundLinks, face, Mesh, next, Opens, origin}
+use Rattle.half_edge_links.specs.{pair_moved, Peels, prev, Removes, rev, turn}
+use Rattle.half_edge_links.proofs.Removing.Conditions.{IsFanOfOne, IsFanOfTwo, IsFullWheel}
 use Rattle.half_edge_links.proofs.Removing.Track.{name_in, origin_at}
 use Rattle.half_edge_links.proofs.Removing.WheelLemmas as wheel
 use Rattle.half_edge_links.proofs.Removing.CollapseLemmas as fan

@@ -4,22 +4,18 @@
 -- b3_left, ra_left, mid_before, mid_twin_before, nz, n3, s3, origin_now, rev_a, fan_of_two.
 use Rattle.std.proofs.Common.{◌≡◌, ◌≢◌, ℕ, ◌<◌, length, sym, ap, ◌∙◌, inl, inr, arith}
 use Rattle.std.proofs.lemmas.Bool.{cases_eq}
-use Rattle.half_edge_links.proofs.Lists.Cases.{◌each_with◌}
-use Rattle.half_edge_links.specs.Mesh.{Mesh, origin, next, prev, face, rev, AreSoundLinks, IsInner}
-use Rattle.half_edge_links.specs.Peel.{turn}
-use Rattle.half_edge_links.specs.Remove.{Opens, Removes}
-use Rattle.half_edge_links.proofs.Removing.Conditions.{IsUnlinkable, IsHullEdge, IsFullWheel}
-use Rattle.half_edge_links.proofs.Removing.Conditions.{IsFanOfTwo, spoke_at}
-use Rattle.half_edge_links.proofs.Lists.Rev.{rev-rev}
-use Rattle.half_edge_links.proofs.Sound.Triangles.{IsTriangle, triangle_at}
+use Rattle.half_edge_links.specs.{AreSoundLinks, face, IsInner, Mesh, next, Opens, origin, prev}
+use Rattle.half_edge_links.specs.{Removes, rev, turn}
+use Rattle.half_edge_links.proofs.{Lists.Cases.◌each_with◌, Removing.PeelLemmas.removable_opened}
+use Rattle.half_edge_links.proofs.{Lists.Rev.rev-rev, Removing.RemoveSound.sound_removed}
+use Rattle.half_edge_links.proofs.{Removing.CollapseLemmas.outer_of, Removing.UnlinkSound.some_same}
+use Rattle.half_edge_links.proofs.Removing.Conditions.{IsFanOfTwo, IsFullWheel, IsHullEdge}
+use Rattle.half_edge_links.proofs.Removing.Conditions.{IsUnlinkable, spoke_at}
 use Rattle.half_edge_links.proofs.Removing.OpenSound.{sound_opened}
-use Rattle.half_edge_links.proofs.Removing.RemoveSound.{sound_removed}
-use Rattle.half_edge_links.proofs.Removing.PeelLemmas.{removable_opened}
-use Rattle.half_edge_links.proofs.Removing.Track.{IsLeft, name, name_in, name_same, origin_at}
-use Rattle.half_edge_links.proofs.Removing.Track.{face_at, next_at, next_before, next_twin_before}
-use Rattle.half_edge_links.proofs.Removing.Track.{old_at, rev_at, outer_at}
-use Rattle.half_edge_links.proofs.Removing.CollapseLemmas.{outer_of}
-use Rattle.half_edge_links.proofs.Removing.UnlinkSound.{some_same}
+use Rattle.half_edge_links.proofs.Removing.Track.{face_at, IsLeft, name, name_in, name_same}
+use Rattle.half_edge_links.proofs.Removing.Track.{next_at, next_before, next_twin_before, old_at}
+use Rattle.half_edge_links.proofs.Removing.Track.{origin_at, outer_at, rev_at}
+use Rattle.half_edge_links.proofs.Sound.Triangles.{IsTriangle, triangle_at}
 
 module _ (m new : Mesh) (f : ℕ) (o : Opens m new f) (some : 0 < f) where
   -- an edge of another inner face is still one

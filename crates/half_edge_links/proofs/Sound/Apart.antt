@@ -4,19 +4,14 @@
 use Rattle.std.proofs.Common.{◌≡◌, ◌≢◌, ◌+◌, ◌<◌, ◌∙◌}
 use Rattle.std.proofs.Common.{ℕ, zero, suc, length, refl, sym, ap, inl, inr, arith}
 use Rattle.std.proofs.lemmas.Bool.{cases_eq}
-use Rattle.half_edge_links.proofs.Lists.Cases.{◌or_else◌}
-use Rattle.half_edge_links.specs.Mesh.{Mesh, origin, next, prev, face, rev, AreSoundLinks}
-use Rattle.half_edge_links.specs.Mesh.{IsInnerEdge, IsAlone, HasApartEnds, HasStars}
-use Rattle.half_edge_links.specs.Mesh.{connected}
-use Rattle.half_edge_links.specs.Flip.{IsFlippable, Flips}
-use Rattle.half_edge_links.specs.Insert.{Inserts}
-use Rattle.half_edge_links.specs.Grow.{OnOuter, IsClosable, Hangs, Closes}
-use Rattle.half_edge_links.proofs.Lists.Rev.{rev-rev, rev_within}
+use Rattle.half_edge_links.specs.{AreSoundLinks, Closes, connected, face, Flips, Hangs}
+use Rattle.half_edge_links.specs.{HasApartEnds, HasStars, Inserts, IsAlone, IsClosable, IsFlippable}
+use Rattle.half_edge_links.specs.{IsInnerEdge, Mesh, next, OnOuter, origin, prev, rev}
+use Rattle.half_edge_links.proofs.{Faces.FlipSound.origin_kept, Growing.FaceBeside.differs_alone}
+use Rattle.half_edge_links.proofs.Growing.Close.{corner, IsNewCorner}
+use Rattle.half_edge_links.proofs.{Lists.Cases.◌or_else◌, Lists.Rev.rev-rev, Lists.Rev.rev_within}
 use Rattle.half_edge_links.proofs.Sound.Parts.{grown_cases, late_cases, rev_of_even, rev_of_odd}
-use Rattle.half_edge_links.proofs.Growing.FaceBeside.{differs_alone}
-use Rattle.half_edge_links.proofs.Faces.FlipSound.{origin_kept}
 use Rattle.half_edge_links.proofs.Faces.InsertSound as inserting
-use Rattle.half_edge_links.proofs.Growing.Close.{IsNewCorner, corner}
 
 -- an edge whose ends stay
 apart_kept : (m new : Mesh) (h : ℕ) → HasApartEnds m → h < length m.half_edges → origin new h

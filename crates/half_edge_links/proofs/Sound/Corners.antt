@@ -3,12 +3,10 @@
 use Rattle.std.proofs.Common.{◌≡◌, ◌+◌, ◌-◌, ◌<◌, [], ◌∷◌, ◌++◌, ◌∙◌}
 use Rattle.std.proofs.Common.{ℕ, List, length, map, sym, ap, arith}
 use Rattle.std.proofs.lemmas.List.{same_lists, get_or-map, length-map, map-append}
-use Rattle.half_edge_links.specs.Mesh.{Mesh, origin, next, prev, face, rev, AreSoundLinks, IsAlone}
-use Rattle.half_edge_links.specs.Triangles.{Triangle, triangle_at, triangles}
-use Rattle.half_edge_links.specs.Outline.{AddsTriangle}
-use Rattle.half_edge_links.specs.Grow.{OnOuter, IsClosable, Hangs, Closes}
-use Rattle.half_edge_links.proofs.Growing.Hang.{after_outer}
-use Rattle.half_edge_links.proofs.Growing.Close.{corner}
+use Rattle.half_edge_links.specs.{AddsTriangle, AreSoundLinks, Closes, face, Hangs, IsAlone}
+use Rattle.half_edge_links.specs.{IsClosable, Mesh, next, OnOuter, origin, prev, rev, Triangle}
+use Rattle.half_edge_links.specs.{triangle_at, triangles}
+use Rattle.half_edge_links.proofs.{Growing.Close.corner, Growing.Hang.after_outer}
 
 module _ (m new : Mesh) (s : AreSoundLinks m) (same : (h : ℕ) → h < length m.half_edges
     → 0 < face m h → triangle_at new h ≡ triangle_at m h) where

@@ -9,9 +9,9 @@ use Rattle.std.proofs.lemmas.Grind.{common_steps}
 use Rattle.std.proofs.lemmas.List.{same_lists, get_or-map, length-map, length-set, get_or-set_same}
 use Rattle.std.proofs.lemmas.List.{get_or-set_other, get_or_append_left, get_or-append-add}
 use Rattle.std.proofs.lemmas.List.{get_or_default}
-use Rattle.half_edge_links.specs.declared.records.HalfEdge.{HalfEdge}
-use Rattle.half_edge_links.specs.Mesh.{Mesh, no_edge, origin, rev, AreSoundLinks}
-use Rattle.half_edge_links.specs.Outline.{Ends, paired, origins, ends, along}
+use Rattle.half_edge_links.specs.{along, AreSoundLinks, Ends, ends, HalfEdge, Mesh, no_edge, origin}
+use Rattle.half_edge_links.specs.{origins, rev}
+use Rattle.half_edge_links.specs.Outline.{paired}
 
 paired-append : (xs ys : List ℕ) → length xs % 2 ≡ 0 → paired (xs ++ ys) ≡ paired xs ++ paired ys
 paired-append [] ys even = refl

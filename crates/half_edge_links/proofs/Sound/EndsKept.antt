@@ -5,21 +5,15 @@ use Rattle.std.proofs.Common.{◌≡◌, ◌+◌, ◌/◌, ◌<◌, [], ◌∷�
 use Rattle.std.proofs.Common.{ℕ, zero, suc, length, get_or, refl, ap, arith, append_assoc}
 use Rattle.std.proofs.Common.{add-zero}
 use Rattle.std.proofs.lemmas.List.{set-append_left}
-use Rattle.half_edge_links.specs.Mesh.{Mesh, origin, next, prev, rev, AreSoundLinks, IsAlone}
-use Rattle.half_edge_links.specs.Mesh.{IsInnerEdge}
-use Rattle.half_edge_links.specs.Flip.{IsFlippable, flipped}
-use Rattle.half_edge_links.specs.Insert.{inserted}
-use Rattle.half_edge_links.specs.Grow.{OnOuter, IsClosable, IsLineEdge}
-use Rattle.half_edge_links.specs.Grow.{IsHalfSplittable, Hangs, Closes, AddsFace}
-use Rattle.half_edge_links.specs.Outline.{ends, along, AddsEdge, AddsTwoEdges, MovesEdge}
-use Rattle.half_edge_links.specs.Outline.{InsertsEnds, SplitsLineEnds, HalfSplitsEnds}
-use Rattle.half_edge_links.proofs.Lists.Rev.{rev-rev}
-use Rattle.half_edge_links.proofs.Sound.Parts.{rev_of_even}
+use Rattle.half_edge_links.specs.{AddsFace, along, AreSoundLinks, Closes, ends, flipped, Hangs}
+use Rattle.half_edge_links.specs.{inserted, IsAlone, IsClosable, IsFlippable, IsHalfSplittable}
+use Rattle.half_edge_links.specs.{IsInnerEdge, Mesh, MovesEdge, next, OnOuter, origin, prev, rev}
+use Rattle.half_edge_links.specs.{Grow.IsLineEdge, Outline.SplitsLineEnds}
+use Rattle.half_edge_links.specs.Outline.{AddsEdge, AddsTwoEdges, HalfSplitsEnds, InsertsEnds}
+use Rattle.half_edge_links.proofs.{Faces.FlipLemmas.flips, Sound.Parts.rev_of_even}
+use Rattle.half_edge_links.proofs.{Faces.FlipSound.origin_kept, Faces.InsertLemmas.inserts}
+use Rattle.half_edge_links.proofs.{Growing.Close.corner, Lists.Rev.rev-rev}
 use Rattle.half_edge_links.proofs.Sound.Ends.{ends_grown, ends_moved, length-ends}
-use Rattle.half_edge_links.proofs.Growing.Close.{corner}
-use Rattle.half_edge_links.proofs.Faces.FlipLemmas.{flips}
-use Rattle.half_edge_links.proofs.Faces.FlipSound.{origin_kept}
-use Rattle.half_edge_links.proofs.Faces.InsertLemmas.{inserts}
 use Rattle.half_edge_links.proofs.Faces.InsertSound as inserting
 use Rattle.half_edge_links.proofs.Growing.HalfSplit as halves
 

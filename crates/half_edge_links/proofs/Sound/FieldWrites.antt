@@ -6,10 +6,8 @@ use Rattle.std.proofs.Common.{inl, inr}
 use Rattle.std.proofs.lemmas.Bool.{cases_eq, cases_lt}
 use Rattle.std.proofs.lemmas.List.{get_or-set_same, get_or-set_other, length-set, set_past}
 use Rattle.std.proofs.lemmas.List.{set-set, set_comm}
-use Rattle.half_edge_links.specs.declared.records.HalfEdge.{HalfEdge}
-use Rattle.half_edge_links.specs.Mesh.{no_edge, edge_at}
-use Rattle.half_edge_links.specs.Grow.{with_next, with_prev, with_face, with_origin}
-use Rattle.half_edge_links.specs.Remove.{with_loop_face}
+use Rattle.half_edge_links.specs.{edge_at, HalfEdge, no_edge, with_face, with_loop_face, with_next}
+use Rattle.half_edge_links.specs.{with_origin, with_prev}
 
 -- the four links of an edge
 abbrev pub next_link : HalfEdge → ℕ

@@ -7,20 +7,17 @@ use Rattle.std.proofs.lemmas.Int.{ints}
 use Rattle.std.proofs.lemmas.Bool.{cases_eq}
 use Rattle.std.proofs.lemmas.Bool.Decides.{nat_tests}
 use Rattle.std.proofs.lemmas.List.{length-map, get_or-map}
-use Rattle.half_edge_links.specs.Mesh.{Mesh, AreSoundLinks, origin, next, prev, face, face_edge}
-use Rattle.half_edge_links.specs.Mesh.{rev}
-use Rattle.half_edge_links.specs.Triangles.{triangle_at, triangles}
-use Rattle.half_edge_links.specs.Outline.{Ends, ends}
-use Rattle.half_edge_links.specs.Flow.{total, around, along, both_ways, outer_among, outline}
-use Rattle.half_edge_links.specs.Flow.{SidesAddUp, SidesCancel}
-use Rattle.half_edge_links.specs.Taken.{no_ends, no_triangle}
+use Rattle.half_edge_links.specs.{AreSoundLinks, around, both_ways, Ends, ends, face, face_edge}
+use Rattle.half_edge_links.specs.{Mesh, next, no_ends, no_triangle, origin, outer_among, outline}
+use Rattle.half_edge_links.specs.{prev, rev, total, triangle_at, triangles}
+use Rattle.half_edge_links.specs.Flow.{along, SidesAddUp, SidesCancel}
+use Rattle.half_edge_links.proofs.Lists.Sums.{at_place, off_place, only_at, same_sum, sum_in_pairs}
+use Rattle.half_edge_links.proofs.Lists.Sums.{sum_single, sum_to, sums_added, sums_agree}
+use Rattle.half_edge_links.proofs.Lists.Sums.{sums_exchanged, sums_none, total_by_place, zero_first}
+use Rattle.half_edge_links.proofs.Lists.Sums.{zero_last}
+use Rattle.half_edge_links.proofs.Removing.TakenLists.{count_ends, ends_at}
 use Rattle.half_edge_links.proofs.Sound.Parts.{rev_of_even, rev_of_odd}
 use Rattle.half_edge_links.proofs.Sound.Triangles.{IsTriangle, same_loop, triangle_at as loop_at}
-use Rattle.half_edge_links.proofs.Removing.TakenLists.{ends_at, count_ends}
-use Rattle.half_edge_links.proofs.Lists.Sums.{sum_to, same_sum, sums_agree, sums_added, sums_none}
-use Rattle.half_edge_links.proofs.Lists.Sums.{sums_exchanged, only_at, at_place, off_place}
-use Rattle.half_edge_links.proofs.Lists.Sums.{sum_single, zero_first, zero_last, total_by_place}
-use Rattle.half_edge_links.proofs.Lists.Sums.{sum_in_pairs}
 
 swapped : (a b : ℤ) → a +ℤ b ≡ b +ℤ a
 swapped a b = omega (arith, ints)

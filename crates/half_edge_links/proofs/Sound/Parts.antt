@@ -9,8 +9,8 @@ use Rattle.std.proofs.Common.{◌≡◌, ◌≢◌, ◌⊎◌, ◌+◌, ◌%◌,
 use Rattle.std.proofs.Common.{ℕ, length, Some, IsSome, refl, inl, inr, sym, ap, arith}
 use Rattle.std.proofs.lemmas.Bool.{cases_eq}
 use Rattle.std.proofs.lemmas.Grind.{common_steps}
-use Rattle.half_edge_links.specs.Mesh.{Mesh, origin, next, prev, face, face_edge, out_edge, rev}
-use Rattle.half_edge_links.specs.Mesh.{AreSoundLinks, IsSoundEdge, HasLinks, edge_at}
+use Rattle.half_edge_links.specs.{AreSoundLinks, edge_at, face, face_edge, HasLinks, IsSoundEdge}
+use Rattle.half_edge_links.specs.{Mesh, next, origin, out_edge, prev, rev}
 use Rattle.half_edge_links.proofs.Lists.Orbits.{reached}
 
 -- an edge of a mesh with two more is old or one of the two

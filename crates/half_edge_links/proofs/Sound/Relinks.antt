@@ -1,12 +1,10 @@
 -- What the links are after three writes of next edges, three of edges before, and one of an origin.
 -- Notions: Relinks, relinked; relinks, three_joined.
 use Rattle.std.proofs.Common.{◌≡◌, ◌≢◌, ℕ, ◌<◌, List, length, refl, ap, ◌∙◌}
-use Rattle.half_edge_links.specs.declared.records.HalfEdge.{HalfEdge}
-use Rattle.half_edge_links.specs.Mesh.{edge_at}
-use Rattle.half_edge_links.specs.Grow.{with_next, with_prev, with_origin}
-use Rattle.half_edge_links.proofs.Sound.FieldWrites.{writes_next, writes_prev, writes_origin}
-use Rattle.half_edge_links.proofs.Sound.FieldWrites.{next_link, prev_link, face_link, origin_link}
-use Rattle.half_edge_links.proofs.Sound.FieldWrites.{swap_writes}
+use Rattle.half_edge_links.specs.{edge_at, HalfEdge, with_next, with_origin, with_prev}
+use Rattle.half_edge_links.proofs.Sound.FieldWrites.{face_link, next_link, origin_link, prev_link}
+use Rattle.half_edge_links.proofs.Sound.FieldWrites.{swap_writes, writes_next, writes_origin}
+use Rattle.half_edge_links.proofs.Sound.FieldWrites.{writes_prev}
 
 -- next edges at e, z and k, edges before at l, k and t, and the origin of t are new; all other
 -- links stay

@@ -4,8 +4,8 @@ use Rattle.std.proofs.Common.{◌≡◌, ◌∙◌}
 use Rattle.std.proofs.Common.{ℕ, length, Option, Some, None, IsSome, refl, sym, ap, inl, inr}
 use Rattle.std.proofs.lemmas.Bool.{cases_lt}
 use Rattle.std.proofs.lemmas.List.{get_or_past}
-use Rattle.half_edge_links.specs.Mesh.{Mesh, origin, next, prev, face, rev, AreSoundLinks}
-use Rattle.half_edge_links.specs.Renames.{Naming, Renames, IsKeptEdge, IsRenamedEdge, renamed}
+use Rattle.half_edge_links.specs.{AreSoundLinks, face, IsKeptEdge, Mesh, Naming, next, origin, prev}
+use Rattle.half_edge_links.specs.{renamed, Renames.IsRenamedEdge, Renames.Renames, rev}
 use Rattle.half_edge_links.proofs.Lists.Rev.{rev_within}
 use Rattle.half_edge_links.proofs.Sound.Parts.{EachEdgeIsSound, NamesOutEdges}
 

@@ -1,10 +1,8 @@
 -- The loops of inner faces.
 -- Notions: IsTriangle; triangle_at, same_loop, six_round.
 use Rattle.std.proofs.Common.{◌≡◌, ◌≢◌, ◌⊎◌, ℕ, ◌<◌, length, inl, inr, arith}
-use Rattle.half_edge_links.specs.Mesh.{Mesh, next, prev, face, rev, AreSoundLinks}
-use Rattle.half_edge_links.specs.Flip.{IsFlippable}
-use Rattle.half_edge_links.proofs.Lists.Rev.{rev_within}
-use Rattle.half_edge_links.specs.Places.{AreSixPlaces}
+use Rattle.half_edge_links.specs.{AreSixPlaces, AreSoundLinks, face, IsFlippable, Mesh, next, prev}
+use Rattle.{half_edge_links.proofs.Lists.Rev.rev_within, half_edge_links.specs.rev}
 
 -- the three edges round an inner face
 pub record IsTriangle (m : Mesh) (h : ℕ) : Type 0 where

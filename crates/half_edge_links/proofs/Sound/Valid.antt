@@ -5,36 +5,28 @@
 use Rattle.std.proofs.Common.{◌≡◌, ◌≢◌, ◌+◌, ◌≤◌, [], ◌∷◌, ◌∙◌}
 use Rattle.std.proofs.Common.{ℕ, None, length, refl, ap, arith, length-append, sym}
 use Rattle.std.proofs.lemmas.List.{length-set}
-use Rattle.half_edge_links.specs.declared.room.TheConstants.{MAX_ELEMENTS}
-use Rattle.half_edge_links.specs.Mesh.{Mesh, IsSmall, origin, prev, rev, IsValidMesh, IsInnerEdge}
-use Rattle.half_edge_links.specs.Mesh.{IsAlone, with_vertex, connected, IsInner}
-use Rattle.half_edge_links.specs.Flip.{IsFlippable, flipped}
-use Rattle.half_edge_links.specs.Insert.{inserted}
-use Rattle.half_edge_links.specs.Grow.{OnOuter, IsClosable, IsSlidable, hung, closed, slid}
-use Rattle.half_edge_links.specs.Grown.{AreConnectable}
-use Rattle.half_edge_links.proofs.Growing.VertexLemmas.{sound_with_vertex}
-use Rattle.half_edge_links.proofs.Growing.ConnectLemmas.{sound_connected}
-use Rattle.half_edge_links.proofs.Faces.FlipLemmas.{flips}
-use Rattle.half_edge_links.proofs.Faces.FlipSound.{sound_after_flip}
-use Rattle.half_edge_links.proofs.Faces.InsertLemmas.{inserts}
-use Rattle.half_edge_links.proofs.Faces.InsertSound.{sound_after_insert}
-use Rattle.half_edge_links.proofs.Growing.Hang.{hangs, sound_after_hang}
+use Rattle.half_edge_links.specs.{closed, ClosesLoop, connected, flipped, hung, inserted, IsAlone}
+use Rattle.half_edge_links.specs.{IsClosable, IsFlippable, IsInner, IsInnerEdge, IsOpenTriangle}
+use Rattle.half_edge_links.specs.{IsRemovable, IsSmall, IsValidMesh, MAX_ELEMENTS, Mesh}
+use Rattle.half_edge_links.specs.{MovesVertex, OnOuter, Opens, origin, prev, Removes, rev, slid}
+use Rattle.half_edge_links.specs.{Grow.IsSlidable, Grown.AreConnectable, with_vertex}
+use Rattle.half_edge_links.proofs.{Faces.FlipLemmas.flips, Growing.VertexLemmas.sound_with_vertex}
+use Rattle.half_edge_links.proofs.{Faces.FlipSound.sound_after_flip, Removing.Conditions.unlinkable}
+use Rattle.half_edge_links.proofs.{Faces.InsertLemmas.inserts, Faces.InsertSound.sound_after_insert}
 use Rattle.half_edge_links.proofs.Growing.Close.{closes, sound_after_close}
-use Rattle.half_edge_links.proofs.Growing.Slide.{slides, sound_after_slide, stars_slid}
-use Rattle.half_edge_links.proofs.Growing.Slide.{apart_slid}
-use Rattle.half_edge_links.proofs.Stars.StarsKept.{stars_hung, stars_closed, stars_flipped}
+use Rattle.half_edge_links.proofs.Growing.ConnectLemmas.{sound_connected}
+use Rattle.half_edge_links.proofs.Growing.Hang.{hangs, sound_after_hang}
+use Rattle.half_edge_links.proofs.Growing.Slide.{apart_slid, slides, sound_after_slide, stars_slid}
+use Rattle.half_edge_links.proofs.Removing.CloseSound.{small_closed, sound_closed}
+use Rattle.half_edge_links.proofs.Removing.OpenSound.{small_opened, sound_opened}
+use Rattle.half_edge_links.proofs.Removing.RemoveSound.{small_removed, sound_removed}
+use Rattle.half_edge_links.proofs.Removing.VertexSound.{small_moved, sound_moved}
+use Rattle.half_edge_links.proofs.Sound.Apart.{apart_closed, apart_connected, apart_flipped}
+use Rattle.half_edge_links.proofs.Sound.Apart.{apart_hung, apart_inserted, stars_connected}
+use Rattle.half_edge_links.proofs.Stars.StarsKept.{stars_closed, stars_flipped, stars_hung}
 use Rattle.half_edge_links.proofs.Stars.StarsKept.{stars_inserted}
-use Rattle.half_edge_links.proofs.Sound.Apart.{apart_flipped, apart_hung, apart_closed}
-use Rattle.half_edge_links.proofs.Sound.Apart.{apart_inserted, apart_connected, stars_connected}
-use Rattle.half_edge_links.specs.Remove.{Opens, Removes, IsRemovable, IsOpenTriangle, ClosesLoop}
-use Rattle.half_edge_links.specs.Move.{MovesVertex}
-use Rattle.half_edge_links.proofs.Removing.Conditions.{unlinkable}
-use Rattle.half_edge_links.proofs.Removing.OpenSound.{sound_opened, small_opened}
-use Rattle.half_edge_links.proofs.Removing.CloseSound.{sound_closed, small_closed}
-use Rattle.half_edge_links.proofs.Removing.RemoveSound.{sound_removed, small_removed}
-use Rattle.half_edge_links.proofs.Removing.VertexSound.{sound_moved, small_moved}
-use Rattle.half_edge_links.proofs.Stars.StarsRemove.{stars_same, apart_same, apart_removed}
-use Rattle.half_edge_links.proofs.Stars.StarsRemove.{stars_removed, moved_back}
+use Rattle.half_edge_links.proofs.Stars.StarsRemove.{apart_removed, apart_same, moved_back}
+use Rattle.half_edge_links.proofs.Stars.StarsRemove.{stars_removed, stars_same}
 
 -- a mesh with as many parts as a small one is small
 pub small_same : (m new : Mesh) → length new.out_edges ≡ length m.out_edges → length new.half_edges

@@ -2,21 +2,16 @@
 -- Lemmas: stars_hung, stars_closed, stars_flipped, stars_inserted.
 use Rattle.std.proofs.Common.{◌≡◌, ◌≢◌, ◌+◌, ◌<◌, [], ◌∷◌, ◌∙◌}
 use Rattle.std.proofs.Common.{ℕ, List, length, refl, sym, ap, arith}
-use Rattle.half_edge_links.specs.declared.records.HalfEdge.{HalfEdge}
-use Rattle.half_edge_links.specs.Mesh.{Mesh, next, prev, face, rev, AreSoundLinks, IsAlone}
-use Rattle.half_edge_links.specs.Mesh.{IsInnerEdge, HasStars}
-use Rattle.half_edge_links.specs.Flip.{IsFlippable, Flips}
-use Rattle.half_edge_links.specs.Insert.{Inserts}
-use Rattle.half_edge_links.specs.Grow.{OnOuter, IsClosable, Hangs, Closes}
-use Rattle.half_edge_links.proofs.Lists.Named.{◌and◌}
-use Rattle.half_edge_links.proofs.Lists.Rev.{rev-rev, rev_same}
+use Rattle.half_edge_links.specs.{AreSoundLinks, Closes, face, Flips, HalfEdge, Hangs, HasStars}
+use Rattle.half_edge_links.specs.{Inserts, IsAlone, IsClosable, IsFlippable, IsInnerEdge, Mesh}
+use Rattle.half_edge_links.specs.{next, OnOuter, prev, rev}
+use Rattle.half_edge_links.proofs.{Growing.Close.corner, Lists.Rev.rev-rev, Lists.Rev.rev_same}
+use Rattle.half_edge_links.proofs.{Growing.FaceBeside.differs_alone, Lists.Named.◌and◌}
+use Rattle.half_edge_links.proofs.Relinking.Rounds.{stand, stand_first, stand_off, stand_second}
+use Rattle.half_edge_links.proofs.Relinking.Walks.{stars_exchanged}
 use Rattle.half_edge_links.proofs.Sound.Parts.{rev_of_even, rev_of_odd}
-use Rattle.half_edge_links.proofs.Growing.FaceBeside.{differs_alone}
-use Rattle.half_edge_links.proofs.Growing.Close.{corner}
 use Rattle.half_edge_links.proofs.Faces.FlipSound as flipping
 use Rattle.half_edge_links.proofs.Faces.InsertSound as inserting
-use Rattle.half_edge_links.proofs.Relinking.Rounds.{stand, stand_off, stand_first, stand_second}
-use Rattle.half_edge_links.proofs.Relinking.Walks.{stars_exchanged}
 
 -- each vertex still has one round of edges once a lonely vertex is joined to the end of an outer
 -- edge

@@ -3,23 +3,20 @@
 use Rattle.std.proofs.Common.{◌≡◌, ◌≢◌, [], ◌∷◌, ◌-◌, ◌%◌, ◌<◌, ◌∙◌}
 use Rattle.std.proofs.Common.{ℕ, List, length, refl, sym, ap, inl, inr}
 use Rattle.std.proofs.lemmas.Bool.{cases_eq}
-use Rattle.half_edge_links.proofs.Lists.Cases.{◌or_else◌, ◌each_with◌}
-use Rattle.half_edge_links.proofs.Lists.Named.{◌and◌}
-use Rattle.half_edge_links.specs.Mesh.{Mesh, origin, next, prev, rev, AreSoundLinks, HasApartEnds}
-use Rattle.half_edge_links.specs.Mesh.{HasStars, IsAlone}
-use Rattle.half_edge_links.specs.Remove.{Removes}
-use Rattle.half_edge_links.specs.Move.{MovesVertex}
-use Rattle.half_edge_links.proofs.Lists.Rev.{rev-rev, rev_same, rev_within, rev_differs}
+use Rattle.half_edge_links.specs.{AreSoundLinks, HasApartEnds, HasStars, IsAlone, Mesh, MovesVertex}
+use Rattle.half_edge_links.specs.{next, origin, prev, Removes, rev}
 use Rattle.half_edge_links.proofs.Growing.FaceBeside.{differs_alone}
-use Rattle.half_edge_links.proofs.Removing.OpenSound.{moved_hit, moved_miss}
-use Rattle.half_edge_links.proofs.Removing.Conditions.{IsUnlinkable}
-use Rattle.half_edge_links.proofs.Removing.RemoveSound.{sound_removed}
-use Rattle.half_edge_links.proofs.Removing.Track.{side_left, IsLeft, name, name_in, origin_at}
-use Rattle.half_edge_links.proofs.Removing.Track.{next_at, next_before, next_twin_before, old_at}
-use Rattle.half_edge_links.proofs.Removing.Track.{rev_at, former, former_is, left_walk}
+use Rattle.half_edge_links.proofs.Lists.Cases.{◌each_with◌, ◌or_else◌}
+use Rattle.half_edge_links.proofs.{Lists.Named.◌and◌, Removing.RemoveSound.sound_removed}
+use Rattle.half_edge_links.proofs.Lists.Rev.{rev-rev, rev_differs, rev_same, rev_within}
 use Rattle.half_edge_links.proofs.Relinking.Rounds.{Exchange, one_round, round_renamed, stand}
-use Rattle.half_edge_links.proofs.Relinking.Rounds.{stand_off, stand_first, stand_second}
-use Rattle.half_edge_links.proofs.Relinking.Walks.{star_walk, star_goes}
+use Rattle.half_edge_links.proofs.Relinking.Rounds.{stand_first, stand_off, stand_second}
+use Rattle.half_edge_links.proofs.Relinking.Walks.{star_goes, star_walk}
+use Rattle.half_edge_links.proofs.Removing.Conditions.{IsUnlinkable}
+use Rattle.half_edge_links.proofs.Removing.OpenSound.{moved_hit, moved_miss}
+use Rattle.half_edge_links.proofs.Removing.Track.{former, former_is, IsLeft, left_walk, name}
+use Rattle.half_edge_links.proofs.Removing.Track.{name_in, next_at, next_before, next_twin_before}
+use Rattle.half_edge_links.proofs.Removing.Track.{old_at, origin_at, rev_at, side_left}
 
 -- a mesh with the same walk round each vertex, and the same origins but for their names
 module _ (m new : Mesh) (count : length new.half_edges ≡ length m.half_edges)

@@ -3,20 +3,15 @@
 use Rattle.std.proofs.Common.{◌≡◌, ◌≢◌, ◌+◌, ◌<◌, ◌≤◌, [], ◌∷◌, ◌++◌, ◌∙◌}
 use Rattle.std.proofs.Common.{ℕ, List, length, get_or, set, refl, sym, inl, inr, arith, add-zero}
 use Rattle.std.proofs.lemmas.Bool.{cases_eq, cases_lt}
-use Rattle.half_edge_links.proofs.Lists.Cases.{◌or_else◌}
-use Rattle.half_edge_links.proofs.Lists.Pushes.{AreThreePlaces, written, length-grown, grown_at_i}
-use Rattle.half_edge_links.proofs.Lists.Pushes.{grown_at_j, grown_at_k, grown_at, grown_at_0}
-use Rattle.half_edge_links.proofs.Lists.Pushes.{grown_other}
-use Rattle.half_edge_links.specs.declared.records.HalfEdge.{HalfEdge}
-use Rattle.half_edge_links.specs.declared.records.StoredEdge.{StoredEdge}
-use Rattle.half_edge_links.specs.Mesh.{edge_at, no_edge}
-use Rattle.half_edge_links.specs.Insert.{fan_by}
-use Rattle.half_edge_links.specs.Places.{AreJoined, IsLoopOfThree}
-use Rattle.half_edge_links.specs.EdgeList.{stored_at, shown}
-use Rattle.half_edge_links.proofs.Stored.Shown.{next_shown, prev_shown, face_shown}
-use Rattle.half_edge_links.proofs.Stored.Keeps.{keeps_shown, keeps_set, keeps_push, shown_is}
-use Rattle.half_edge_links.proofs.Stored.Keeps.{corner_shown, corners_of, count_corners, corner_at}
-use Rattle.half_edge_links.proofs.Stored.Keeps.{SayOrigins, HaveOwnNexts, apart_joined}
+use Rattle.half_edge_links.specs.{AreJoined, edge_at, HalfEdge, IsLoopOfThree, no_edge, shown}
+use Rattle.half_edge_links.specs.{Insert.fan_by, stored_at, StoredEdge}
+use Rattle.half_edge_links.proofs.{Lists.Cases.◌or_else◌, Lists.Pushes.written}
+use Rattle.half_edge_links.proofs.Lists.Pushes.{AreThreePlaces, grown_at, grown_at_0, grown_at_i}
+use Rattle.half_edge_links.proofs.Lists.Pushes.{grown_at_j, grown_at_k, grown_other, length-grown}
+use Rattle.half_edge_links.proofs.Stored.Keeps.{apart_joined, corner_at, corner_shown, corners_of}
+use Rattle.half_edge_links.proofs.Stored.Keeps.{count_corners, HaveOwnNexts, keeps_push, keeps_set}
+use Rattle.half_edge_links.proofs.Stored.Keeps.{keeps_shown, SayOrigins, shown_is}
+use Rattle.half_edge_links.proofs.Stored.Shown.{face_shown, next_shown, prev_shown}
 
 module _ (hs : List HalfEdge) (cs : List ℕ) (v a b c f g : ℕ) where
   abbrev n : ℕ

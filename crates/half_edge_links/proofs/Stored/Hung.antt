@@ -4,22 +4,16 @@ use Rattle.std.proofs.Common.{◌≡◌, ◌≢◌, ◌+◌, ◌<◌, [], ◌∷
 use Rattle.std.proofs.Common.{ℕ, List, length, set, sym, ap, inl, inr}
 use Rattle.std.proofs.lemmas.Bool.{cases_eq}
 use Rattle.std.proofs.lemmas.List.{get_or-set_same, get_or-set_other, length-set}
-use Rattle.half_edge_links.proofs.Lists.Cases.{◌or_else◌}
-use Rattle.half_edge_links.proofs.Lists.Writes.{two_before, two_at_0, two_at_1}
-use Rattle.half_edge_links.specs.declared.records.HalfEdge.{HalfEdge}
-use Rattle.half_edge_links.specs.declared.records.StoredEdge.{StoredEdge}
-use Rattle.half_edge_links.specs.Mesh.{edge_at}
-use Rattle.half_edge_links.specs.Grow.{hung_edges, closed_edges}
-use Rattle.half_edge_links.specs.Places.{AreJoined}
-use Rattle.half_edge_links.specs.EdgeList.{stored_at, shown, stored_next, stored_prev}
-use Rattle.half_edge_links.specs.EdgeList.{stored_face, stored_corner}
-use Rattle.half_edge_links.proofs.Sound.Parts.{grown_cases}
-use Rattle.half_edge_links.proofs.Growing.Hang.{length-hung, next_x, next_other, origin_kept, at_0}
-use Rattle.half_edge_links.proofs.Growing.Hang.{at_1}
-use Rattle.half_edge_links.proofs.Growing.CloseReads.{closes_edges}
-use Rattle.half_edge_links.proofs.Stored.Keeps.{keeps_shown, keeps_next, keeps_prev, keeps_face}
-use Rattle.half_edge_links.proofs.Stored.Keeps.{keeps_corner, keeps_push, shown_is, corner_shown}
-use Rattle.half_edge_links.proofs.Stored.Keeps.{corners_of, count_corners, SayOrigins, apart_joined}
+use Rattle.half_edge_links.specs.{AreJoined, closed_edges, edge_at, HalfEdge, hung_edges, shown}
+use Rattle.half_edge_links.specs.{stored_at, stored_corner, stored_face, stored_next, stored_prev}
+use Rattle.half_edge_links.proofs.{Growing.CloseReads.closes_edges, Growing.Hang.origin_kept}
+use Rattle.half_edge_links.proofs.Growing.Hang.{at_0, at_1, length-hung, next_other, next_x}
+use Rattle.half_edge_links.proofs.{Lists.Cases.◌or_else◌, Sound.Parts.grown_cases}
+use Rattle.half_edge_links.proofs.Lists.Writes.{two_at_0, two_at_1, two_before}
+use Rattle.half_edge_links.proofs.Stored.Keeps.{apart_joined, corner_shown, corners_of}
+use Rattle.half_edge_links.proofs.Stored.Keeps.{count_corners, keeps_corner, keeps_face, keeps_next}
+use Rattle.half_edge_links.proofs.Stored.Keeps.{keeps_prev, keeps_push, keeps_shown, SayOrigins}
+use Rattle.{half_edge_links.proofs.Stored.Keeps.shown_is, half_edge_links.specs.StoredEdge}
 
 module _ (hs : List HalfEdge) (cs : List ℕ) (x v : ℕ) (x_in : x < length hs) (j : AreJoined hs)
     (count : length cs ≡ length hs) (say : SayOrigins hs cs) where

@@ -1,9 +1,7 @@
 -- Lists of directed edges whose links are joined.
 -- Lemmas: joined_sound, joined_kept, loop_of_three.
 use Rattle.std.proofs.Common.{◌≡◌, ℕ, List, length, ◌∙◌}
-use Rattle.half_edge_links.specs.declared.records.HalfEdge.{HalfEdge}
-use Rattle.half_edge_links.specs.Mesh.{Mesh, edge_at, AreSoundLinks}
-use Rattle.half_edge_links.specs.Places.{AreJoined, IsLoopOfThree}
+use Rattle.half_edge_links.specs.{AreJoined, AreSoundLinks, edge_at, HalfEdge, IsLoopOfThree, Mesh}
 use Rattle.half_edge_links.proofs.Sound.Triangles.{IsTriangle}
 
 -- the links of a sound mesh are joined

@@ -11,17 +11,14 @@ use Rattle.std.proofs.lemmas.List.{get_or-set_same, get_or-set_other, length-set
 use Rattle.std.proofs.lemmas.List.{set-get_or, ext_get_or, length-map, get_or-map, get_or_past}
 use Rattle.std.proofs.lemmas.List.{get_or_append_left, get_or_push}
 use Rattle.std.specs.List.{swap_remove}
-use Rattle.half_edge_links.proofs.Removing.OpenSound.{get_or-swap_remove_same}
-use Rattle.half_edge_links.proofs.Removing.OpenSound.{get_or-swap_remove_other, length-swap_remove}
-use Rattle.half_edge_links.specs.declared.records.HalfEdge.{HalfEdge}
-use Rattle.half_edge_links.specs.declared.records.StoredEdge.{StoredEdge}
-use Rattle.half_edge_links.specs.Mesh.{edge_at, no_edge}
-use Rattle.half_edge_links.specs.Places.{AreJoined}
-use Rattle.half_edge_links.specs.Grow.{with_next, with_prev, with_face, with_origin}
-use Rattle.half_edge_links.specs.EdgeList.{stored_at, no_stored, shown, stored_next, stored_prev}
-use Rattle.half_edge_links.specs.EdgeList.{stored_face, stored_corner, stored_joined}
-use Rattle.half_edge_links.proofs.Stored.Shown.{length_shown, shown_at, next_shown, prev_shown}
-use Rattle.half_edge_links.proofs.Stored.Shown.{face_shown, origin_shown}
+use Rattle.half_edge_links.specs.{AreJoined, edge_at, HalfEdge, no_edge, no_stored, shown}
+use Rattle.half_edge_links.specs.{stored_at, stored_corner, stored_face, stored_joined, stored_next}
+use Rattle.half_edge_links.specs.{stored_prev, StoredEdge, with_face, with_next, with_origin}
+use Rattle.half_edge_links.specs.{with_prev}
+use Rattle.half_edge_links.proofs.Removing.OpenSound.{get_or-swap_remove_other}
+use Rattle.half_edge_links.proofs.Removing.OpenSound.{get_or-swap_remove_same, length-swap_remove}
+use Rattle.half_edge_links.proofs.Stored.Shown.{face_shown, length_shown, next_shown, origin_shown}
+use Rattle.half_edge_links.proofs.Stored.Shown.{prev_shown, shown_at}
 
 -- two lists have as many items, each of which suits the other
 pub record Suit {X Y : Type 0} (P : X → Y → Type 0) (d : X) (e : Y) (xs : List X)

@@ -3,20 +3,15 @@
 use Rattle.std.proofs.Common.{◌≡◌, ◌≢◌, ℕ, ◌<◌, List, length, set, sym, ap, ◌∙◌, inl, inr}
 use Rattle.std.proofs.lemmas.Bool.{cases_eq}
 use Rattle.std.proofs.lemmas.List.{get_or-set_same, get_or-set_other, length-set}
-use Rattle.half_edge_links.proofs.Lists.Cases.{◌or_else◌}
-use Rattle.half_edge_links.specs.declared.records.HalfEdge.{HalfEdge}
-use Rattle.half_edge_links.specs.declared.records.StoredEdge.{StoredEdge}
-use Rattle.half_edge_links.specs.Mesh.{edge_at}
-use Rattle.half_edge_links.specs.Grow.{slid_edges, with_next, with_prev}
-use Rattle.half_edge_links.specs.Pass.{passed_edges}
-use Rattle.half_edge_links.specs.Places.{AreJoined, AreSlidPlaces, ArePassedPlaces}
-use Rattle.half_edge_links.specs.EdgeList.{stored_at, shown, stored_corner, stored_joined}
-use Rattle.half_edge_links.proofs.Sound.FieldWrites.{swap_prevs}
+use Rattle.half_edge_links.specs.{AreJoined, edge_at, HalfEdge, shown, slid_edges, stored_at}
+use Rattle.half_edge_links.specs.{stored_corner, stored_joined, StoredEdge, with_next, with_prev}
+use Rattle.half_edge_links.specs.{Pass.passed_edges, Places.ArePassedPlaces, Places.AreSlidPlaces}
+use Rattle.half_edge_links.proofs.{Lists.Cases.◌or_else◌, Stored.Keeps.Stores}
+use Rattle.half_edge_links.proofs.{Sound.FieldWrites.swap_prevs, Stored.Shown.next_shown}
 use Rattle.half_edge_links.proofs.Sound.Relinks.{Relinks, relinks, three_joined}
-use Rattle.half_edge_links.proofs.Stored.Keeps.{Stores, keeps_shown, keeps_joined, keeps_corner}
-use Rattle.half_edge_links.proofs.Stored.Keeps.{keeps_origin, shown_is, corner_shown, corners_of}
-use Rattle.half_edge_links.proofs.Stored.Keeps.{count_corners, SayOrigins, apart_joined, corner_at}
-use Rattle.half_edge_links.proofs.Stored.Shown.{next_shown}
+use Rattle.half_edge_links.proofs.Stored.Keeps.{apart_joined, corner_at, corner_shown, corners_of}
+use Rattle.half_edge_links.proofs.Stored.Keeps.{count_corners, keeps_corner, keeps_joined}
+use Rattle.half_edge_links.proofs.Stored.Keeps.{keeps_origin, keeps_shown, SayOrigins, shown_is}
 
 -- three places of a list that differ
 pub record AreThree (n x y w : ℕ) : Type 0 where

@@ -5,25 +5,21 @@ use Rattle.std.proofs.Common.{ℕ, List, length, get_or, set, refl, sym, ap, inl
 use Rattle.std.proofs.lemmas.Bool.{cases_eq}
 use Rattle.std.proofs.lemmas.List.{get_or-set_same, get_or-set_other, length-set}
 use Rattle.std.specs.List.{swap_remove}
-use Rattle.half_edge_links.proofs.Lists.Cases.{◌or_else◌}
-use Rattle.half_edge_links.specs.declared.records.HalfEdge.{HalfEdge}
-use Rattle.half_edge_links.specs.declared.records.StoredEdge.{StoredEdge}
-use Rattle.half_edge_links.specs.Mesh.{edge_at, no_edge}
-use Rattle.half_edge_links.specs.Renames.{pair_moved}
-use Rattle.half_edge_links.specs.Remove.{with_unlinked, with_filled}
-use Rattle.half_edge_links.specs.Places.{AreJoined, AreUnlinkedPlaces, IsHole}
-use Rattle.half_edge_links.specs.EdgeList.{stored_at, no_stored, shown, stored_next}
-use Rattle.half_edge_links.specs.EdgeList.{stored_prev, stored_joined}
-use Rattle.half_edge_links.proofs.Removing.UnlinkSound.{both, next_of, prev_of, length_both}
-use Rattle.half_edge_links.proofs.Removing.UnlinkSound.{next_both, next_both_other, origin_both}
-use Rattle.half_edge_links.proofs.Removing.FillSound.{old_left, new_left, two_filled, pair_written}
-use Rattle.half_edge_links.proofs.Removing.FillSound.{next_written, origin_written, count_written}
-use Rattle.half_edge_links.proofs.Removing.OpenSound.{length-swap_remove}
+use Rattle.half_edge_links.specs.{AreJoined, edge_at, HalfEdge, no_edge, no_stored, pair_moved}
+use Rattle.half_edge_links.specs.{shown, stored_at, stored_joined, stored_next, stored_prev}
+use Rattle.half_edge_links.specs.{StoredEdge, with_unlinked}
+use Rattle.half_edge_links.specs.{Places.AreUnlinkedPlaces, Places.IsHole, Remove.with_filled}
+use Rattle.half_edge_links.proofs.{Lists.Cases.◌or_else◌, Removing.OpenSound.length-swap_remove}
+use Rattle.half_edge_links.proofs.Removing.FillSound.{count_written, new_left, next_written}
+use Rattle.half_edge_links.proofs.Removing.FillSound.{old_left, origin_written, pair_written}
+use Rattle.half_edge_links.proofs.{Removing.FillSound.two_filled, Removing.UnlinkSound.prev_of}
+use Rattle.half_edge_links.proofs.Removing.UnlinkSound.{both, length_both, next_both}
+use Rattle.half_edge_links.proofs.Removing.UnlinkSound.{next_both_other, next_of, origin_both}
 use Rattle.half_edge_links.proofs.Sound.FieldWrites.{next_link, origin_link}
-use Rattle.half_edge_links.proofs.Stored.Keeps.{Stores, keeps_shown, keeps_joined, keeps_next}
-use Rattle.half_edge_links.proofs.Stored.Keeps.{keeps_prev, keeps_remove, shown_is, corner_shown}
-use Rattle.half_edge_links.proofs.Stored.Keeps.{corners_of, count_corners, SayOrigins, apart_joined}
-use Rattle.half_edge_links.proofs.Stored.Keeps.{corner_at}
+use Rattle.half_edge_links.proofs.Stored.Keeps.{apart_joined, corner_at, corner_shown, corners_of}
+use Rattle.half_edge_links.proofs.Stored.Keeps.{count_corners, keeps_joined, keeps_next, keeps_prev}
+use Rattle.half_edge_links.proofs.Stored.Keeps.{keeps_remove, keeps_shown, SayOrigins, shown_is}
+use Rattle.half_edge_links.proofs.Stored.Keeps.{Stores}
 use Rattle.half_edge_links.proofs.Stored.Shown.{next_shown, prev_shown}
 
 module _ (hs : List HalfEdge) (cs : List ℕ) (e t : ℕ) (j : AreJoined hs)

@@ -4,11 +4,8 @@
 use Rattle.std.proofs.Common.{◌≡◌, ℕ, ◌<◌, List, length, refl, sym, ap, ◌∙◌, inl, inr}
 use Rattle.std.proofs.lemmas.Bool.{cases_lt}
 use Rattle.std.proofs.lemmas.List.{length-map, get_or-map, get_or_past}
-use Rattle.half_edge_links.specs.declared.records.HalfEdge.{HalfEdge}
-use Rattle.half_edge_links.specs.declared.records.StoredEdge.{StoredEdge}
-use Rattle.half_edge_links.specs.Mesh.{edge_at, no_edge}
-use Rattle.half_edge_links.specs.Places.{AreJoined}
-use Rattle.half_edge_links.specs.EdgeList.{stored_at, no_stored, shown_edge, shown}
+use Rattle.half_edge_links.specs.{AreJoined, edge_at, HalfEdge, no_edge, no_stored, shown}
+use Rattle.half_edge_links.specs.{EdgeList.shown_edge, stored_at, StoredEdge}
 
 -- as many directed edges are shown as are kept
 pub length_shown : (rs : List StoredEdge) → length (shown rs) ≡ length rs

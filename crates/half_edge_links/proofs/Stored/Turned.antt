@@ -2,20 +2,16 @@
 -- Notions: GoRound, StartAt, written; say_turned, shows_turned.
 use Rattle.std.proofs.Common.{◌≡◌, ◌≢◌, ℕ, ◌<◌, List, length, get_or, set, refl, sym, ◌∙◌, inl, inr}
 use Rattle.std.proofs.lemmas.Bool.{cases_eq}
+use Rattle.half_edge_links.specs.{AreJoined, AreSixPlaces, edge_at, HalfEdge, IsLoopOfThree}
+use Rattle.half_edge_links.specs.{Flip.turn_by, no_edge, shown, StoredEdge}
 use Rattle.half_edge_links.proofs.Lists.Cases.{◌or_else◌}
-use Rattle.half_edge_links.specs.declared.records.HalfEdge.{HalfEdge}
-use Rattle.half_edge_links.specs.declared.records.StoredEdge.{StoredEdge}
-use Rattle.half_edge_links.specs.Mesh.{edge_at, no_edge}
-use Rattle.half_edge_links.specs.Flip.{turn_by}
-use Rattle.half_edge_links.specs.Places.{AreJoined, IsLoopOfThree, AreSixPlaces}
-use Rattle.half_edge_links.specs.EdgeList.{shown}
-use Rattle.half_edge_links.proofs.Lists.Writes.{length-set_six, get_or-set_six_a, get_or-set_six_b}
+use Rattle.half_edge_links.proofs.Lists.Writes.{get_or-set_six_a, get_or-set_six_b}
 use Rattle.half_edge_links.proofs.Lists.Writes.{get_or-set_six_c, get_or-set_six_d}
 use Rattle.half_edge_links.proofs.Lists.Writes.{get_or-set_six_e, get_or-set_six_f}
-use Rattle.half_edge_links.proofs.Lists.Writes.{get_or-set_six_other}
-use Rattle.half_edge_links.proofs.Stored.Keeps.{keeps_shown, keeps_set, shown_is, corner_shown}
-use Rattle.half_edge_links.proofs.Stored.Keeps.{corners_of, count_corners, SayOrigins}
-use Rattle.half_edge_links.proofs.Stored.Keeps.{HaveOwnNexts, apart_joined}
+use Rattle.half_edge_links.proofs.Lists.Writes.{get_or-set_six_other, length-set_six}
+use Rattle.half_edge_links.proofs.Stored.Keeps.{apart_joined, corner_shown, corners_of}
+use Rattle.half_edge_links.proofs.Stored.Keeps.{count_corners, HaveOwnNexts, keeps_set, keeps_shown}
+use Rattle.half_edge_links.proofs.Stored.Keeps.{SayOrigins, shown_is}
 
 -- six directed edges follow each other round two triangles
 pub record GoRound (hs : List HalfEdge) (e t en tn ep tp : ℕ) : Type 0 where

@@ -4,18 +4,13 @@ use Rattle.std.proofs.Common.{◌≡◌, ◌<◌, [], ◌∷◌, ◌++◌, ◌�
 use Rattle.std.proofs.Common.{ℕ, List, length, refl, sym, ap, inl, inr}
 use Rattle.std.proofs.lemmas.Bool.{cases_eq}
 use Rattle.std.proofs.lemmas.List.{get_or-set_same, get_or-set_other}
-use Rattle.half_edge_links.specs.declared.records.HalfEdge.{HalfEdge}
-use Rattle.half_edge_links.specs.declared.records.StoredEdge.{StoredEdge}
-use Rattle.half_edge_links.specs.Mesh.{edge_at}
-use Rattle.half_edge_links.specs.Grow.{with_origin}
-use Rattle.half_edge_links.specs.Remove.{IsLinkedWithin, with_loop_face}
-use Rattle.half_edge_links.specs.Places.{AreJoined}
-use Rattle.half_edge_links.specs.EdgeList.{shown, stored_face, stored_corner}
-use Rattle.half_edge_links.proofs.Sound.FieldWrites.{writes_origin, sets_loop_face, next_link}
-use Rattle.half_edge_links.proofs.Sound.FieldWrites.{origin_link}
-use Rattle.half_edge_links.proofs.Stored.Keeps.{keeps_shown, keeps_face, keeps_corner, keeps_origin}
-use Rattle.half_edge_links.proofs.Stored.Keeps.{shown_is, corner_shown, corners_of, count_corners}
-use Rattle.half_edge_links.proofs.Stored.Keeps.{apart_joined}
+use Rattle.half_edge_links.specs.{AreJoined, edge_at, HalfEdge, shown, stored_corner, stored_face}
+use Rattle.half_edge_links.specs.{Remove.IsLinkedWithin, StoredEdge, with_loop_face, with_origin}
+use Rattle.half_edge_links.proofs.Sound.FieldWrites.{next_link, origin_link, sets_loop_face}
+use Rattle.half_edge_links.proofs.Sound.FieldWrites.{writes_origin}
+use Rattle.half_edge_links.proofs.Stored.Keeps.{apart_joined, corner_shown, corners_of}
+use Rattle.half_edge_links.proofs.Stored.Keeps.{count_corners, keeps_corner, keeps_face}
+use Rattle.half_edge_links.proofs.Stored.Keeps.{keeps_origin, keeps_shown, shown_is}
 
 -- a face that is written in the records of a loop is shown there
 pub shows_loop_face : (rs : List StoredEdge) (h f : ℕ) → IsLinkedWithin (shown rs) h →

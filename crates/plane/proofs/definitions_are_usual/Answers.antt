@@ -1,10 +1,9 @@
-use Rattle.plane.proofs.Averages as Averages
-use Rattle.plane.proofs.Lines as Lines
-use Rattle.plane.proofs.Areas.{side_by_area}
-use Rattle.plane.proofs.Triangles.{inside_is_sides, in_is_sides}
-use Rattle.plane.proofs.Meetings as Meetings
+use Rattle.plane.proofs.{Areas.side_by_area, Triangles.in_is_sides, Triangles.inside_is_sides}
 use Rattle.plane.proofs.Centre.{centre, centre_is_centre, centre_is_only}
 use Rattle.plane.proofs.Circles.{inside_is_determinant, on_is_determinant}
+use Rattle.plane.proofs.Averages as Averages
+use Rattle.plane.proofs.Lines as Lines
+use Rattle.plane.proofs.Meetings as Meetings
 use Rattle.plane.proofs.definitions_are_usual.Goals as goal
 
 pub returns : goal.returns

@@ -2,25 +2,21 @@
 -- Lemmas: part_knows_faces.
 use Rattle.std.proofs.Common.{◌≡◌, ℕ, List, map, sym, subst}
 use mathlib.Core.Logic.{◌⊎◌, inl, inr}
-use Rattle.plane.proofs.Steps.{weak, zero_weak_left}
-use Rattle.plane_theorems.proofs.Delaunay.Points.Bracket.{bracket-first, bracket-second}
-use Rattle.plane_theorems.proofs.Delaunay.Points.Bracket.{above_if_left}
-use Rattle.plane_theorems.proofs.Delaunay.Points.Nudges.{nudge, nudge-least, InOpen}
-use Rattle.plane_theorems.proofs.Delaunay.Points.Nudges.{closed_of_inside}
-use Rattle.plane_theorems.proofs.Delaunay.Tilings.Faces.{Tiling, Germ, germ, germ-closed}
-use Rattle.plane_theorems.proofs.Delaunay.Tilings.Faces.{germ-turned}
-use Rattle.plane_theorems.proofs.Delaunay.Tilings.Faces.{middle, middle-inside, both_inside}
+use Rattle.plane.specs.{Fraction, InHull, IsConstrainedDelaunay, IsFace, IsTiling, IsVertex}
+use Rattle.plane.specs.{TilesHull, Triangulation, TurnsLeft, vertex, whole}
+use Rattle.plane.proofs.{weak, zero_weak_left}
+use Rattle.plane_theorems.specs.{HaveOneCircle, IsPartOfPlane}
+use Rattle.plane_theorems.specs.Parts.Parts.{KnowsDisk, PartKnowsFaces}
+use Rattle.plane_theorems.proofs.Delaunay.Circles.Cells.{germ_goes_on, triple_in_hull}
+use Rattle.plane_theorems.proofs.{Delaunay.Circles.EmptyCircles.no_face, Parts.Known.part_faces_tie}
+use Rattle.plane_theorems.proofs.Delaunay.Points.Bracket.{above_if_left, bracket-first}
+use Rattle.plane_theorems.proofs.Delaunay.Points.Bracket.{bracket-second}
+use Rattle.plane_theorems.proofs.Delaunay.Points.Nudges.{closed_of_inside, InOpen, nudge}
+use Rattle.plane_theorems.proofs.Delaunay.Points.Nudges.{nudge-least}
+use Rattle.plane_theorems.proofs.Delaunay.Tilings.Faces.{both_inside, Germ, germ, germ-closed}
+use Rattle.plane_theorems.proofs.Delaunay.Tilings.Faces.{germ-turned, middle, middle-inside, Tiling}
 use Rattle.plane_theorems.proofs.Delaunay.Tilings.Faces.{turned-above}
 use Rattle.plane_theorems.proofs.Delaunay.Tilings.Ground.{tiling, triangle_of_inside}
-use Rattle.plane_theorems.proofs.Delaunay.Circles.EmptyCircles.{no_face}
-use Rattle.plane_theorems.proofs.Delaunay.Circles.Cells.{triple_in_hull, germ_goes_on}
-use Rattle.plane.specs.Fraction.{Fraction, whole, InHull}
-use Rattle.plane.specs.Side.{TurnsLeft}
-use Rattle.plane.specs.Tiling.{Triangulation, IsVertex, vertex, IsFace, TilesHull, IsTiling}
-use Rattle.plane.specs.Delaunay.{IsConstrainedDelaunay}
-use Rattle.plane_theorems.specs.Delaunay.History.{HaveOneCircle}
-use Rattle.plane_theorems.specs.Parts.Parts.{IsPartOfPlane, KnowsDisk, PartKnowsFaces}
-use Rattle.plane_theorems.proofs.Parts.Known.{part_faces_tie}
 
 module _ (s t : Triangulation) (d c : List (ℕ × ℕ)) (there : IsPartOfPlane s d t c)
     (D : IsConstrainedDelaunay s d) (h : TilesHull s) (E : IsConstrainedDelaunay t c)

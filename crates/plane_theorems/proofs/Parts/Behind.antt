@@ -5,33 +5,23 @@ use mathlib.Core.Logic.{◌⊎◌, inl, inr}
 use lib.IntN.{neg_ℤ}
 use Rattle.std.specs.Prelude.{ℤ, pos, ◌<ℤ◌, ◌≤ℤ◌, ◌+ℤ◌, ◌-ℤ◌, ◌*ℤ◌}
 use Rattle.std.proofs.lemmas.Int.{ints}
+use Rattle.plane.specs.{Fraction, IsNotNegative, IsSeen, Point, squared_vector, Triangulation}
+use Rattle.{plane.specs.vertex, plane_theorems.proofs.Delaunay.Tilings.Ground.inside_of}
+use Rattle.plane.proofs.{◌⊕◌, ◌⊖◌, ◌⊗◌, both_signs, bracket-swap, bracket-turn, bracketᵖ, incircle}
+use Rattle.plane.proofs.{left_not_zero, lift as at, liftᵖ as atᵖ, mean_of_two, mul-neg_of_pos_neg_ℤ}
+use Rattle.plane.proofs.{mul-nonneg_ℤ, mul-pos_ℤ, neg_of_mul-neg_ℤ, negated_left, negated_right}
+use Rattle.plane.proofs.{num, points, pos_of_mul-pos_ℤ, right_not_zero, ring_in_from}
+use Rattle.plane.proofs.{square-nonneg_ℤ, squares_vanish, sum_not_negative, vec, Vec3, weak}
+use Rattle.plane.proofs.{zero-mul_ℤ, zero_or_left, zero_weak_left, ⊝}
+use Rattle.plane.proofs.Circles.{incircle-from_first, incircle-opposite, incircle-turn}
+use Rattle.plane_theorems.specs.{IsPartOfPlane, Parts.Hidden.BeyondSideIsHidden}
+use Rattle.plane_theorems.proofs.{Delaunay.Circles.EmptyCircles.spot, Delaunay.Points.Nudges.InOpen}
+use Rattle.plane_theorems.proofs.Delaunay.Circles.Lift.{inside_is_lift, lift, on_is_lift}
+use Rattle.plane_theorems.proofs.Delaunay.Points.Bracket.{above_if_left, bracket, bracket-second}
+use Rattle.plane_theorems.proofs.Delaunay.Points.Bracket.{bracket-swapped, bracket-turned, cramer}
+use Rattle.plane_theorems.proofs.Delaunay.Tilings.Generic.{both_left, both_right, IsOpen, on_line}
+use Rattle.plane_theorems.proofs.Delaunay.Tilings.Generic.{open_if_free, past_left, past_right}
 use Rattle.plane.proofs.Bracket as B
-use Rattle.plane.proofs.Bracket.{Vec3, vec, points, bracketᵖ}
-use Rattle.plane.proofs.Bracket.{lift as at, liftᵖ as atᵖ}
-use Rattle.plane.proofs.BracketIdentities.{bracket-turn, bracket-swap}
-use Rattle.plane.proofs.Circles.{incircle, incircle-turn, incircle-opposite, incircle-from_first}
-use Rattle.plane.proofs.IntegerOrder.{mul-pos_ℤ, mul-nonneg_ℤ, mul-neg_of_pos_neg_ℤ}
-use Rattle.plane.proofs.IntegerOrder.{pos_of_mul-pos_ℤ, neg_of_mul-neg_ℤ, square-nonneg_ℤ}
-use Rattle.plane.proofs.IntegerOrder.{zero-mul_ℤ}
-use Rattle.plane.proofs.Means.{mean_of_two}
-use Rattle.plane.proofs.Signs.{sum_not_negative, squares_vanish}
-use Rattle.plane.proofs.Solver.{num, ◌⊕◌, ◌⊖◌, ◌⊗◌, ⊝, ring_in_from}
-use Rattle.plane.proofs.Steps.{weak, zero_or_left, zero_weak_left, left_not_zero, both_signs}
-use Rattle.plane.proofs.Steps.{right_not_zero, negated_left, negated_right}
-use Rattle.plane_theorems.proofs.Delaunay.Circles.EmptyCircles.{spot}
-use Rattle.plane_theorems.proofs.Delaunay.Circles.Lift.{lift, inside_is_lift, on_is_lift}
-use Rattle.plane_theorems.proofs.Delaunay.Points.Bracket.{bracket, bracket-turned, bracket-swapped}
-use Rattle.plane_theorems.proofs.Delaunay.Points.Bracket.{bracket-second, cramer, above_if_left}
-use Rattle.plane_theorems.proofs.Delaunay.Points.Nudges.{InOpen}
-use Rattle.plane_theorems.proofs.Delaunay.Tilings.Generic.{IsOpen, on_line, both_left, both_right}
-use Rattle.plane_theorems.proofs.Delaunay.Tilings.Generic.{past_left, past_right, open_if_free}
-use Rattle.plane_theorems.proofs.Delaunay.Tilings.Ground.{inside_of}
-use Rattle.plane.specs.Fraction.{Point, Fraction, IsNotNegative}
-use Rattle.plane.specs.Laws.{squared_way}
-use Rattle.plane.specs.Delaunay.{IsSeen}
-use Rattle.plane.specs.Tiling.{Triangulation, vertex}
-use Rattle.plane_theorems.specs.Parts.Parts.{IsPartOfPlane}
-use Rattle.plane_theorems.specs.Parts.Hidden.{BeyondSideIsHidden}
 
 -- ---- numbers
 sum_positive : (s e a b : ℤ) → s ≡ e +ℤ (a +ℤ b) → pos 0 ≤ℤ e → pos 0 <ℤ a → pos 0 ≤ℤ b → pos 0 <ℤ s
@@ -46,7 +36,7 @@ sum_above s a b c h k l m = omega (arith, ints)
 -- ---- four points, of which the last is in the disk of the others or on its circle
 -- where a triple turns left its first two points are apart
 way_positive : (a b c : Point) → pos 0 <ℤ B.bracket (at a) (at b) (at c)
-    → pos 0 <ℤ squared_way a b
+    → pos 0 <ℤ squared_vector a b
 unfolding B.bracket
 way_positive a b c h = go (zero_or_left (sum_not_negative ((b.x -ℤ a.x) *ℤ (b.x -ℤ a.x))
     ((b.y -ℤ a.y) *ℤ (b.y -ℤ a.y)) (square-nonneg_ℤ _) (square-nonneg_ℤ _)))
@@ -59,20 +49,20 @@ way_positive a b c h = go (zero_or_left (sum_not_negative ((b.x -ℤ a.x) *ℤ (
         (λ ax ay bx by cx cy. (cy ⊖ ay, bx ⊖ ax, num 0) ∷ (ax ⊖ cx, by ⊖ ay, num 0) ∷ [])
         (e, (d, tt)) tt
 
-    go : (squared_way a b ≡ pos 0) ⊎ (pos 0 <ℤ squared_way a b) → pos 0 <ℤ squared_way a b
+    go : (squared_vector a b ≡ pos 0) ⊎ (pos 0 <ℤ squared_vector a b) → pos 0 <ℤ squared_vector a b
     go (inl e) = let z = squares_vanish (b.x -ℤ a.x) (b.y -ℤ a.y) e in
         absurd (left_not_zero h (flat z.0 z.1))
     go (inr p) = p
 
 -- the test, from a
-from_first : (a b c d : Point) → squared_way a c *ℤ B.bracket (at a) (at b) (at d)
-    ≡ incircle (at a) (at b) (at c) (at d) +ℤ (squared_way a b *ℤ B.bracket (at a) (at c) (at d)
-    +ℤ squared_way a d *ℤ B.bracket (at a) (at b) (at c))
+from_first : (a b c d : Point) → squared_vector a c *ℤ B.bracket (at a) (at b) (at d)
+    ≡ incircle (at a) (at b) (at c) (at d) +ℤ (squared_vector a b *ℤ B.bracket (at a) (at c) (at d)
+    +ℤ squared_vector a d *ℤ B.bracket (at a) (at b) (at c))
 from_first a b c d =
     let swapped = bracket-turn _ _ _ ∙ bracket-swap _ _ _ ∙ ap neg_ℤ (sym (bracket-turn _ _ _)) in
-    ring_in_from (squared_way a c ∷ B.bracket (at a) (at b) (at d) ∷ incircle _ _ _ _
-    ∷ squared_way a b ∷ B.bracket (at a) (at c) (at d) ∷ B.bracket (at a) (at d) (at c)
-    ∷ squared_way a d ∷ B.bracket (at a) (at b) (at c) ∷ [])
+    ring_in_from (squared_vector a c ∷ B.bracket (at a) (at b) (at d) ∷ incircle _ _ _ _
+    ∷ squared_vector a b ∷ B.bracket (at a) (at c) (at d) ∷ B.bracket (at a) (at d) (at c)
+    ∷ squared_vector a d ∷ B.bracket (at a) (at b) (at c) ∷ [])
     (λ ac abd o ab acd adc ad abc. ac ⊗ abd)
     (λ ac abd o ab acd adc ad abc. o ⊕ (ab ⊗ acd ⊕ ad ⊗ abc))
     (λ ac abd o ab acd adc ad abc. (⊝ (num 1), o, adc ⊗ ab ⊕ abd ⊗ ac ⊖ abc ⊗ ad)

@@ -4,25 +4,19 @@ use Rattle.std.proofs.Common.{◌≡◌, ℕ, List, sym, ◌∙◌, ap, subst}
 use mathlib.Core.Path.{subst₃}
 use mathlib.Core.Logic.{◌⊎◌, inl, inr}
 use Rattle.std.specs.Prelude.{◌≢◌, pos}
-use Rattle.plane.proofs.Centre.{centre, centre_is_centre}
-use Rattle.plane_theorems.proofs.Delaunay.Circles.Lift.{lift, far_if_none}
-use Rattle.plane_theorems.proofs.Delaunay.Points.Nudges.{InOpen}
+use Rattle.plane.specs.{AreEquallyFar, Fraction, InsideCircle, InsideTriangle, IsSeen, IsTiling}
+use Rattle.plane.specs.{IsVertex, Joins, OnCircle, OnSegment, TilesHull, Triangulation, TurnsLeft}
+use Rattle.{plane.proofs.centre, plane.proofs.Centre.centre_is_centre, plane.specs.vertex}
+use Rattle.plane_theorems.specs.{HaveOneCircle, IsPartOfPlane, IsVisiblyEmpty}
+use Rattle.plane_theorems.specs.Delaunay.Cells.{HasFaceAt, HasVertexAt}
+use Rattle.plane_theorems.specs.Parts.Parts.{KnowsDisk, PartFaceIsSeen, PartFacesTie}
+use Rattle.plane_theorems.proofs.Delaunay.Circles.EmptyCircles.{circle_lift, face_open}
+use Rattle.plane_theorems.proofs.Delaunay.Circles.EmptyCircles.{IsOpenTriple, no_face, OneCircle}
+use Rattle.plane_theorems.proofs.Delaunay.Circles.EmptyCircles.{overlapping, spot, straight_line}
+use Rattle.plane_theorems.proofs.Delaunay.Circles.EmptyCircles.{visibly_empty_is_face}
+use Rattle.plane_theorems.proofs.{Delaunay.Circles.History.distinct, Delaunay.Points.Nudges.InOpen}
+use Rattle.plane_theorems.proofs.Delaunay.Circles.Lift.{far_if_none, lift}
 use Rattle.plane_theorems.proofs.Delaunay.Tilings.Ground.{inside_of, triangle_of_inside}
-use Rattle.plane_theorems.proofs.Delaunay.Circles.EmptyCircles.{visibly_empty_is_face, IsOpenTriple}
-use Rattle.plane_theorems.proofs.Delaunay.Circles.EmptyCircles.{OneCircle, face_open, overlapping}
-use Rattle.plane_theorems.proofs.Delaunay.Circles.EmptyCircles.{no_face}
-use Rattle.plane_theorems.proofs.Delaunay.Circles.EmptyCircles.{spot, straight_line, circle_lift}
-use Rattle.plane_theorems.proofs.Delaunay.Circles.History.{distinct}
-use Rattle.plane.specs.Fraction.{Fraction, InsideTriangle, OnSegment}
-use Rattle.plane.specs.Side.{TurnsLeft}
-use Rattle.plane.specs.Circle.{AreEquallyFar, InsideCircle, OnCircle}
-use Rattle.plane.specs.Pairs.{Joins}
-use Rattle.plane.specs.Tiling.{Triangulation, IsVertex, vertex, TilesHull}
-use Rattle.plane.specs.Tiling.{IsTiling}
-use Rattle.plane.specs.Delaunay.{IsSeen}
-use Rattle.plane_theorems.specs.Delaunay.Cells.{HasVertexAt, HasFaceAt}
-use Rattle.plane_theorems.specs.Delaunay.History.{IsVisiblyEmpty, HaveOneCircle}
-use Rattle.plane_theorems.specs.Parts.Parts.{IsPartOfPlane, KnowsDisk, PartFaceIsSeen, PartFacesTie}
 
 module _ (s t : Triangulation) (d c : List (ℕ × ℕ)) (there : IsPartOfPlane s d t c) where
   -- what is seen past all constraints of the whole is seen past those of the part

@@ -4,35 +4,30 @@
 use Rattle.std.proofs.Common.{◌≡◌, ◌<◌, ℕ, suc, arith, sym, ◌∙◌, subst}
 use mathlib.Core.Logic.{◌⊎◌, inl, inr}
 use Rattle.std.specs.Prelude.{pos, ◌<ℤ◌, ◌≤ℤ◌, sum_by}
-use Rattle.plane.proofs.IntegerOrder.{nonneg_of_mul-nonneg_ℤ, mul-nonneg_ℤ}
-use Rattle.plane.proofs.Steps.{weak, zero_weak_left, left_not_zero, right_not_above, zero_or_left}
-use Rattle.plane.proofs.Steps.{negated_left, negated_right}
-use Rattle.plane.proofs.Segments.{same-sym, start_on_segment, end_on_segment}
-use Rattle.plane.specs.Fraction.{Fraction, IsSame, OnSegment}
-use Rattle.plane.specs.Tiling.{Triangulation, IsEdge, IsFace, HasFace, vertex, TilesHull}
-use Rattle.plane.specs.Line.{OverlapAlong}
-use Rattle.plane_theorems.proofs.Delaunay.Points.Bracket.{bracket, bracket-second, bracket-swapped}
-use Rattle.plane_theorems.proofs.Delaunay.Points.Bracket.{above_if_left, bracket-turned}
+use Rattle.plane.specs.{Fraction, HasFace, IsEdge, IsFace, IsSame, OnSegment, OverlapAlong}
+use Rattle.plane.specs.{TilesHull, Triangulation, vertex}
+use Rattle.plane.proofs.{end_on_segment, left_not_zero, mul-nonneg_ℤ, negated_left, negated_right}
+use Rattle.plane.proofs.{nonneg_of_mul-nonneg_ℤ, right_not_above, same-sym, start_on_segment}
+use Rattle.plane.proofs.{turned_face, weak, zero_or_left, zero_weak_left}
+use Rattle.plane_theorems.proofs.{Delaunay.Floods.Flooded.segment_from, Delaunay.Points.Nudges.size}
+use Rattle.plane_theorems.proofs.Delaunay.Points.Bracket.{above_if_left, bracket, bracket-second}
+use Rattle.plane_theorems.proofs.Delaunay.Points.Bracket.{bracket-swapped, bracket-turned}
 use Rattle.plane_theorems.proofs.Delaunay.Points.Members.{member-le-sum_by}
-use Rattle.plane_theorems.proofs.Delaunay.Points.Nudges.{size, nudge, bracket-nudge, nudge-above}
-use Rattle.plane_theorems.proofs.Delaunay.Points.Nudges.{nudge-on}
-use Rattle.plane_theorems.proofs.Delaunay.Points.Nudges.{germ_sign, Closed, closed-turned}
-use Rattle.plane_theorems.proofs.Delaunay.Tilings.Faces.{Between, between-swapped, between-on}
-use Rattle.plane_theorems.proofs.Delaunay.Tilings.Meets.{OnSide, on_side-swapped, on_side-closed}
-use Rattle.plane_theorems.proofs.Delaunay.Tilings.Meets.{on_side_of_closed}
-use Rattle.plane_theorems.proofs.Delaunay.Tilings.Generic.{same_bracket}
-use Rattle.plane_theorems.proofs.Delaunay.Tilings.Ground.{tiling, sides_of, side_listed}
-use Rattle.plane_theorems.proofs.Delaunay.Tilings.Where.{IsCovered}
-use Rattle.plane_theorems.proofs.Delaunay.Floods.Flooded.{segment_from}
+use Rattle.plane_theorems.proofs.Delaunay.Points.Nudges.{bracket-nudge, Closed, closed-turned}
+use Rattle.plane_theorems.proofs.Delaunay.Points.Nudges.{germ_sign, nudge, nudge-above, nudge-on}
 use Rattle.plane_theorems.proofs.Delaunay.Segments.LineItems.{between_of}
+use Rattle.plane_theorems.proofs.Delaunay.Tilings.Faces.{Between, between-on, between-swapped}
+use Rattle.plane_theorems.proofs.Delaunay.Tilings.Generic.{same_bracket}
+use Rattle.plane_theorems.proofs.Delaunay.Tilings.Ground.{side_listed, sides_of, tiling}
+use Rattle.plane_theorems.proofs.Delaunay.Tilings.Meets.{on_side-closed, on_side-swapped}
+use Rattle.plane_theorems.proofs.Delaunay.Tilings.Meets.{on_side_of_closed, OnSide}
+use Rattle.plane_theorems.proofs.Delaunay.Tilings.Where.{IsCovered}
 use Rattle.plane_theorems.proofs.Segments.Items.Begins.{above-same, edge_flipped}
-use Rattle.plane.proofs.Triangles.{turned_face}
-use Rattle.plane_theorems.proofs.Sight.Coverings.{nudge_on_segment, nudge_back, covered_between}
-use Rattle.plane_theorems.proofs.Sight.Coverings.{HasBeside}
-use Rattle.plane_theorems.proofs.Sight.Coverings.{at_side, nudge_between}
-use Rattle.plane_theorems.proofs.Sight.SharedPoints.{decide_same, nudge_moves, overlap_either}
-use Rattle.plane_theorems.proofs.Sight.SharedPoints.{middle_within}
-use Rattle.plane_theorems.proofs.Sight.Entered.{IsCoveredFree, FreeAtItems, entered_is_free}
+use Rattle.plane_theorems.proofs.Sight.Coverings.{at_side, covered_between, HasBeside, nudge_back}
+use Rattle.plane_theorems.proofs.Sight.Coverings.{nudge_between, nudge_on_segment}
+use Rattle.plane_theorems.proofs.Sight.Entered.{entered_is_free, FreeAtItems, IsCoveredFree}
+use Rattle.plane_theorems.proofs.Sight.SharedPoints.{decide_same, middle_within, nudge_moves}
+use Rattle.plane_theorems.proofs.Sight.SharedPoints.{overlap_either}
 
 -- ---- points of a side
 segment_of_side : (a b x : Fraction) → OnSide a b x → OnSegment a b x

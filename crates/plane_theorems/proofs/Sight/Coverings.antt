@@ -5,32 +5,24 @@ use Rattle.std.proofs.Common.{◌≡◌, ◌<◌, ◌+◌, ℕ, suc, [], ◌∷�
 use mathlib.Core.Logic.{◌⊎◌, inl, inr}
 use Rattle.std.specs.Prelude.{ℤ, pos, ◌<ℤ◌, ◌≤ℤ◌, ◌+ℤ◌, ◌*ℤ◌}
 use Rattle.std.proofs.lemmas.Int.{ints}
-use Rattle.plane.proofs.IntegerOrder.{mul-pos_ℤ}
-use Rattle.plane.proofs.IntegerOrder.{mul-nonneg_ℤ, nonneg_of_mul-nonneg_ℤ, lt_or_ge_ℤ, sign, Sign}
-use Rattle.plane.proofs.IntegerOrder.{below, none, above}
-use Rattle.plane.proofs.Steps.{weak, right_not_above, not_right_strict}
-use Rattle.plane.proofs.Solver.{◌⊕◌, ◌⊗◌, ring_in_from}
-use Rattle.plane.proofs.Indexes.{IsTurned}
-use Rattle.plane.proofs.Signs.{index_not_negative}
-use Rattle.plane.specs.Fraction.{Fraction, OnSegment}
-use Rattle.plane.specs.Tiling.{Triangulation, IsFace, vertex, TilesHull}
-use Rattle.plane_theorems.proofs.Delaunay.Points.Bracket.{bracket, above_if_left}
-use Rattle.plane_theorems.proofs.Delaunay.Points.Nudges.{size, nudge, bracket-nudge, nudge-above}
-use Rattle.plane_theorems.proofs.Delaunay.Points.Nudges.{nudge-on}
-use Rattle.plane_theorems.proofs.Delaunay.Points.Nudges.{Closed, InOpen, closed-turned}
-use Rattle.plane_theorems.proofs.Delaunay.Points.Nudges.{closed_of_inside}
-use Rattle.plane_theorems.proofs.Delaunay.Tilings.Faces.{Between, between-on, between-second}
-use Rattle.plane_theorems.proofs.Delaunay.Tilings.Faces.{between-third}
-use Rattle.plane_theorems.proofs.Delaunay.Tilings.Faces.{between-closed, both_inside}
-use Rattle.plane_theorems.proofs.Delaunay.Tilings.Faces.{side_not_inside}
-use Rattle.plane_theorems.proofs.Delaunay.Tilings.Faces.{none_within}
-use Rattle.plane_theorems.proofs.Delaunay.Tilings.Ground.{tiling, faces_same}
-use Rattle.plane_theorems.proofs.Delaunay.Tilings.Across.{IsClear, sides_same}
-use Rattle.plane_theorems.proofs.Delaunay.Tilings.Beyond.{halfway, between-halfway, not_second}
-use Rattle.plane_theorems.proofs.Delaunay.Tilings.Where.{IsCovered, IsBeyond, covered_or_beyond}
-use Rattle.plane_theorems.proofs.Delaunay.Tilings.Where.{not_covered_and_beyond}
+use Rattle.plane.specs.{Fraction, IsFace, OnSegment, TilesHull, Triangulation, vertex}
+use Rattle.plane.proofs.{◌⊕◌, ◌⊗◌, above, below, index_not_negative, IsTurned, lt_or_ge_ℤ}
+use Rattle.plane.proofs.{mul-nonneg_ℤ, mul-pos_ℤ, none, nonneg_of_mul-nonneg_ℤ, not_right_strict}
+use Rattle.plane.proofs.{right_not_above, ring_in_from, Sign, sign, weak}
 use Rattle.plane_theorems.proofs.Delaunay.Floods.Flooded.{segment_from, side_of_segment}
+use Rattle.plane_theorems.proofs.Delaunay.Points.Bracket.{above_if_left, bracket}
+use Rattle.plane_theorems.proofs.Delaunay.Points.Nudges.{bracket-nudge, Closed, closed-turned}
+use Rattle.plane_theorems.proofs.Delaunay.Points.Nudges.{closed_of_inside, InOpen, nudge}
+use Rattle.plane_theorems.proofs.Delaunay.Points.Nudges.{nudge-above, nudge-on, size}
 use Rattle.plane_theorems.proofs.Delaunay.Segments.LineItems.{turned_segment}
+use Rattle.plane_theorems.proofs.Delaunay.Tilings.Across.{IsClear, sides_same}
+use Rattle.plane_theorems.proofs.Delaunay.Tilings.Beyond.{between-halfway, halfway, not_second}
+use Rattle.plane_theorems.proofs.Delaunay.Tilings.Faces.{Between, between-closed, between-on}
+use Rattle.plane_theorems.proofs.Delaunay.Tilings.Faces.{between-second, between-third, both_inside}
+use Rattle.plane_theorems.proofs.Delaunay.Tilings.Faces.{none_within, side_not_inside}
+use Rattle.plane_theorems.proofs.Delaunay.Tilings.Ground.{faces_same, tiling}
+use Rattle.plane_theorems.proofs.Delaunay.Tilings.Where.{covered_or_beyond, IsBeyond, IsCovered}
+use Rattle.plane_theorems.proofs.Delaunay.Tilings.Where.{not_covered_and_beyond}
 
 -- ---- a point of a segment, moved a little towards its end
 -- a point of the segment from p to q, moved towards q, is one of it

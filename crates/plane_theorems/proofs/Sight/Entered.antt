@@ -5,35 +5,27 @@ use Rattle.std.proofs.Common.{◌≡◌, ℕ, arith, ap, sym, ◌∙◌, subst}
 use mathlib.Core.Logic.{◌⊎◌, inl, inr}
 use Rattle.std.specs.Prelude.{◌≢◌, ℤ, pos, ◌<ℤ◌, ◌≤ℤ◌, ◌+ℤ◌, ◌*ℤ◌}
 use Rattle.std.proofs.lemmas.Int.{ints}
-use Rattle.plane.proofs.IntegerOrder.{mul-pos_ℤ, pos_of_mul-pos_ℤ, zero-mul_ℤ, trichotomy_ℤ}
-use Rattle.plane.proofs.IntegerOrder.{neg_of_mul-neg_ℤ, mul-neg_of_pos_neg_ℤ, zero_of_mul-zero_ℤ}
-use Rattle.plane.proofs.IntegerOrder.{pos-ne-zero_ℤ}
-use Rattle.plane.proofs.Steps.{weak, weak_right, left_not_below}
-use Rattle.plane.proofs.Steps.{negated_left, negated_right, drop_zero_last}
-use Rattle.plane.proofs.Segments.{same-sym}
-use Rattle.plane.proofs.Triangles.{turned_face}
-use Rattle.plane.proofs.Signs.{not_positive_or_positive, opposite_of_not_positive}
-use Rattle.plane.specs.Fraction.{Fraction, IsSame, OnSegment}
-use Rattle.plane.specs.Side.{side, left}
-use Rattle.plane.specs.Tiling.{Triangulation, IsFace, vertex, TilesHull}
-use Rattle.plane.specs.Line.{Meets}
-use Rattle.plane.specs.Line as L
-use Rattle.plane_theorems.proofs.Delaunay.Points.Bracket.{bracket, bracket-turned, bracket-swapped}
-use Rattle.plane_theorems.proofs.Delaunay.Points.Bracket.{bracket-first, cramer, above_if_left}
-use Rattle.plane_theorems.proofs.Delaunay.Points.Nudges.{Closed, InOpen, inside-turned}
-use Rattle.plane_theorems.proofs.Delaunay.Tilings.Faces.{Between, between-swapped, between-on}
-use Rattle.plane_theorems.proofs.Delaunay.Tilings.Faces.{turned-above}
-use Rattle.plane_theorems.proofs.Delaunay.Tilings.Meets.{Place, at_first, at_second, within}
-use Rattle.plane_theorems.proofs.Delaunay.Tilings.Meets.{place_of}
-use Rattle.plane_theorems.proofs.Delaunay.Tilings.Ground.{triangle_of_inside}
+use Rattle.plane.specs.{Fraction, IsFace, IsSame, left, Meets, OnSegment, side, TilesHull}
+use Rattle.plane.proofs.{drop_zero_last, left_not_below, mul-neg_of_pos_neg_ℤ, mul-pos_ℤ}
+use Rattle.plane.proofs.{neg_of_mul-neg_ℤ, negated_left, negated_right, not_positive_or_positive}
+use Rattle.plane.proofs.{opposite_of_not_positive, pos-ne-zero_ℤ, pos_of_mul-pos_ℤ, same-sym}
+use Rattle.plane.proofs.{trichotomy_ℤ, turned_face, weak, weak_right, zero-mul_ℤ}
+use Rattle.{plane.proofs.zero_of_mul-zero_ℤ, plane.specs.Triangulation, plane.specs.vertex}
 use Rattle.plane_theorems.proofs.Delaunay.Floods.Flooded.{side_of_segment}
-use Rattle.plane_theorems.proofs.Delaunay.Segments.LineItems.{turned_segment, same_place}
-use Rattle.plane_theorems.proofs.Segments.Items.Begins.{above-same, met_if}
-use Rattle.plane_theorems.proofs.Segments.Items.Slopes.{left_before}
-use Rattle.plane_theorems.proofs.Segments.Items.SideSigns.{not_left}
+use Rattle.plane_theorems.proofs.Delaunay.Points.Bracket.{above_if_left, bracket, bracket-first}
+use Rattle.plane_theorems.proofs.Delaunay.Points.Bracket.{bracket-swapped, bracket-turned, cramer}
+use Rattle.plane_theorems.proofs.Delaunay.Points.Nudges.{Closed, InOpen, inside-turned}
+use Rattle.plane_theorems.proofs.Delaunay.Segments.LineItems.{same_place, turned_segment}
+use Rattle.plane_theorems.proofs.Delaunay.Tilings.Faces.{Between, between-on, between-swapped}
+use Rattle.plane_theorems.proofs.Delaunay.Tilings.Faces.{turned-above}
+use Rattle.plane_theorems.proofs.Delaunay.Tilings.Ground.{triangle_of_inside}
+use Rattle.plane_theorems.proofs.Delaunay.Tilings.Meets.{at_first, at_second, Place, place_of}
+use Rattle.plane_theorems.proofs.{Delaunay.Tilings.Meets.within, Segments.Items.Slopes.left_before}
 use Rattle.plane_theorems.proofs.Segments.First.FaceStarts.{ends_inside, first_from_a_face}
-use Rattle.plane_theorems.proofs.Sight.SharedPoints.{decide_same}
-use Rattle.plane_theorems.proofs.Sight.Coverings.{free_where_shared, free_beside, HasBeside}
+use Rattle.plane_theorems.proofs.Segments.Items.Begins.{above-same, met_if}
+use Rattle.plane_theorems.proofs.{Segments.Items.SideSigns.not_left, Sight.SharedPoints.decide_same}
+use Rattle.plane_theorems.proofs.Sight.Coverings.{free_beside, free_where_shared, HasBeside}
+use Rattle.plane.specs.Line as L
 
 -- ---- sides seen from a point strictly within a segment
 -- towards its end a side has the sign that it has along the segment

@@ -5,30 +5,25 @@ use Rattle.std.proofs.Common.{◌≡◌, ℕ, [], ◌∷◌, arith, ap, ◌∙�
 use mathlib.Core.Logic.{◌⊎◌, inl, inr}
 use Rattle.std.specs.Prelude.{ℤ, pos, ◌<ℤ◌, ◌≤ℤ◌, ◌+ℤ◌, ◌-ℤ◌, ◌*ℤ◌}
 use Rattle.std.proofs.lemmas.Int.{ints}
-use Rattle.plane.proofs.IntegerOrder.{mul-pos_ℤ, pos_of_mul-pos_ℤ}
-use Rattle.plane.proofs.Bracket.{vec, vec3}
-use Rattle.plane.proofs.Solver.{num, ◌⊕◌, ◌⊖◌, ◌⊗◌, ring_in, ring_in_from, ring_over}
-use Rattle.plane.proofs.IntegerLaws.{add-mul_ℤ}
-use Rattle.plane.proofs.Means.{TwoWeights, bracket_of_two}
-use Rattle.plane.proofs.Decisions.{Decision, decided_by, decide_both, decide_zero}
-use Rattle.plane.proofs.Segments.{reach, reachᵖ, reach_of_two, on_segment_is, IsWhole}
-use Rattle.plane.proofs.Segments.{within_segment_is, same_is_no_way, same-sym}
-use Rattle.plane.proofs.Signs.{less_by_difference, difference_is_positive, positive_above}
-use Rattle.plane.specs.Fraction.{Fraction, IsSame, OnSegment, WithinSegment}
-use Rattle.plane.specs.Side.{run, rise}
-use Rattle.plane.specs.Circle.{IsNearer}
-use Rattle.plane.specs.Line.{OverlapAlong}
-use Rattle.plane_theorems.proofs.Delaunay.Points.Nudges.{nudge}
-use Rattle.plane_theorems.proofs.Delaunay.Points.AlongSegment.{Placed, sooner, as_soon, later}
-use Rattle.plane_theorems.proofs.Delaunay.Points.AlongSegment.{placed}
-use Rattle.plane_theorems.proofs.Delaunay.Points.AlongSegment.{nearer_if, reach_less}
+use Rattle.plane.specs.{Fraction, IsNearer, IsSame, OnSegment, OverlapAlong, rise, run}
+use Rattle.plane.specs.{WithinSegment}
+use Rattle.plane.proofs.{◌⊕◌, ◌⊖◌, ◌⊗◌, bracket_of_two, decide_both, decided_by, Decision}
+use Rattle.plane.proofs.{difference_is_positive, IsWhole, less_by_difference, mul-pos_ℤ, num}
+use Rattle.plane.proofs.{on_segment_is, pos_of_mul-pos_ℤ, positive_above, reach, reach_of_two}
+use Rattle.plane.proofs.{ring_in, ring_in_from, ring_over, same-sym, TwoWeights, vec, vec3}
+use Rattle.plane.proofs.{IntegerLaws.add-mul_ℤ, within_segment_is}
+use Rattle.plane.proofs.{Decisions.decide_zero, Segments.reachᵖ, Segments.same_is_no_vector}
+use Rattle.plane_theorems.proofs.Delaunay.Points.AlongSegment.{as_soon, later, nearer_if}
+use Rattle.plane_theorems.proofs.Delaunay.Points.AlongSegment.{order_along, OrderAlong, reach_less}
+use Rattle.plane_theorems.proofs.{Delaunay.Points.AlongSegment.sooner, Delaunay.Points.Nudges.nudge}
 use Rattle.plane_theorems.proofs.Delaunay.Segments.LineItems.{turned_segment}
 use Rattle.plane_theorems.proofs.Segments.Items.OverlapDecided.{through_last}
 
 -- two points are one, or not
 pub decide_same : (p q : Fraction) → Decision (IsSame p q)
 decide_same p q =
-    decided_by (same_is_no_way p q) (decide_both (decide_zero (run p q)) (decide_zero (rise p q)))
+    decided_by (same_is_no_vector p q) (decide_both (decide_zero (run p q))
+    (decide_zero (rise p q)))
 
 -- a point that a nudge towards another leaves where it is is the other
 pub nudge_moves : (n : ℕ) (r q : Fraction) → IsSame r (nudge n r q) → IsSame r q
@@ -83,14 +78,14 @@ further_from_end u v two x z hx hz near =
 pub overlap_either : (p q u v : Fraction) → ¬ IsSame p q → ¬ IsSame u v → (x z : Fraction)
     → OnSegment p q x → OnSegment p q z → OnSegment u v x → OnSegment u v z → ¬ IsSame x z
     → OverlapAlong p q u v ⊎ OverlapAlong p q v u
-overlap_either p q u v apart two x z px pz ux uz differ = go (placed p q apart x z px pz)
+overlap_either p q u v apart two x z px pz ux uz differ = go (order_along p q apart x z px pz)
   where
     ordered : (x z : Fraction) → OnSegment p q x → OnSegment p q z → OnSegment u v x
         → OnSegment u v z → ¬ IsSame x z → IsNearer p x z
         → OverlapAlong p q u v ⊎ OverlapAlong p q v u
-    ordered x z px pz ux uz differ near = pick (placed u v two x z ux uz)
+    ordered x z px pz ux uz differ near = pick (order_along u v two x z ux uz)
       where
-        pick : Placed u x z → OverlapAlong p q u v ⊎ OverlapAlong p q v u
+        pick : OrderAlong u x z → OverlapAlong p q u v ⊎ OverlapAlong p q v u
         pick (sooner n) = inl (record {
           near = x;
           far = z;
@@ -113,7 +108,7 @@ overlap_either p q u v apart two x z px pz ux uz differ = go (placed p q apart x
           from_u = further_from_end u v two x z ux uz n;
         })
 
-    go : Placed p x z → OverlapAlong p q u v ⊎ OverlapAlong p q v u
+    go : OrderAlong p x z → OverlapAlong p q u v ⊎ OverlapAlong p q v u
     go (sooner n) = ordered x z px pz ux uz differ n
     go (as_soon e) = absurd (differ e)
     go (later n) =

@@ -5,47 +5,31 @@ use mathlib.Core.Logic.{◌⊎◌, inl, inr}
 use Rattle.std.specs.Prelude.{◌↔◌}
 use Rattle.std.specs.Prelude.{pos, Bool, IsTrue, Contains}
 use Rattle.std.proofs.lemmas.List.{get_or_default}
-use Rattle.plane.proofs.Indexes.{turns_of_one}
-use Rattle.plane.proofs.Segments.{same-sym, only_point, start_on_segment, end_on_segment}
-use Rattle.plane_theorems.proofs.Tiling.Totals.{Contains-none, Contains-cases}
-use Rattle.plane_theorems.proofs.Sight.SharedPoints.{decide_same}
-use Rattle.plane.proofs.Sides.{on_if}
-use Rattle.plane.proofs.Steps.{left_not_zero, right_not_zero, not_left_strict, not_right_strict}
-use Rattle.plane.proofs.Triangles.{turned_face}
-use Rattle.plane.specs.Fraction.{Fraction, IsSame}
-use Rattle.plane.specs.Side.{side, on}
-use Rattle.plane.specs.Tiling.{Triangulation, face, IsFace, vertex, TilesHull}
-use Rattle.plane.specs.Line.{Item, Meets, IsLineList, IsListAt}
-use Rattle.plane.specs.Line as L
-use Rattle.plane_theorems.specs.Tiling.Laws.{IsTurned}
-use Rattle.plane_theorems.proofs.Delaunay.Points.Bracket.{bracket}
-use Rattle.plane_theorems.proofs.Delaunay.Points.Nudges.{Closed, closed-turned}
-use Rattle.plane_theorems.proofs.Delaunay.Tilings.Ground.{closed_of, triangle_of_closed}
-use Rattle.plane_theorems.proofs.Segments.Items.Begins.{signs_of}
-use Rattle.plane_theorems.proofs.Segments.Items.SideSigns.{none_if_on}
-use Rattle.plane_theorems.specs.Sight.Sight.{face_at, IsInFree, IsInSight, HasFreeFace, PassesFree}
-use Rattle.plane_theorems.specs.Sight.Sight.{SightByLine, InFreeByPlace}
-use Rattle.plane.specs.Fraction.{WithinSegment}
-use Rattle.plane.specs.Side.{TurnsLeft}
-use Rattle.plane.specs.Tiling.{IsVertex, IsEdge, InsideCorners}
-use Rattle.plane.specs.Location.{IsOuter}
-use Rattle.plane.proofs.Segments.{on_of_within}
-use Rattle.plane.proofs.Steps.{weak, zero_weak_left}
-use Rattle.plane_theorems.proofs.Delaunay.Points.Bracket.{bracket-first, bracket-second}
-use Rattle.plane_theorems.proofs.Delaunay.Points.Bracket.{above_if_left}
-use Rattle.plane_theorems.proofs.Delaunay.Points.Nudges.{closed_of_inside}
-use Rattle.plane_theorems.proofs.Delaunay.Tilings.Ground.{inside_of}
-use Rattle.plane_theorems.proofs.Delaunay.Tilings.Faces.{turned-above}
-use Rattle.plane_theorems.proofs.Delaunay.Tilings.Meets.{OnSide, on_side-swapped, on_side-closed}
-use Rattle.plane_theorems.proofs.Delaunay.Tilings.OuterEdges.{face_not_left_of_outer}
+use Rattle.plane.specs.{face, Fraction, InsideCorners, IsEdge, IsFace, IsLineList, IsListAt}
+use Rattle.plane.specs.{IsOuter, IsSame, IsVertex, Item, Meets, on, side, TilesHull, Triangulation}
+use Rattle.plane.specs.{TurnsLeft, vertex, WithinSegment}
+use Rattle.plane.proofs.{end_on_segment, left_not_zero, not_left_strict, not_right_strict, on_if}
+use Rattle.plane.proofs.{on_of_within, only_point, right_not_zero, same-sym, start_on_segment}
+use Rattle.plane.proofs.{turned_face, turns_of_one, weak, zero_weak_left}
+use Rattle.plane_theorems.specs.{face_at, HasFreeFace, IsInFree, IsInSight, IsTurned, PassesFree}
+use Rattle.plane_theorems.specs.Sight.Sight.{InFreeByPlace, SightByLine}
 use Rattle.plane_theorems.proofs.Delaunay.Floods.Flooded.{side_of_segment}
+use Rattle.plane_theorems.proofs.Delaunay.Points.Bracket.{above_if_left, bracket, bracket-first}
+use Rattle.plane_theorems.proofs.Delaunay.Points.Bracket.{bracket-second}
+use Rattle.plane_theorems.proofs.Delaunay.Points.Nudges.{Closed, closed-turned, closed_of_inside}
 use Rattle.plane_theorems.proofs.Delaunay.Segments.LineItems.{between_of}
-use Rattle.plane_theorems.proofs.Sight.Coverings.{free_where_shared, free_beside}
-use Rattle.plane_theorems.proofs.Sight.Covered.{beside_either}
-use Rattle.plane_theorems.proofs.Sight.Coverings.{HasBeside}
-use Rattle.plane_theorems.proofs.Sight.Entered.{IsCoveredFree, FreeAtItems}
-use Rattle.plane_theorems.proofs.Sight.Covered.{edge_differs, covered_along, items_are_free}
-use Rattle.plane_theorems.proofs.Sight.Covered.{covers-same}
+use Rattle.plane_theorems.proofs.Delaunay.Tilings.Faces.{turned-above}
+use Rattle.plane_theorems.proofs.Delaunay.Tilings.Ground.{closed_of, inside_of, triangle_of_closed}
+use Rattle.plane_theorems.proofs.Delaunay.Tilings.Meets.{on_side-closed, on_side-swapped, OnSide}
+use Rattle.plane_theorems.proofs.Delaunay.Tilings.OuterEdges.{face_not_left_of_outer}
+use Rattle.plane_theorems.proofs.{Segments.Items.Begins.signs_of, Sight.SharedPoints.decide_same}
+use Rattle.plane_theorems.proofs.Segments.Items.SideSigns.{none_if_on}
+use Rattle.plane_theorems.proofs.Sight.Covered.{beside_either, covered_along, covers-same}
+use Rattle.plane_theorems.proofs.Sight.Covered.{edge_differs, items_are_free}
+use Rattle.plane_theorems.proofs.Sight.Coverings.{free_beside, free_where_shared, HasBeside}
+use Rattle.plane_theorems.proofs.Sight.Entered.{FreeAtItems, IsCoveredFree}
+use Rattle.plane_theorems.proofs.Tiling.Totals.{Contains-cases, Contains-none}
+use Rattle.plane.specs.Line as L
 
 on_if_none : (u v x : Fraction) → bracket u v x ≡ pos 0 → side u v x ≡ on
 unfolding bracket

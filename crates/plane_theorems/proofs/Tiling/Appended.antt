@@ -5,8 +5,7 @@ use Rattle.std.specs.Prelude.{pos}
 use Rattle.std.proofs.lemmas.List.{length-append}
 use Rattle.std.proofs.Math.ListN.{get_or-append}
 use Rattle.std.proofs.Math.Seq.{get_or-append_seam}
-use Rattle.plane.specs.Fraction.{Point}
-use Rattle.plane_theorems.proofs.Tiling.Tiles.{point_at}
+use Rattle.{plane.specs.Point, plane_theorems.proofs.Tiling.Tiles.point_at}
 
 -- one point at the end makes a list longer by one
 pub length_appended : (points : List Point) (q : Point)

@@ -1,39 +1,36 @@
 -- A point off all lines, right of every outer edge, is strictly inside exactly one face: the
--- crossings of a ray, counted over faces and outer edges.
--- Notions: at, IsPairBelow, ArePairsBelow, SignMesh; same_index, same_place, corners_differ,
--- within_turned, hits, hits_is, hits_inside, inside_hits, hits_nonneg, crossed_is_first,
--- outer_edge, total_hits.
+-- crossings of a ray are counted over faces and outer edges.
+-- at p i: the point with index i as a triple
+-- SignMesh n p faces outer: what `LocalMesh` says, by signs of brackets
+-- corners_differ: the corners of a triple that turns left have different indexes
+-- within_turned: strictly within a segment, so within it read from its other end
+-- same_index, same_place: equal points have one index; so have points at one place of a line
+-- hits p q f: 1 where q is strictly inside face f, and 0 else
+-- total_hits: exactly one face has q strictly inside
 use Rattle.std.proofs.Common.{◌≡◌, ◌⊎◌, ℕ, ◌<◌, List, [], ◌∷◌, sym, ap, ◌∙◌, subst}
 use mathlib.Core.Logic.{inl, inr, ◌≢◌}
 use Rattle.std.specs.Prelude.{ℤ, pos, negsuc, ◌+ℤ◌, ◌*ℤ◌, ◌≤ℤ◌, ◌<ℤ◌, neg_ℤ, Contains, AllPairs}
 use Rattle.std.proofs.lemmas.Bool.{cases_eq}
-use Rattle.plane.specs.Fraction.{Point, whole, IsPositive, WithinSegment}
-use Rattle.plane.specs.Tiling.{Face}
-use Rattle.plane_theorems.specs.Tiling.Local.{total, around, along, IsAntisymmetric, AreBalanced}
-use Rattle.plane_theorems.specs.Tiling.Local.{IsCorner}
-use Rattle.plane.proofs.IntegerOrder.{zero-mul_ℤ, zero_of_mul-zero_ℤ, mul-nonneg_of_nonpos_ℤ}
-use Rattle.plane.proofs.IntegerOrder.{mul-nonpos_of_nonneg_nonpos_ℤ, trichotomy_ℤ, mul-pos_ℤ}
-use Rattle.plane.proofs.Steps.{weak, weak_right, both_signs, left_not_zero, right_not_zero}
-use Rattle.plane.proofs.Steps.{negated_left}
-use Rattle.plane_theorems.proofs.Tiling.StepsOfCounting.{sum_is_positive, all_zero, minus_one_and}
-use Rattle.plane_theorems.proofs.Tiling.StepsOfCounting.{average_from, weights_from, weight_below}
-use Rattle.plane_theorems.proofs.Tiling.StepsOfCounting.{zero_plus', one_more}
+use Rattle.plane.specs.{Face, IsPositive, Point, whole, WithinSegment}
+use Rattle.plane.proofs.{AllDiffer, both_signs, bracket, bracket-last, bracket-moved, bracket-outer}
+use Rattle.plane.proofs.{bracket-same, bracket-swap, bracket-turn, cramer_w, Inside, IsOneToOne}
+use Rattle.plane.proofs.{left_not_zero, lift, moved, mul-nonneg_of_nonpos_ℤ}
+use Rattle.plane.proofs.{mul-nonpos_of_nonneg_nonpos_ℤ, mul-pos_ℤ, negated_left, place_of_start}
+use Rattle.plane.proofs.{place_on, right_not_zero, same_by_places, sum_not_positive, sum_of_zeros}
+use Rattle.plane.proofs.{trichotomy_ℤ, turned_mean_of_two, Vec3, weak, weak_right, zero-mul_ℤ}
+use Rattle.{plane.proofs.zero_of_mul-zero_ℤ, plane_theorems.proofs.Tiling.Totals.total_single}
+use Rattle.plane.proofs.BracketIdentities.{passing, passing_w, rays}
+use Rattle.plane.proofs.{Collinear.passing_place, Collinear.place-moved, Signs.negation_is_positive}
+use Rattle.plane.proofs.Crossings.{crossing, crossing_back, crossing_not_from_left}
+use Rattle.plane.proofs.Crossings.{crossings_of_triangle, hit, hit_all, hit_is, left_turn, turn}
+use Rattle.plane.proofs.Crossings.{turn-negated, turn_left, turn_right}
+use Rattle.plane.proofs.{Generic.IsGeneric, Generic.spot, LineOrder.overlap_by_average}
+use Rattle.plane.proofs.Nudges.{bracket-moved_first, nudge_each, Nudged, nudged_zero}
+use Rattle.plane_theorems.specs.{along, AreBalanced, around, IsAntisymmetric, IsCorner, total}
+use Rattle.plane_theorems.proofs.Tiling.StepsOfCounting.{all_zero, average_from, minus_one_and}
+use Rattle.plane_theorems.proofs.Tiling.StepsOfCounting.{one_more, sum_is_positive, weight_below}
+use Rattle.plane_theorems.proofs.Tiling.StepsOfCounting.{weights_from, zero_plus'}
 use Rattle.plane_theorems.proofs.Tiling.Totals.{Contains-head, total_agree, total_at_least}
-use Rattle.plane_theorems.proofs.Tiling.Totals.{total_single}
-use Rattle.plane.proofs.Nudges.{Nudged, nudged_zero, nudge_each, moved, bracket-moved}
-use Rattle.plane.proofs.Nudges.{bracket-moved_first}
-use Rattle.plane.proofs.Crossings.{turn, turn_left, turn_right, left_turn, turn-negated, crossing}
-use Rattle.plane.proofs.Crossings.{crossing_back, crossing_not_from_left, hit, hit_is, hit_all}
-use Rattle.plane.proofs.Crossings.{crossings_of_triangle}
-use Rattle.plane.proofs.Bracket.{Vec3, bracket, lift}
-use Rattle.plane.proofs.BracketIdentities.{bracket-turn, bracket-swap, bracket-same, bracket-outer}
-use Rattle.plane.proofs.BracketIdentities.{bracket-last, cramer_w, rays, passing, passing_w}
-use Rattle.plane.proofs.Collinear.{place_on, place_of_start, place-moved, passing_place}
-use Rattle.plane.proofs.Collinear.{same_by_places}
-use Rattle.plane.proofs.LineOrder.{overlap_by_average}
-use Rattle.plane.proofs.Means.{turned_mean_of_two}
-use Rattle.plane.proofs.Generic.{Inside, AllDiffer, IsOneToOne, IsGeneric, spot}
-use Rattle.plane.proofs.Signs.{sum_not_positive, sum_of_zeros, negation_is_positive}
 
 -- the point of index i, in homogeneous form
 abbrev pub at : (ℕ → Point) → ℕ → Vec3

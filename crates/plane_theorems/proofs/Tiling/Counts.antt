@@ -7,29 +7,23 @@ use mathlib.Core.Logic.{inl, inr, ◌≢◌}
 use Rattle.std.specs.Prelude.{ℤ, pos, ◌+ℤ◌, ◌-ℤ◌, ◌<ℤ◌, ◌≤ℤ◌, Contains}
 use Rattle.std.proofs.lemmas.Int.{ints}
 use Rattle.std.proofs.lemmas.Bool.{cases_eq, cases_lt}
-use Rattle.plane.specs.Fraction.{Point, whole}
-use Rattle.plane.specs.Tiling.{Face}
-use Rattle.plane_theorems.specs.Tiling.Local.{total, LocalMesh, LineMesh, AreEdgesOf}
-use Rattle.plane.proofs.Bracket.{Vec3}
-use Rattle.plane.proofs.BracketIdentities.{bracket-outer}
+use Rattle.plane.specs.{Face, Point, whole}
+use Rattle.plane.proofs.{AllDiffer, bracket-outer, less_if_not_same, same_if_neither_less, Vec3}
+use Rattle.plane.proofs.Signs.{less_by_negations}
+use Rattle.plane_theorems.specs.{AreEdgesOf, LineMesh, LocalMesh, total}
+use Rattle.plane_theorems.proofs.Tiling.Counting.{ArePairsBelow, at, corners_differ, IsPairBelow}
+use Rattle.plane_theorems.proofs.Tiling.Counting.{SignMesh, within_turned}
 use Rattle.plane_theorems.proofs.Tiling.Flows.{HasSide, no_turn}
-use Rattle.plane_theorems.proofs.Tiling.Totals.{Contains-head, Contains-none, total-sum, all_none}
-use Rattle.plane_theorems.proofs.Tiling.Counting.{at, SignMesh, IsPairBelow, ArePairsBelow}
-use Rattle.plane_theorems.proofs.Tiling.Counting.{corners_differ}
-use Rattle.plane_theorems.proofs.Tiling.Counting.{within_turned}
-use Rattle.plane.proofs.Generic.{AllDiffer}
+use Rattle.plane_theorems.proofs.Tiling.Line.{Adjoin, SignLine}
+use Rattle.plane_theorems.proofs.{Tiling.LineMeshes.line_by_signs, Tiling.Rising.total_ones}
+use Rattle.plane_theorems.proofs.Tiling.Rising.{below_top, count_at, edges_counted, first, greatest}
+use Rattle.plane_theorems.proofs.Tiling.Rising.{leaves, leaves_counted, rises_nowhere, rises_once}
+use Rattle.plane_theorems.proofs.Tiling.Sweep.{count_none, count_one, IsSweep, sweep}
+use Rattle.plane_theorems.proofs.Tiling.Tiles.{by_signs, point_at}
+use Rattle.plane_theorems.proofs.Tiling.Totals.{all_none, Contains-head, Contains-none, total-sum}
 use Rattle.plane_theorems.proofs.Tiling.Edges as E
-use Rattle.plane_theorems.proofs.Tiling.Tiles.{point_at, by_signs}
 use Rattle.plane_theorems.proofs.Tiling.Loops as L
-use Rattle.plane_theorems.proofs.Tiling.Rising.{first, greatest, count_at, leaves, leaves_counted}
-use Rattle.plane_theorems.proofs.Tiling.Rising.{rises_once, rises_nowhere, total_ones}
-use Rattle.plane_theorems.proofs.Tiling.Rising.{edges_counted}
-use Rattle.plane_theorems.proofs.Tiling.Rising.{below_top}
-use Rattle.plane_theorems.proofs.Tiling.Sweep.{IsSweep, sweep, count_one, count_none}
-use Rattle.plane_theorems.proofs.Tiling.Line.{SignLine, Adjoin}
-use Rattle.plane_theorems.proofs.Tiling.LineMeshes.{line_by_signs}
 use Rattle.plane_theorems.proofs.Tiling.LinePlaces as O
-use Rattle.plane.proofs.Signs.{less_if_not_same, same_if_neither_less, less_by_negations}
 
 module _ (n : ℕ) (p : ℕ → Point) (faces : List Face) (outer edges : List (ℕ × ℕ))
     (m : SignMesh n p faces outer) (own : AreEdgesOf faces outer edges) where

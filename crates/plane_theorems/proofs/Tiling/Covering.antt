@@ -9,30 +9,24 @@ use mathlib.Core.Logic.{inl, inr}
 use Rattle.std.specs.Prelude.{ℤ, pos, ◌+ℤ◌, ◌*ℤ◌, ◌≤ℤ◌, ◌<ℤ◌, neg_ℤ, Contains}
 use Rattle.std.proofs.lemmas.Int.{ints}
 use Rattle.std.proofs.lemmas.Bool.{cases_lt}
-use Rattle.plane.specs.Fraction.{Point, whole, IsPositive, WithinSegment}
-use Rattle.plane.specs.Tiling.{Face, face}
-use Rattle.plane_theorems.specs.Tiling.Local.{total, IsCorner}
-use Rattle.plane.proofs.IntegerOrder.{zero-mul_ℤ, mul-nonpos_of_nonneg_nonpos_ℤ, pos_of_mul-pos_ℤ}
-use Rattle.plane.proofs.IntegerOrder.{mul-pos_ℤ, mul_cancel_ℤ, pos-ne-zero_ℤ}
-use Rattle.plane.proofs.Steps.{weak, left_not_zero, negated_left, negated_below, between_zero}
-use Rattle.plane.proofs.Steps.{not_left_strict, not_left_of_product, three_below, zero_or_left}
-use Rattle.plane.proofs.Steps.{sum_first, sum_second, sum_first_two, drop_zero, drop_zero_last}
-use Rattle.plane.proofs.Steps.{times_one, some_multiple, product_zero_left}
-use Rattle.plane_theorems.proofs.Tiling.Totals.{total_reached, total_twice, get_or_any}
-use Rattle.plane.proofs.Nudges.{nudged_right, nudged_back, moved, bracket-moved, moved_positive}
-use Rattle.plane.proofs.Bracket.{Vec3, bracket}
-use Rattle.plane.proofs.BracketIdentities.{bracket-turn, bracket-swap, bracket-outer, bracket-last}
-use Rattle.plane.proofs.BracketIdentities.{cramer, cramer_x, cramer_y, cramer_w}
-use Rattle.plane.proofs.Means.{mean_of_two}
-use Rattle.plane.proofs.Generic.{LieOnLine, Inside, IsNudged, IsSpot, spot, near, generic_near}
-use Rattle.plane.proofs.Generic.{not_on_line}
-use Rattle.plane_theorems.proofs.Tiling.Flows.{IsTurnOf, HasSide, turned, back_of_side}
-use Rattle.plane_theorems.proofs.Tiling.Flows.{back_of_outer}
-use Rattle.plane_theorems.proofs.Tiling.Counting.{at, SignMesh, hits, hits_is, hits_inside}
-use Rattle.plane_theorems.proofs.Tiling.Counting.{inside_hits}
-use Rattle.plane_theorems.proofs.Tiling.Counting.{hits_nonneg, total_hits, same_index}
-use Rattle.plane_theorems.proofs.Tiling.Counting.{corners_differ}
-use Rattle.plane_theorems.proofs.Tiling.Counting.{within_turned}
+use Rattle.plane.specs.{Face, face, IsPositive, Point, whole, WithinSegment}
+use Rattle.plane.proofs.{between_zero, bracket, bracket-last, bracket-moved, bracket-outer}
+use Rattle.plane.proofs.{bracket-swap, bracket-turn, cramer, cramer_w, cramer_x, cramer_y}
+use Rattle.plane.proofs.{drop_zero, drop_zero_last, Inside, IsNudged, left_not_zero, LieOnLine}
+use Rattle.plane.proofs.{mean_of_two, moved, mul-nonpos_of_nonneg_nonpos_ℤ, mul-pos_ℤ, mul_cancel_ℤ}
+use Rattle.plane.proofs.{near, negated_below, negated_left, not_left_of_product, not_left_strict}
+use Rattle.plane.proofs.{not_on_line, pos-ne-zero_ℤ, pos_of_mul-pos_ℤ, product_zero_left}
+use Rattle.plane.proofs.{sum_first_two, Vec3, weak, zero-mul_ℤ, zero_or_left}
+use Rattle.plane.proofs.Generic.{generic_near, IsSpot, spot}
+use Rattle.plane.proofs.Nudges.{moved_positive, nudged_back, nudged_right}
+use Rattle.plane.proofs.Steps.{some_multiple, sum_first, sum_second, three_below, times_one}
+use Rattle.plane_theorems.specs.{IsCorner, total}
+use Rattle.plane_theorems.proofs.Tiling.Counting.{at, corners_differ, hits, hits_inside, hits_is}
+use Rattle.plane_theorems.proofs.Tiling.Counting.{hits_nonneg, inside_hits, same_index, SignMesh}
+use Rattle.plane_theorems.proofs.Tiling.Counting.{total_hits, within_turned}
+use Rattle.plane_theorems.proofs.Tiling.Flows.{back_of_outer, back_of_side, HasSide, IsTurnOf}
+use Rattle.plane_theorems.proofs.Tiling.Flows.{turned}
+use Rattle.plane_theorems.proofs.Tiling.Totals.{get_or_any, total_reached, total_twice}
 
 -- a face by any of its rotations
 record Entry (p : ℕ → Point) (faces : List Face) (i j k : ℕ) : Type 0 where

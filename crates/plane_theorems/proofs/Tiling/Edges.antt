@@ -7,23 +7,18 @@ use Rattle.std.proofs.Common.{◌≡◌, ◌⊎◌, ℕ, ◌<◌, List, sym, ap,
 use mathlib.Core.Logic.{inl, inr, ◌≢◌}
 use Rattle.std.specs.Prelude.{ℤ, pos, ◌+ℤ◌, ◌*ℤ◌, ◌<ℤ◌}
 use Rattle.std.proofs.lemmas.Int.{ints}
-use Rattle.plane.specs.Fraction.{Point, Fraction, whole, IsPositive, WithinSegment}
-use Rattle.plane.specs.Tiling.{Face}
-use Rattle.plane.proofs.Means.{TwoWeights, two_weights, turned_mean_of_two, bracket_of_two}
-use Rattle.plane.proofs.IntegerOrder.{neg_of_mul-neg_ℤ, zero-mul_ℤ, zero_of_mul-zero_ℤ}
-use Rattle.plane.proofs.IntegerOrder.{pos_of_mul-pos_ℤ, mul-pos_ℤ, mul-neg_of_pos_neg_ℤ}
-use Rattle.plane.proofs.IntegerOrder.{trichotomy_ℤ, pos-ne-zero_ℤ}
-use Rattle.plane.proofs.Steps.{weak, right_not_zero, left_not_zero, both_signs, negated_left}
-use Rattle.plane.proofs.Steps.{negated_right, zero_weak_left, drop_zero, drop_zero_last}
-use Rattle.plane.proofs.Bracket.{Vec3, bracket, lift, vec}
-use Rattle.plane.proofs.BracketIdentities.{bracket-turn, bracket-swap, bracket-outer, bracket-last}
-use Rattle.plane.proofs.LineOrder.{overlap_ends}
-use Rattle.plane.proofs.Generic.{Inside, IsNudged, near}
-use Rattle.plane_theorems.proofs.Tiling.Flows.{IsTurnOf, HasSide, turned}
-use Rattle.plane_theorems.proofs.Tiling.Counting.{at, SignMesh, same_index, corners_differ}
+use Rattle.plane.specs.{Face, Fraction, IsPositive, Point, whole, WithinSegment}
+use Rattle.plane.proofs.{both_signs, bracket, bracket-last, bracket-outer, bracket-swap}
+use Rattle.plane.proofs.{bracket-turn, bracket_of_two, drop_zero, drop_zero_last, Inside, IsNudged}
+use Rattle.plane.proofs.{left_not_zero, lift, mul-neg_of_pos_neg_ℤ, mul-pos_ℤ, near}
+use Rattle.plane.proofs.{neg_of_mul-neg_ℤ, negated_left, negated_right, pos-ne-zero_ℤ}
+use Rattle.plane.proofs.{pos_of_mul-pos_ℤ, right_not_zero, trichotomy_ℤ, turned_mean_of_two}
+use Rattle.plane.proofs.{two_weights, TwoWeights, vec, Vec3, weak, zero-mul_ℤ, zero_of_mul-zero_ℤ}
+use Rattle.plane.proofs.{LineOrder.overlap_ends, Signs.sum_of_zeros_from, zero_weak_left}
+use Rattle.plane_theorems.proofs.Tiling.Counting.{at, corners_differ, same_index, SignMesh}
 use Rattle.plane_theorems.proofs.Tiling.Counting.{within_turned}
+use Rattle.plane_theorems.proofs.Tiling.Flows.{HasSide, IsTurnOf, turned}
 use Rattle.plane_theorems.proofs.Tiling.Covering as C
-use Rattle.plane.proofs.Signs.{sum_of_zeros_from}
 
 -- ---- a point strictly within a segment, seen from a line
 -- the side of a weighted mean is the mean of the sides

@@ -1,7 +1,14 @@
--- What balance says of one pair of indexes: as many sides and outer edges go one way as the other.
--- Notions: bit, IsTurnOf, HasSide; is_pair, bit_is, is_pair_is, bit_nonneg, is_pair_nonneg,
--- is_pair_own, pair_found, around_nonneg, no_turn, turned, one_of_three, side_found, side_counts,
--- outer_counts, either, back_from_count, back_of_side, back_of_outer.
+-- What balance says of one pair of indexes: as many sides and outer edges go in one direction as in
+-- the other.
+-- IsTurnOf faces i j k: i j k is a face, in any rotation
+-- HasSide faces u v: some face has the directed side from u to v
+-- turned, no_turn: a face is one in its next rotation; the empty list has none
+-- is_pair u v s t: 1 where the pair (s, t) is (u, v), and 0 else
+-- side_counts, side_found: a face with the side adds to the count of a pair; a face that adds to it
+--   has the side
+-- outer_counts: an outer edge adds to the count of its pair
+-- back_of_side, back_of_outer: the reverse of a side, and of an outer edge, is a side or an outer
+--   edge
 use Rattle.std.proofs.Common.{◌≡◌, ◌⊎◌, ℕ, List, [], refl, ap, ◌∙◌, subst, arith}
 use mathlib.Core.Logic.{inl, inr}
 use mathlib.Core.Bool.{Bool, true, false, ◌&&◌}
@@ -9,16 +16,13 @@ use lib.Dec.{eqb, eqb_refl}
 use borrow.Author.Tests.{eqb-true}
 use Rattle.std.specs.Prelude.{ℤ, pos, ◌+ℤ◌, ◌-ℤ◌, ◌≤ℤ◌, ◌<ℤ◌, neg_ℤ, Contains}
 use Rattle.std.proofs.lemmas.Int.{ints}
-use Rattle.plane.specs.Tiling.{Face, face}
-use Rattle.plane_theorems.specs.Tiling.Local.{total, around, along, IsAntisymmetric, AreBalanced}
-use Rattle.plane.proofs.IntegerOrder.{lt_or_ge_ℤ}
-use Rattle.plane_theorems.proofs.Tiling.Totals.{Contains-none, total_agree, total-difference}
-use Rattle.plane_theorems.proofs.Tiling.Totals.{total_at_least}
-use Rattle.plane_theorems.proofs.Tiling.Totals.{total_nonneg, total_positive}
-use Rattle.plane.proofs.Signs.{at_least_one_through, first_of_three_counts}
-use Rattle.plane.proofs.Signs.{second_of_three_counts, sum_of_three_not_negative}
-use Rattle.plane.proofs.Signs.{third_of_three_counts}
-pub use Rattle.plane.proofs.Crossings.{is_true}
+use Rattle.plane.specs.{Face, face}
+use Rattle.plane.proofs.{at_least_one_through, lt_or_ge_ℤ, sum_of_three_not_negative}
+use Rattle.plane.proofs.Signs.{first_of_three_counts, second_of_three_counts, third_of_three_counts}
+use Rattle.plane_theorems.specs.{along, AreBalanced, around, IsAntisymmetric, total}
+use Rattle.plane_theorems.proofs.Tiling.Totals.{Contains-none, total-difference, total_agree}
+use Rattle.plane_theorems.proofs.Tiling.Totals.{total_at_least, total_nonneg, total_positive}
+pub use Rattle.plane.proofs.{is_true}
 
 -- a truth value as a whole number: 1 where it holds, 0 where it fails
 abbrev pub bit : Bool → ℤ

@@ -6,20 +6,14 @@ use mathlib.Core.Logic.{inl, inr, ◌≢◌}
 use Rattle.std.specs.Prelude.{ℤ, pos, ◌<ℤ◌, ◌≤ℤ◌, Contains, AllPairs}
 use Rattle.std.proofs.lemmas.Int.{ints}
 use Rattle.std.proofs.lemmas.Bool.{cases_eq}
-use Rattle.plane.specs.Fraction.{Point, whole, WithinSegment}
-use Rattle.plane.specs.Pairs.{IsSamePair}
-use Rattle.plane.proofs.IntegerOrder.{trichotomy_ℤ, lt_or_ge_ℤ}
-use Rattle.plane.proofs.Steps.{negated_left}
-use Rattle.plane.proofs.Bracket.{Vec3, bracket, lift}
-use Rattle.plane.proofs.BracketIdentities.{bracket-turn, bracket-swap, bracket-outer, bracket-last}
-use Rattle.plane.proofs.Collinear.{place_on, place_of_start, place_of_end}
-use Rattle.plane.proofs.Generic.{AllDiffer, IsOneToOne, IsFresh, LieOnLine, distinct_with_next}
-use Rattle.plane.proofs.Generic.{not_on_line}
-use Rattle.plane_theorems.proofs.Tiling.Counting.{at, within_turned, same_place}
+use Rattle.plane.specs.{IsSamePair, Point, whole, WithinSegment}
+use Rattle.plane.proofs.{AllDiffer, below_or_last, bracket, bracket-last, bracket-outer}
+use Rattle.plane.proofs.{bracket-swap, bracket-turn, distinct_with_next, IsBetween, IsFresh}
+use Rattle.plane.proofs.{IsOneToOne, LieOnLine, lift, lt_or_ge_ℤ, negated_left, not_on_line}
+use Rattle.plane.proofs.{pair_turned, place_of_end, place_of_start, place_on, place_within}
+use Rattle.plane.proofs.{Signs.zero_is_not_positive, trichotomy_ℤ, Vec3, within_places}
+use Rattle.plane_theorems.proofs.Tiling.Counting.{at, same_place, within_turned}
 use Rattle.plane_theorems.proofs.Tiling.Edges as E
-use Rattle.plane.proofs.LineOrder.{IsBetween, place_within, within_places}
-use Rattle.plane.proofs.Signs.{zero_is_not_positive}
-use Rattle.plane.proofs.Indexes.{below_or_last, pair_turned}
 
 -- i and j have no other of the first n points strictly between them
 pub record Adjoin (n : ℕ) (p : ℕ → Point) (i j : ℕ) : Type 0 where

@@ -6,21 +6,15 @@ use Rattle.std.proofs.Common.{ℕ, zero, suc, List, length, refl, sym, subst, ar
 use mathlib.Core.Logic.{inl, inr, ◌≢◌}
 use Rattle.std.specs.Prelude.{ℤ, pos, ◌+ℤ◌, ◌≤ℤ◌, Contains, AllPairs}
 use Rattle.std.proofs.lemmas.Int.{ints}
-use Rattle.plane.specs.Fraction.{Point, whole, WithinSegment}
-use Rattle.plane.specs.Side.{side, on}
-use Rattle.plane.specs.Pairs.{IsSamePair, place, IsIndex}
-use Rattle.plane.specs.Location.{IsPast}
-use Rattle.plane.specs.Tiling.{AreNeighbours, JoinsLine}
-use Rattle.plane_theorems.specs.Tiling.Local.{total, along, alone, LineMesh, AreEdgesOf}
-use Rattle.plane.proofs.Sides.{on_if, if_on}
-use Rattle.plane.proofs.Bracket.{bracket, lift}
-use Rattle.plane.proofs.BracketIdentities.{bracket-last}
+use Rattle.plane.specs.{AreNeighbours, IsIndex, IsPast, IsSamePair, JoinsLine, on, place, Point}
+use Rattle.plane.specs.{side, whole, WithinSegment}
+use Rattle.plane.proofs.{bracket, bracket-last, if_on, lift, on_if}
+use Rattle.plane_theorems.specs.{alone, along, AreEdgesOf, LineMesh, total}
+use Rattle.plane_theorems.proofs.Tiling.Appended.{kept_point, last_point, length_appended}
+use Rattle.plane_theorems.proofs.Tiling.Flows.{HasSide, is_pair, no_turn}
+use Rattle.plane_theorems.proofs.{Tiling.Line.Adjoin, Tiling.Line.SignLine, Tiling.Tiles.point_at}
+use Rattle.plane_theorems.proofs.Tiling.Loops.{edge_of_outer, edges_once, listed_once, way_of_edge}
 use Rattle.plane_theorems.proofs.Tiling.Totals.{Contains-none}
-use Rattle.plane_theorems.proofs.Tiling.Flows.{is_pair, HasSide, no_turn}
-use Rattle.plane_theorems.proofs.Tiling.Loops.{way_of_edge, edge_of_outer, edges_once, listed_once}
-use Rattle.plane_theorems.proofs.Tiling.Tiles.{point_at}
-use Rattle.plane_theorems.proofs.Tiling.Appended.{length_appended, kept_point, last_point}
-use Rattle.plane_theorems.proofs.Tiling.Line.{SignLine, Adjoin}
 use Rattle.plane_theorems.proofs.Tiling.Line as L
 
 -- ---- the two readings

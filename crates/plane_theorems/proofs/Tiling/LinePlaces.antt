@@ -10,28 +10,21 @@ use mathlib.Core.Logic.{inl, inr, ◌≢◌}
 use Rattle.std.specs.Prelude.{ℤ, pos, ◌+ℤ◌, ◌-ℤ◌, ◌*ℤ◌, ◌<ℤ◌, ◌≤ℤ◌, neg_ℤ, Contains}
 use Rattle.std.proofs.lemmas.Int.{ints}
 use Rattle.std.proofs.lemmas.Bool.{cases_eq}
-use Rattle.plane.specs.Fraction.{Point, Fraction, whole, IsSame, WithinSegment}
-use Rattle.plane.specs.Pairs.{IsSamePair}
-use Rattle.plane.proofs.IntegerOrder.{trichotomy_ℤ, lt_or_ge_ℤ, mul-pos_ℤ, mul-neg_of_pos_neg_ℤ}
-use Rattle.plane.proofs.IntegerOrder.{pos_of_mul-pos_ℤ, pos-ne-zero_ℤ, mul_cancel_ℤ, zero-mul_ℤ}
-use Rattle.plane.proofs.Solver.{num, ◌⊕◌, ◌⊖◌, ◌⊗◌, ring_in}
-use Rattle.plane.proofs.Bracket.{bracket, vec}
-use Rattle.plane.proofs.BracketIdentities.{bracket-swap, bracket-outer}
-use Rattle.plane.proofs.Collinear.{place_on}
+use Rattle.plane.specs.{Fraction, IsSame, IsSamePair, Point, whole, WithinSegment}
+use Rattle.plane.proofs.{◌⊕◌, ◌⊖◌, ◌⊗◌, ahead, at_most_both_ways, below_and_not_below}
+use Rattle.plane.proofs.{below_or_last, bracket, bracket-outer, bracket-swap, IsOneToOne}
+use Rattle.plane.proofs.{left_not_zero, less_by_negative_difference, less_if_not_same}
+use Rattle.plane.proofs.{less_is_not_same, less_twice_is_not_same, lt_or_ge_ℤ, more_by_difference}
+use Rattle.plane.proofs.{mul-neg_of_pos_neg_ℤ, mul-pos_ℤ, mul_cancel_ℤ, negated_left, no_difference}
+use Rattle.plane.proofs.{num, place_on, pos-ne-zero_ℤ, pos_of_mul-pos_ℤ, ring_in}
+use Rattle.plane.proofs.{same_have_no_difference, same_if_level, same_is_at_most, same_is_not_less}
+use Rattle.plane.proofs.{trichotomy_ℤ, vec, within_if_ahead, zero-mul_ℤ}
+use Rattle.plane.proofs.LineOrder.{ahead_if_within, AreOneSign, level_if_same}
+use Rattle.plane.proofs.Signs.{at_most_then_less, less_by_negations, less_in_a_ring}
 use Rattle.plane_theorems.proofs.Tiling.Counting.{at, same_place}
 use Rattle.plane_theorems.proofs.Tiling.Edges.{turned_within, within_on}
-use Rattle.plane_theorems.proofs.Tiling.Places.{same_within, bracket_at, one_vertex_at}
-use Rattle.plane.proofs.Steps.{left_not_zero, negated_left, no_difference}
-use Rattle.plane.proofs.LineOrder.{ahead, AreOneSign, within_if_ahead, ahead_if_within}
-use Rattle.plane.proofs.LineOrder.{same_if_level, level_if_same}
-use Rattle.plane_theorems.proofs.Tiling.Line.{SignLine, Adjoin, next_turned, flat, back_way}
-use Rattle.plane.proofs.Signs.{at_most_both_ways, at_most_then_less, below_and_not_below}
-use Rattle.plane.proofs.Signs.{less_by_negations, less_by_negative_difference, less_if_not_same}
-use Rattle.plane.proofs.Signs.{less_in_a_ring, less_is_not_same, less_twice_is_not_same}
-use Rattle.plane.proofs.Signs.{more_by_difference, same_have_no_difference, same_is_at_most}
-use Rattle.plane.proofs.Signs.{same_is_not_less}
-use Rattle.plane.proofs.Indexes.{below_or_last}
-use Rattle.plane.proofs.Generic.{IsOneToOne}
+use Rattle.plane_theorems.proofs.Tiling.Line.{Adjoin, back_way, flat, next_turned, SignLine}
+use Rattle.plane_theorems.proofs.Tiling.Places.{bracket_at, one_vertex_at, same_within}
 
 -- ---- the greatest number below a bound
 -- k has the greatest number below t

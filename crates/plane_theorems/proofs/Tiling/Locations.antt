@@ -5,26 +5,22 @@ use Rattle.std.proofs.Common.{◌≡◌, ◌⊎◌, ℕ, ◌<◌, ◌≤◌, Lis
 use mathlib.Core.Logic.{inl, inr, ◌≢◌}
 use Rattle.std.specs.Prelude.{ℤ, ◌*ℤ◌, Contains}
 use Rattle.std.proofs.lemmas.Bool.{cases_lt}
-use Rattle.plane.proofs.IntegerOrder.{lt_or_ge_ℤ}
-use Rattle.plane.specs.Fraction.{Point, Fraction, IsSame}
-use Rattle.plane.specs.Tiling.{Triangulation, Face, IsEdge, vertex}
-use Rattle.plane.specs.Location.{Location, on_vertex, on_edge, on_face, outside_hull}
-use Rattle.plane.specs.Location.{no_triangulation, IsOuter, IsLocation}
-use Rattle.plane_theorems.specs.Tiling.Local.{LocalMesh, LineMesh, IsMesh, AreEdgesOf}
-use Rattle.plane_theorems.specs.Tiling.Laws.{EdgesMeetAtVertices, IsSameLocation, HasOneLocation}
-use Rattle.plane.proofs.Sides.{if_left, left_if}
-use Rattle.plane.proofs.Triangles.{inside_is_brackets}
+use Rattle.plane.specs.{Face, Fraction, IsEdge, IsLocation, IsOuter, IsSame, Location}
+use Rattle.plane.specs.{no_triangulation, on_edge, on_face, on_vertex, outside_hull, Point}
+use Rattle.plane.specs.{Triangulation, vertex}
+use Rattle.plane.proofs.{at_most_both_ways, if_left, inside_is_brackets, left_if, less_is_not_same}
+use Rattle.{plane.proofs.lt_or_ge_ℤ, plane_theorems.proofs.Tiling.LineMeshes.line_by_signs}
+use Rattle.plane_theorems.specs.{AreEdgesOf, EdgesMeetAtVertices, IsMesh, IsSameLocation, LineMesh}
+use Rattle.plane_theorems.specs.{LocalMesh, Tiling.Laws.HasOneLocation}
+use Rattle.plane_theorems.proofs.Tiling.Counting.{corners_differ, SignMesh}
 use Rattle.plane_theorems.proofs.Tiling.Flows.{HasSide, no_turn}
-use Rattle.plane_theorems.proofs.Tiling.Counting.{SignMesh, corners_differ}
+use Rattle.plane_theorems.proofs.Tiling.Line.{Adjoin, SignLine}
+use Rattle.plane_theorems.proofs.Tiling.Tiles.{by_signs, point_at}
 use Rattle.plane_theorems.proofs.Tiling.Covering as C
 use Rattle.plane_theorems.proofs.Tiling.Edges as E
-use Rattle.plane_theorems.proofs.Tiling.Tiles.{point_at, by_signs}
 use Rattle.plane_theorems.proofs.Tiling.Loops as L
 use Rattle.plane_theorems.proofs.Tiling.Places as P
-use Rattle.plane_theorems.proofs.Tiling.Line.{SignLine, Adjoin}
-use Rattle.plane_theorems.proofs.Tiling.LineMeshes.{line_by_signs}
 use Rattle.plane_theorems.proofs.Tiling.LinePlaces as O
-use Rattle.plane.proofs.Signs.{at_most_both_ways, less_is_not_same}
 
 -- ---- in the plane
 module _ (points : List Point) (faces : List Face) (outer edges : List (ℕ × ℕ))

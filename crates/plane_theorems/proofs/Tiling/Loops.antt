@@ -7,27 +7,21 @@ use Rattle.std.proofs.Common.{◌≡◌, ◌⊎◌, ◌↔◌, ℕ, ◌<◌, Lis
 use mathlib.Core.Logic.{inl, inr, ◌≢◌}
 use Rattle.std.specs.Prelude.{ℤ, pos, ◌+ℤ◌, ◌*ℤ◌, ◌≤ℤ◌, ◌<ℤ◌, Contains, AllPairs}
 use Rattle.std.proofs.lemmas.Int.{ints}
-use Rattle.plane.specs.Fraction.{Point}
-use Rattle.plane.specs.Pairs.{Joins, IsSamePair, EachPairOnce}
-use Rattle.plane.specs.Tiling.{Face, face, TilesHull}
-use Rattle.plane_theorems.specs.Tiling.Local.{total, around, along, LocalMesh, AreEdgesOf}
-use Rattle.plane.proofs.IntegerOrder.{zero-mul_ℤ, lt_or_ge_ℤ}
-use Rattle.plane.proofs.Steps.{drop_zero, drop_zero_last, left_not_below}
-use Rattle.plane_theorems.proofs.Tiling.Totals.{total_at_least, total_at_most_one, total_positive}
-use Rattle.plane_theorems.proofs.Tiling.Totals.{total_of_two, total_nonneg, get_or_any}
-use Rattle.plane.proofs.Bracket.{Vec3, bracket}
-use Rattle.plane.proofs.BracketIdentities.{bracket-turn, bracket-outer, bracket-last}
-use Rattle.plane.proofs.Nudges.{moved, bracket-moved}
-use Rattle.plane.proofs.Generic.{Inside, IsNudged, near}
-use Rattle.plane_theorems.proofs.Tiling.Flows.{is_pair, is_pair_nonneg, is_pair_is, is_pair_own}
-use Rattle.plane_theorems.proofs.Tiling.Flows.{pair_found}
-use Rattle.plane_theorems.proofs.Tiling.Flows.{around_nonneg, side_counts, outer_counts, side_found}
-use Rattle.plane_theorems.proofs.Tiling.Flows.{one_of_three, back_from_count, IsTurnOf, HasSide}
-use Rattle.plane_theorems.proofs.Tiling.Counting.{at, SignMesh, corners_differ}
-use Rattle.plane_theorems.proofs.Tiling.Covering as C
-use Rattle.plane_theorems.proofs.Tiling.Tiles.{by_signs, point_at, tiles}
-use Rattle.plane.proofs.Signs.{one_is_above_zero, sum_not_negative, sum_of_zeros}
 use lib.IntN.{+ℤ_comm}
+use Rattle.plane.specs.{EachPairOnce, Face, face, IsSamePair, Joins, Point, TilesHull}
+use Rattle.plane.proofs.{bracket, bracket-last, bracket-moved, bracket-outer, bracket-turn}
+use Rattle.plane.proofs.{drop_zero, drop_zero_last, Inside, IsNudged, left_not_below, lt_or_ge_ℤ}
+use Rattle.plane.proofs.{moved, near, one_is_above_zero, sum_not_negative, sum_of_zeros, Vec3}
+use Rattle.{plane.proofs.zero-mul_ℤ, plane_theorems.proofs.Tiling.Flows.side_found}
+use Rattle.plane_theorems.specs.{along, AreEdgesOf, around, LocalMesh, total}
+use Rattle.plane_theorems.proofs.Tiling.Counting.{at, corners_differ, SignMesh}
+use Rattle.plane_theorems.proofs.Tiling.Flows.{around_nonneg, back_from_count, HasSide, is_pair}
+use Rattle.plane_theorems.proofs.Tiling.Flows.{is_pair_is, is_pair_nonneg, is_pair_own, IsTurnOf}
+use Rattle.plane_theorems.proofs.Tiling.Flows.{one_of_three, outer_counts, pair_found, side_counts}
+use Rattle.plane_theorems.proofs.Tiling.Tiles.{by_signs, point_at, tiles}
+use Rattle.plane_theorems.proofs.Tiling.Totals.{get_or_any, total_at_least, total_at_most_one}
+use Rattle.plane_theorems.proofs.Tiling.Totals.{total_nonneg, total_of_two, total_positive}
+use Rattle.plane_theorems.proofs.Tiling.Covering as C
 
 -- a sum of three bits, of which no two are above 0, is 0 or 1
 pub sum_of_bits : (a b c : ℤ) → (a ≡ pos 0) ⊎ (a ≡ pos 1) → (b ≡ pos 0) ⊎ (b ≡ pos 1)

@@ -2,11 +2,9 @@
 -- Lemmas: meshes_tile.
 use Rattle.std.proofs.Common.{◌≡◌, ℕ, List, [], sym, subst}
 use mathlib.Core.Logic.{inl, inr}
-use Rattle.plane.specs.Fraction.{Point}
-use Rattle.plane.specs.Tiling.{Face, IsTiling}
-use Rattle.plane_theorems.specs.Tiling.Local.{IsMesh, LineMesh, AreEdgesOf}
-use Rattle.plane_theorems.proofs.Tiling.Loops.{mesh_tiles}
-use Rattle.plane_theorems.proofs.Tiling.LineMeshes.{joins_line}
+use Rattle.plane.specs.{Face, IsTiling, Point}
+use Rattle.plane_theorems.specs.{AreEdgesOf, IsMesh, LineMesh}
+use Rattle.plane_theorems.proofs.{Tiling.LineMeshes.joins_line, Tiling.Loops.mesh_tiles}
 
 on_line : (points : List Point) (faces : List Face) (outer edges : List (ℕ × ℕ)) → faces ≡ []
     → LineMesh points outer → AreEdgesOf faces outer edges

@@ -10,30 +10,22 @@ use Rattle.std.specs.Prelude.{ℤ, pos, ◌+ℤ◌, ◌*ℤ◌, ◌≤ℤ◌, �
 use Rattle.std.proofs.lemmas.Int.{ints}
 use Rattle.std.proofs.lemmas.Bool.{cases_eq}
 use lib.IntN.{*ℤ_comm}
-use Rattle.plane.specs.Fraction.{Point, Fraction, whole, IsSame, IsPositive, WithinSegment}
-use Rattle.plane.specs.Tiling.{Face, face}
-use Rattle.plane_theorems.specs.Tiling.Laws.{IsTurned}
-use Rattle.plane.proofs.Means.{two_weights, mean_of_two, bracket_of_two}
-use Rattle.plane.proofs.IntegerOrder.{mul-pos_ℤ, lt_or_ge_ℤ, mul_cancel_ℤ, pos-ne-zero_ℤ}
-use Rattle.plane.proofs.IntegerOrder.{mul-nonpos_of_nonneg_nonpos_ℤ, pos_of_mul-pos_ℤ, zero-mul_ℤ}
-use Rattle.plane.proofs.IntegerOrder.{zero_of_mul-zero_ℤ}
-use Rattle.plane.proofs.Steps.{left_not_zero, three_zero, drop_zero, drop_zero_last, zero_or_left}
-use Rattle.plane.proofs.Steps.{sum_first_two, sum_second, product_zero_left, weak, left_not_below}
-use Rattle.plane.proofs.Steps.{not_left_of_product}
-use Rattle.plane_theorems.proofs.Tiling.Totals.{Contains-head, Contains-later, Contains-cases}
-use Rattle.plane_theorems.proofs.Tiling.Totals.{Contains-none}
-use Rattle.plane.proofs.Solver.{num, ◌⊖◌, ◌⊗◌, ring_in_from}
-use Rattle.plane.proofs.Bracket.{bracket, Vec3, bracketᵖ, lift, vec}
-use Rattle.plane.proofs.BracketIdentities.{bracket-swap, bracket-turn, bracket-sum, cramer_x}
-use Rattle.plane.proofs.BracketIdentities.{cramer_y, cramer_w, bracket-outer, bracket-last}
-use Rattle.plane.proofs.Generic.{AllDiffer, Inside, near}
-use Rattle.plane_theorems.proofs.Tiling.Flows.{IsTurnOf, HasSide, turned}
-use Rattle.plane_theorems.proofs.Tiling.Counting.{at, SignMesh, corners_differ, same_index}
+use Rattle.plane.specs.{Face, face, Fraction, IsPositive, IsSame, Point, whole, WithinSegment}
+use Rattle.plane.proofs.{◌⊖◌, ◌⊗◌, AllDiffer, bracket, bracket-last, bracket-outer, bracket-sum}
+use Rattle.plane.proofs.{bracket-swap, bracket-turn, bracket_of_two, bracketᵖ, cramer_w, cramer_x}
+use Rattle.plane.proofs.{cramer_y, drop_zero, drop_zero_last, Inside, left_not_below, left_not_zero}
+use Rattle.plane.proofs.{lift, lt_or_ge_ℤ, mean_of_two, mul-nonpos_of_nonneg_nonpos_ℤ, mul-pos_ℤ}
+use Rattle.plane.proofs.{mul_cancel_ℤ, near, not_left_of_product, num, pos-ne-zero_ℤ}
+use Rattle.plane.proofs.{pos_of_mul-pos_ℤ, product_zero_left, ring_in_from, sum_first_two}
+use Rattle.plane.proofs.{sum_not_positive, turns_of_one, two_weights, vec, Vec3, weak, zero-mul_ℤ}
+use Rattle.plane.proofs.{Steps.sum_second, Steps.three_zero, zero_of_mul-zero_ℤ, zero_or_left}
+use Rattle.plane_theorems.specs.{IsTurned}
+use Rattle.plane_theorems.proofs.Tiling.Counting.{at, corners_differ, same_index, SignMesh}
+use Rattle.plane_theorems.proofs.{Tiling.Covering.next_corner, Tiling.Totals.Contains-none}
+use Rattle.plane_theorems.proofs.Tiling.Flows.{HasSide, IsTurnOf, turned}
+use Rattle.plane_theorems.proofs.Tiling.Totals.{Contains-cases, Contains-head, Contains-later}
 use Rattle.plane_theorems.proofs.Tiling.Covering as C
 use Rattle.plane_theorems.proofs.Tiling.Edges as E
-use Rattle.plane_theorems.proofs.Tiling.Covering.{next_corner}
-use Rattle.plane.proofs.Signs.{sum_not_positive}
-use Rattle.plane.proofs.Indexes.{turns_of_one}
 
 -- y is on two sides of a triangle: at their corner
 record IsAtCorner (j : Point) (q : Fraction) : Type 0 where

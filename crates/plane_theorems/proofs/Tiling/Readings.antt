@@ -3,16 +3,11 @@
 use Rattle.std.proofs.Common.{◌≡◌, ◌<◌, [], ◌∙◌, ℕ, List, length, sym, subst}
 use mathlib.Core.Logic.{◌≢◌}
 use Rattle.std.specs.Prelude.{pos, ◌≤ℤ◌, ◌<ℤ◌, Contains}
-use Rattle.plane.specs.Fraction.{Point, whole, WithinSegment}
-use Rattle.plane.specs.Pairs.{place}
-use Rattle.plane.specs.Tiling.{Face}
-use Rattle.plane_theorems.specs.Tiling.Local.{LocalMesh}
-use Rattle.plane.proofs.Sides.{if_left, left_if}
-use Rattle.plane.proofs.Steps.{left_not_below}
-use Rattle.plane_theorems.proofs.Tiling.Totals.{Contains-none}
-use Rattle.plane.proofs.Bracket.{bracket, lift}
+use Rattle.plane.specs.{Face, place, Point, whole, WithinSegment}
+use Rattle.plane.proofs.{bracket, if_left, left_if, left_not_below, lift}
+use Rattle.plane_theorems.specs.{LocalMesh}
 use Rattle.plane_theorems.proofs.Tiling.Counting.{at, SignMesh}
-use Rattle.plane_theorems.proofs.Tiling.Tiles.{point_at}
+use Rattle.plane_theorems.proofs.{Tiling.Tiles.point_at, Tiling.Totals.Contains-none}
 
 -- from signs back to the words of specs/
 pub by_words : (points : List Point) (faces : List Face) (outer : List (ℕ × ℕ))

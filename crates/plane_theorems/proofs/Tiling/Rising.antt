@@ -12,19 +12,14 @@ use borrow.Author.Tests.{eqb-true}
 use Rattle.std.specs.Prelude.{ℤ, pos, ◌+ℤ◌, ◌<ℤ◌, ◌≤ℤ◌, int_lt, Contains, AllPairs}
 use Rattle.std.proofs.lemmas.Int.{ints}
 use Rattle.std.proofs.lemmas.Bool.{cases_eq, cases_lt}
-use Rattle.plane.specs.Tiling.{Face}
-use Rattle.plane_theorems.specs.Tiling.Local.{total, around, along, AreEdgesOf}
-use Rattle.plane.proofs.IntegerOrder.{lt_or_ge_ℤ}
+use Rattle.plane.proofs.{at_most_both_ways, below_and_not_below, below_or_last, is_true}
+use Rattle.plane.proofs.{less_both_ways, less_by_test, lt_or_ge_ℤ, one_is_above_zero}
+use Rattle.{plane.proofs.same_is_at_most, plane.proofs.test_true, plane.specs.Face}
+use Rattle.plane.proofs.Signs.{at_most_then_less, less_in_a_ring, same_plus_zero, zero_plus_same}
+use Rattle.plane_theorems.specs.{along, AreEdgesOf, around, total}
 use Rattle.plane_theorems.proofs.Tiling.Flows.{bit, bit_is, bit_nonneg}
-use Rattle.plane_theorems.proofs.Tiling.Totals.{total_at_least, total_at_most_one, get_or_any}
-use Rattle.plane_theorems.proofs.Tiling.Totals.{total_agree}
-use Rattle.plane_theorems.proofs.Tiling.Totals.{total-sum, total_exchanged}
-use Rattle.plane.proofs.Signs.{below_and_not_below, one_is_above_zero, at_most_both_ways}
-use Rattle.plane.proofs.Signs.{at_most_then_less, less_both_ways, less_in_a_ring, same_is_at_most}
-use Rattle.plane.proofs.Signs.{same_plus_zero, zero_plus_same}
-use Rattle.plane.proofs.Sides.{test_true, less_by_test}
-use Rattle.plane.proofs.Indexes.{below_or_last}
-use Rattle.plane.proofs.Crossings.{is_true}
+use Rattle.plane_theorems.proofs.Tiling.Totals.{get_or_any, total-sum, total_agree, total_at_least}
+use Rattle.plane_theorems.proofs.Tiling.Totals.{total_at_most_one, total_exchanged}
 
 -- ---- the greatest of some numbers
 -- of finitely many numbers one is the greatest

@@ -4,8 +4,8 @@
 use Rattle.std.proofs.Common.{◌≡◌, [], ◌∷◌, arith}
 use Rattle.std.specs.Prelude.{ℤ, pos, negsuc, ◌+ℤ◌, ◌-ℤ◌, ◌*ℤ◌, ◌≤ℤ◌, ◌<ℤ◌, neg_ℤ}
 use Rattle.std.proofs.lemmas.Int.{ints}
+use Rattle.plane.proofs.{◌⊕◌, ◌⊖◌, ◌⊗◌, num, ring_in_from, ⊝}
 use Rattle.plane.proofs.IntegerLaws.{mul-add_ℤ}
-use Rattle.plane.proofs.Solver.{num, ◌⊕◌, ◌⊖◌, ◌⊗◌, ⊝, ring_in_from}
 
 -- where a + b + c is above 0, it is so in another order
 pub sum_is_positive : (s a b c : ℤ) → s ≡ a *ℤ pos 1 +ℤ b *ℤ pos 1 +ℤ c *ℤ pos 1 → pos 0 <ℤ s

@@ -10,40 +10,32 @@ use borrow.Author.Tests.{eqb-true}
 use Rattle.std.specs.Prelude.{ℤ, pos, ◌+ℤ◌, ◌-ℤ◌, ◌*ℤ◌, ◌<ℤ◌, ◌≤ℤ◌, neg_ℤ, Contains}
 use Rattle.std.proofs.lemmas.Int.{ints}
 use Rattle.std.proofs.lemmas.Bool.{cases_eq}
-use Rattle.plane.specs.Fraction.{Point, whole, IsPositive}
-use Rattle.plane.specs.Tiling.{Face, face}
-use Rattle.plane_theorems.specs.Tiling.Local.{total}
-use Rattle.plane.proofs.IntegerOrder.{lt_or_ge_ℤ, mul-pos_ℤ, mul-nonpos_of_nonneg_nonpos_ℤ}
-use Rattle.plane.proofs.IntegerOrder.{zero-mul_ℤ, pos_of_mul-pos_ℤ}
-use Rattle.plane.proofs.Steps.{no_difference, weak, weak_right, negated_right, negated_below}
-use Rattle.plane.proofs.Steps.{between_zero, left_not_below, left_not_zero, not_left_of_product}
-use Rattle.plane.proofs.Steps.{zero_weak}
-use Rattle.plane.proofs.Nudges.{Nudged, nudged_zero, nudged_not_left, nudge_pairs, moved}
-use Rattle.plane.proofs.Nudges.{bracket-moved}
-use Rattle.plane.proofs.Solver.{num, ◌⊕◌, ◌⊖◌, ◌⊗◌, ⊝, ring_in, ring_in_from}
-use Rattle.plane.proofs.Means.{mean_of_two}
-use Rattle.plane.proofs.Bracket.{Vec3, bracket, bracketᵖ, lift}
-use Rattle.plane.proofs.BracketIdentities.{bracket-turn, bracket-swap, bracket-outer, bracket-last}
-use Rattle.plane.proofs.BracketIdentities.{cramer, pluecker, passing_x, passing_y, passing_w}
-use Rattle.plane.proofs.Generic.{AllDiffer, Inside, IsNudged, near}
-use Rattle.plane_theorems.proofs.Tiling.Flows.{bit, bit_is, bit_nonneg, one_of_three, IsTurnOf}
-use Rattle.plane_theorems.proofs.Tiling.Flows.{HasSide}
-use Rattle.plane_theorems.proofs.Tiling.Flows.{turned}
-use Rattle.plane_theorems.proofs.Tiling.Totals.{total_at_most_one, total_at_least, total_nonneg}
-use Rattle.plane_theorems.proofs.Tiling.Totals.{total_positive, all_none, get_or_any}
-use Rattle.plane_theorems.proofs.Tiling.Counting.{at, SignMesh, corners_differ}
+use Rattle.plane.specs.{Face, face, IsPositive, Point, whole}
+use Rattle.plane.proofs.{◌⊕◌, ◌⊖◌, ◌⊗◌, AllDiffer, at_least_one_through, below_and_not_below}
+use Rattle.plane.proofs.{between_zero, bracket, bracket-last, bracket-moved, bracket-outer}
+use Rattle.plane.proofs.{bracket-swap, bracket-turn, bracketᵖ, cramer, Inside, IsNudged}
+use Rattle.plane.proofs.{left_not_below, left_not_zero, less_by_test, less_if_not_same, lift}
+use Rattle.plane.proofs.{lt_or_ge_ℤ, mean_of_two, moved, mul-nonpos_of_nonneg_nonpos_ℤ, mul-pos_ℤ}
+use Rattle.plane.proofs.{near, negated_below, negated_right, no_difference, not_left_of_product}
+use Rattle.plane.proofs.{num, one_is_above_zero, pluecker, pos_of_mul-pos_ℤ, ring_in, ring_in_from}
+use Rattle.plane.proofs.{same_if_neither_less, sum_not_positive, sum_of_three_not_negative}
+use Rattle.plane.proofs.{sum_of_zeros, test_true, Vec3, weak, weak_right, zero-mul_ℤ, zero_weak, ⊝}
+use Rattle.plane.proofs.BracketIdentities.{passing_w, passing_x, passing_y}
+use Rattle.plane.proofs.Nudges.{nudge_pairs, Nudged, nudged_not_left, nudged_zero}
+use Rattle.plane.proofs.Signs.{first_of_three_counts, named_difference_is_positive}
+use Rattle.plane.proofs.Signs.{second_of_three_counts, third_of_three_counts}
+use Rattle.plane_theorems.specs.{total}
+use Rattle.plane_theorems.proofs.Tiling.Counting.{at, corners_differ, SignMesh}
+use Rattle.plane_theorems.proofs.Tiling.Flows.{bit, bit_is, bit_nonneg, HasSide, IsTurnOf}
+use Rattle.plane_theorems.proofs.Tiling.Flows.{one_of_three, turned}
+use Rattle.plane_theorems.proofs.Tiling.Loops.{IsFaceOn, sum_of_bits}
+use Rattle.plane_theorems.proofs.Tiling.Rising.{begins_at, count_at, equal, leaves, leaves_counted}
+use Rattle.plane_theorems.proofs.Tiling.Rising.{leaves_found, leaves_nonneg, rises_nowhere}
+use Rattle.plane_theorems.proofs.Tiling.Rising.{rises_once, up}
+use Rattle.plane_theorems.proofs.Tiling.Totals.{all_none, get_or_any, total_at_least}
+use Rattle.plane_theorems.proofs.Tiling.Totals.{total_at_most_one, total_nonneg, total_positive}
 use Rattle.plane_theorems.proofs.Tiling.Covering as C
 use Rattle.plane_theorems.proofs.Tiling.Loops as L
-use Rattle.plane_theorems.proofs.Tiling.Loops.{sum_of_bits, IsFaceOn}
-use Rattle.plane_theorems.proofs.Tiling.Rising.{up, begins_at, leaves, count_at, leaves_found}
-use Rattle.plane_theorems.proofs.Tiling.Rising.{leaves_nonneg}
-use Rattle.plane_theorems.proofs.Tiling.Rising.{leaves_counted, rises_once, rises_nowhere, equal}
-use Rattle.plane.proofs.Signs.{at_least_one_through, below_and_not_below, first_of_three_counts}
-use Rattle.plane.proofs.Signs.{less_if_not_same, second_of_three_counts, sum_not_positive}
-use Rattle.plane.proofs.Signs.{sum_of_three_not_negative, sum_of_zeros, third_of_three_counts}
-use Rattle.plane.proofs.Signs.{same_if_neither_less, one_is_above_zero}
-use Rattle.plane.proofs.Signs.{named_difference_is_positive}
-use Rattle.plane.proofs.Sides.{test_true, less_by_test}
 
 -- a way that no two vertices share, far to the left of the way up
 pub record IsSweep (n : ℕ) (p : ℕ → Point) (way : Vec3) (height : ℕ → ℤ) : Type 0 where

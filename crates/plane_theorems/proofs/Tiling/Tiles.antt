@@ -1,27 +1,24 @@
 -- A local mesh tiles the hull of its points.
--- Notions: point_at; bracket_not_left, by_signs, inside_signs, in_signs, signs_in, tiles.
+-- point_at points i: the point with index i; (0, 0) past the end of the list
+-- by_signs: `LocalMesh` gives `SignMesh`
+-- bracket_not_left: where three points do not turn left, their bracket is not positive
+-- inside_signs, in_signs, signs_in: the inside of a triangle, and the closed triangle, by brackets
+-- tiles: the faces of a local mesh tile the hull, with any edges that are their sides, each once
 use Rattle.std.proofs.Common.{◌≡◌, ◌⊎◌, ◌↔◌, ◌<◌, [], ◌∷◌, ◌∙◌}
 use Rattle.std.proofs.Common.{ℕ, List, length, map, get_or, refl, sym, subst, arith}
 use mathlib.Core.Logic.{inl, inr, ◌≢◌}
 use Rattle.std.specs.Prelude.{ℤ, pos, ◌+ℤ◌, ◌*ℤ◌, ◌≤ℤ◌, ◌<ℤ◌, Contains, All}
 use Rattle.std.proofs.lemmas.List.Elements.{All-head, All-tail}
-use Rattle.plane.specs.Fraction.{Point, Fraction, whole, IsNotNegative, InHull, InTriangle}
-use Rattle.plane.specs.Fraction.{InsideTriangle, weighted_sum}
-use Rattle.plane.specs.Side.{TurnsLeft}
-use Rattle.plane.specs.Pairs.{Joins, EachPairOnce, place}
-use Rattle.plane.specs.Tiling.{Face, HasFace, TilesHull}
-use Rattle.plane_theorems.specs.Tiling.Local.{LocalMesh}
-use Rattle.plane.proofs.Sides.{if_left, left_if}
-use Rattle.plane.proofs.Triangles.{inside_is_brackets, in_is_brackets}
-use Rattle.plane.proofs.IntegerOrder.{mul-nonpos_of_nonneg_nonpos_ℤ, lt_or_ge_ℤ}
-use Rattle.plane.proofs.Steps.{not_left_of_product}
-use Rattle.plane_theorems.proofs.Tiling.Totals.{Contains-head, Contains-later, get_or_any}
-use Rattle.plane.proofs.Solver.{num, ◌⊕◌, ◌⊖◌, ◌⊗◌, ring_in, ring_in_from}
-use Rattle.plane.proofs.Bracket.{Vec3, bracket, bracketᵖ, lift, vec}
-use Rattle.plane.proofs.Generic.{Inside}
+use Rattle.plane.specs.{EachPairOnce, Face, Fraction, HasFace, InHull, InsideTriangle, InTriangle}
+use Rattle.plane.specs.{IsNotNegative, Joins, place, Point, TilesHull, TurnsLeft, weighted_sum}
+use Rattle.{plane.specs.whole, plane_theorems.specs.LocalMesh}
+use Rattle.plane.proofs.{◌⊕◌, ◌⊖◌, ◌⊗◌, bracket, bracketᵖ, if_left, Inside, inside_is_brackets}
+use Rattle.plane.proofs.{left_if, lift, lt_or_ge_ℤ, mul-nonpos_of_nonneg_nonpos_ℤ}
+use Rattle.plane.proofs.{not_left_of_product, num, ring_in, ring_in_from, sum_not_positive, vec}
+use Rattle.plane.proofs.{Signs.zero_is_not_positive, Triangles.in_is_brackets, Vec3}
 use Rattle.plane_theorems.proofs.Tiling.Counting.{at, SignMesh}
+use Rattle.plane_theorems.proofs.Tiling.Totals.{Contains-head, Contains-later, get_or_any}
 use Rattle.plane_theorems.proofs.Tiling.Covering as C
-use Rattle.plane.proofs.Signs.{sum_not_positive, zero_is_not_positive}
 
 -- the point of an index
 abbrev pub point_at : List Point → ℕ → Point

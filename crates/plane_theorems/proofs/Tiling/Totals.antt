@@ -1,15 +1,20 @@
 -- Sums over a list: of equal terms, of terms that are 0 or 1, of one term that is not 0.
--- Notions: Contains-head, Contains-later, Contains-cases, Contains-none; get_or_any, total_agree,
--- total-difference, total-sum, total_nonneg, total_at_least, total_positive, total_reached,
--- total_twice, total_of_two, total_at_most_one, all_none, total_single, total_exchanged.
+-- Contains-none, Contains-head, Contains-later: which entries the empty list has, and a longer list
+-- Contains-cases: an entry is the first or in the rest
+-- get_or_any: an entry within a list does not depend on the value for indexes past its end
+-- total_nonneg: a sum of terms that are not negative is not negative
+-- total_at_least: one of such terms is at most their sum
+-- total_positive: a positive sum has a positive term
+-- total_at_most_one, total_twice: a sum of terms 0 or 1 is at most 1 where no two are 1; two terms
+--   of 1 make it at least 2
+-- total_agree: sums of terms that agree on the list are equal
 use Rattle.std.proofs.Common.{◌≡◌, ◌⊎◌, ◌<◌, [], ◌∷◌, ◌∙◌}
 use Rattle.std.proofs.Common.{ℕ, zero, suc, List, length, get_or, refl, sym, ap, arith}
 use mathlib.Core.Logic.{inl, inr, ◌≢◌}
 use Rattle.std.specs.Prelude.{ℤ, pos, ◌+ℤ◌, ◌-ℤ◌, ◌≤ℤ◌, ◌<ℤ◌, Contains, AllPairs}
 use Rattle.std.proofs.lemmas.Int.{ints}
-use Rattle.plane_theorems.specs.Tiling.Local.{total}
-use Rattle.plane.proofs.IntegerOrder.{lt_or_ge_ℤ}
-use Rattle.plane.proofs.Signs.{same_plus_zero, sum_not_negative, zero_plus_same}
+use Rattle.plane.proofs.{lt_or_ge_ℤ, Signs.same_plus_zero, Signs.zero_plus_same, sum_not_negative}
+use Rattle.plane_theorems.specs.{total}
 
 sums_apart : (a b c d s t u : ℤ) → s ≡ t -ℤ u → (a -ℤ b) +ℤ s ≡ (a +ℤ t) -ℤ (b +ℤ u)
 sums_apart a b c d s t u e = omega (arith, ints)

@@ -1,24 +1,24 @@
-use Rattle.plane_theorems.proofs.Edits.LocalMesh.Kept.{inside_face_kept, within_side_kept}
-use Rattle.plane_theorems.proofs.Edits.LocalMesh.Kept.{within_outer_kept, flip_kept}
+use Rattle.plane_theorems.proofs.Edits.Legalization.FlipHistory.{flip_touches_one_edge}
+use Rattle.plane_theorems.proofs.Edits.Legalization.FlipHistory.{flipped_stays_away}
+use Rattle.plane_theorems.proofs.Edits.Legalization.FlipHistory.{flips_are_bounded}
+use Rattle.plane_theorems.proofs.Edits.Legalization.FlipHistory.{what_stands_was_not_touched}
+use Rattle.plane_theorems.proofs.Edits.LocalMesh.Kept.{flip_kept, inside_face_kept}
+use Rattle.plane_theorems.proofs.Edits.LocalMesh.Kept.{within_outer_kept, within_side_kept}
+use Rattle.plane_theorems.proofs.Edits.Removal.HullVertex.{corner_goes, corner_leaves_line}
+use Rattle.plane_theorems.proofs.Edits.Removal.HullVertex.{corner_or_flat, corner_star_flips}
+use Rattle.plane_theorems.proofs.Edits.Removal.HullVertex.{flat_side_closes, flat_star_flips}
+use Rattle.plane_theorems.proofs.Edits.Removal.InnerVertex.{four_faces_merge, inner_star_flips}
+use Rattle.plane_theorems.proofs.Edits.Removal.InnerVertex.{three_faces_merge}
+use Rattle.plane_theorems.proofs.Edits.Removal.OnLine.{end_of_line_goes, middle_of_line_goes}
+use Rattle.plane_theorems.proofs.Edits.Removal.Renumbering.{last_takes_freed_index}
+use Rattle.plane_theorems.proofs.Edits.Removal.Renumbering.{last_takes_freed_index_on_line}
+use Rattle.plane_theorems.proofs.Edits.Removal.StarFlips.{hull_star_shrinks, hull_stars_agree}
+use Rattle.plane_theorems.proofs.Edits.Removal.StarFlips.{inner_star_shrinks, stars_agree}
 use Rattle.plane_theorems.proofs.Edits.LocalMesh.Kept as Kept
 use Rattle.plane_theorems.proofs.Edits.Insertion.Growing as Growing
 use Rattle.plane_theorems.proofs.Edits.Legalization.Flipping as Flipping
 use Rattle.plane_theorems.proofs.Edits.Insertion.OnLine as OnLine
 use Rattle.plane_theorems.proofs.Edits.Legalization.Away as Away
-use Rattle.plane_theorems.proofs.Edits.Removal.InnerVertex.{inner_star_flips, three_faces_merge}
-use Rattle.plane_theorems.proofs.Edits.Removal.InnerVertex.{four_faces_merge}
-use Rattle.plane_theorems.proofs.Edits.Removal.Renumbering.{last_takes_freed_index}
-use Rattle.plane_theorems.proofs.Edits.Removal.Renumbering.{last_takes_freed_index_on_line}
-use Rattle.plane_theorems.proofs.Edits.Removal.OnLine.{end_of_line_goes, middle_of_line_goes}
-use Rattle.plane_theorems.proofs.Edits.Removal.HullVertex.{flat_star_flips, corner_star_flips}
-use Rattle.plane_theorems.proofs.Edits.Removal.HullVertex.{corner_goes, flat_side_closes}
-use Rattle.plane_theorems.proofs.Edits.Removal.HullVertex.{corner_leaves_line, corner_or_flat}
-use Rattle.plane_theorems.proofs.Edits.Legalization.FlipHistory.{flip_touches_one_edge}
-use Rattle.plane_theorems.proofs.Edits.Legalization.FlipHistory.{flipped_stays_away}
-use Rattle.plane_theorems.proofs.Edits.Legalization.FlipHistory.{what_stands_was_not_touched}
-use Rattle.plane_theorems.proofs.Edits.Legalization.FlipHistory.{flips_are_bounded}
-use Rattle.plane_theorems.proofs.Edits.Removal.StarFlips.{inner_star_shrinks, hull_star_shrinks}
-use Rattle.plane_theorems.proofs.Edits.Removal.StarFlips.{stars_agree, hull_stars_agree}
 use Rattle.plane_theorems.proofs.edits_hold.Goals as goal
 
 pub returns : goal.returns

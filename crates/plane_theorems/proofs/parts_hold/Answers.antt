@@ -1,6 +1,5 @@
+use Rattle.plane_theorems.proofs.{Parts.Around.part_knows_faces, Parts.Behind.beyond_side_is_hidden}
 use Rattle.plane_theorems.proofs.Parts.Known.{part_face_is_seen, part_faces_tie}
-use Rattle.plane_theorems.proofs.Parts.Around.{part_knows_faces}
-use Rattle.plane_theorems.proofs.Parts.Behind.{beyond_side_is_hidden}
 use Rattle.plane_theorems.proofs.parts_hold.Goals as goal
 
 pub returns : goal.returns

@@ -1,3 +1,7 @@
+use Rattle.plane_theorems.proofs.Segments.Constraints.RemovalKeeps.{removal_keeps_constraints}
+use Rattle.plane_theorems.proofs.Segments.Crossing.PathFlips.{path_flip_keeps_constraints}
+use Rattle.plane_theorems.proofs.Segments.Crossing.PathFlips.{subconstraint_is_free}
+use Rattle.plane_theorems.proofs.Segments.Crossing.PathFlips.{subconstraint_on_line_is_edge}
 use Rattle.plane_theorems.proofs.Segments.Walking.Steps as Steps
 use Rattle.plane_theorems.proofs.Segments.Walking.OneLine as OneLine
 use Rattle.plane_theorems.proofs.Segments.Walking.WalkSteps as WalkSteps
@@ -12,12 +16,9 @@ use Rattle.plane_theorems.proofs.Segments.Crossing.EitherWay as EitherWay
 use Rattle.plane_theorems.proofs.Segments.Crossing.Chosen as Chosen
 use Rattle.plane_theorems.proofs.Segments.Crossing.Order as Order
 use Rattle.plane_theorems.proofs.Segments.Constraints.Splits as Splits
-use Rattle.plane_theorems.proofs.Segments.Constraints.Pieces as Pieces
+use Rattle.plane_theorems.proofs.Segments.Constraints.Subconstraints as Subconstraints
 use Rattle.plane_theorems.proofs.Segments.Constraints.Whole as Whole
 use Rattle.plane_theorems.proofs.Segments.Constraints.Shorter as Shorter
-use Rattle.plane_theorems.proofs.Segments.Crossing.PathFlips.{path_flip_keeps_constraints}
-use Rattle.plane_theorems.proofs.Segments.Crossing.PathFlips.{piece_is_free, piece_on_line_is_edge}
-use Rattle.plane_theorems.proofs.Segments.Constraints.RemovalKeeps.{removal_keeps_constraints}
 use Rattle.plane_theorems.proofs.segments_hold.Goals as goal
 
 pub returns : goal.returns
@@ -54,13 +55,13 @@ returns c = record {
   last_has_none_after = Order.last_has_none_after;
   split_is_append = Splits.split_is_append;
   straight_halves_join = Splits.straight_halves_join;
-  path_begins = Pieces.path_begins;
-  path_goes_on = Pieces.path_goes_on;
-  path_ends = Pieces.path_ends;
-  piece_crosses_whole = Whole.piece_crosses_whole;
+  path_begins = Subconstraints.path_begins;
+  path_goes_on = Subconstraints.path_goes_on;
+  path_ends = Subconstraints.path_ends;
+  subconstraint_crosses_whole = Whole.subconstraint_crosses_whole;
   path_shortens = Shorter.path_shortens;
   path_flip_keeps_constraints = path_flip_keeps_constraints;
-  piece_is_free = piece_is_free;
-  piece_on_line_is_edge = piece_on_line_is_edge;
+  subconstraint_is_free = subconstraint_is_free;
+  subconstraint_on_line_is_edge = subconstraint_on_line_is_edge;
   removal_keeps_constraints = removal_keeps_constraints;
 }

@@ -1,9 +1,8 @@
 -- Cells: what the faces with their corners on one circle cover. And a part of the vertices, with a
 -- triangulation of its own.
 use Rattle.std.specs.Prelude.{◌≡◌, ◌⊎◌, ◌↔◌, ℕ, List, Contains}
-use Rattle.plane.specs.Fraction.{Point, Fraction, whole}
-use Rattle.plane.specs.Circle.{InsideCircle, OnCircle}
-use Rattle.plane.specs.Tiling.{Triangulation, IsVertex, vertex, IsFace, InCorners}
+use Rattle.plane.specs.{Fraction, InCorners, InsideCircle, IsFace, IsVertex, OnCircle, Point}
+use Rattle.plane.specs.{Triangulation, vertex, whole}
 
 -- the circle of a b c carries the three vertices
 abbrev pub AreOnCircle : Triangulation → Fraction → Fraction → Fraction → ℕ → ℕ → ℕ → Type 0

@@ -1,8 +1,7 @@
 -- Whether a closed edge has a point of a closed circle or rectangle, told by products and sides of
 -- whole points.
 use Rattle.std.specs.Prelude.{◌≡◌, ◌⊎◌, ℤ, pos, ◌+ℤ◌, ◌-ℤ◌, ◌*ℤ◌, ◌<ℤ◌, ◌≤ℤ◌}
-use Rattle.plane.specs.Fraction.{Point, Fraction, whole, OnSegment}
-use Rattle.plane.specs.Side.{Side, side, left, right}
+use Rattle.plane.specs.{Fraction, left, OnSegment, Point, right, Side, side, whole}
 
 -- the squared distance of p and q
 abbrev pub distance_2 : Point → Point → ℤ

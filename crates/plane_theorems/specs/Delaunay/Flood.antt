@@ -1,12 +1,9 @@
 -- A flood through the faces of a tiling: from the edges found, to each edge that shares a face with
 -- one of them and is in the region too.
 use Rattle.std.specs.Prelude.{◌≡◌, ◌⊎◌, ℕ, ℤ, List}
-use Rattle.plane.specs.Fraction.{Point, Fraction}
-use Rattle.plane.specs.Pairs.{Joins, IsSamePair}
-use Rattle.plane.specs.Tiling.{Triangulation, IsEdge, IsFace, TilesHull, JoinsLine}
-use Rattle.plane.specs.Location.{Location, on_vertex, on_edge, on_face, outside_hull}
-use Rattle.plane.specs.Location.{no_triangulation, IsOuter}
-use Rattle.plane.specs.Shape.{InClosedCircle, InClosedRectangle, IsEdgeIn}
+use Rattle.plane.specs.{Fraction, InClosedCircle, InClosedRectangle, IsEdge, IsEdgeIn, IsFace}
+use Rattle.plane.specs.{IsOuter, IsSamePair, Joins, JoinsLine, Location, no_triangulation, on_edge}
+use Rattle.plane.specs.{on_face, on_vertex, outside_hull, Point, TilesHull, Triangulation}
 
 -- a closed circle, by its centre and its squared radius, or a closed rectangle, by two corners
 pub data Region : Type 0 where

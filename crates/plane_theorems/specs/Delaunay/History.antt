@@ -1,12 +1,9 @@
 -- Triangulations of one plain state with different histories: the same vertices and constraints by
 -- position, under whatever indexes.
 use Rattle.std.specs.Prelude.{◌≡◌, ◌≢◌, ℕ, List}
-use Rattle.plane.specs.Fraction.{Fraction, InsideTriangle, OnSegment}
-use Rattle.plane.specs.Side.{TurnsLeft}
-use Rattle.plane.specs.Circle.{AreEquallyFar, IsCentre, InsideCircle, OnCircle}
-use Rattle.plane.specs.Pairs.{Joins}
-use Rattle.plane.specs.Tiling.{Triangulation, IsVertex, IsFace, vertex, InsideCorners}
-use Rattle.plane.specs.Delaunay.{IsSeen, IsConstrainedDelaunay}
+use Rattle.plane.specs.{AreEquallyFar, Fraction, InsideCircle, InsideCorners, InsideTriangle}
+use Rattle.plane.specs.{IsCentre, IsConstrainedDelaunay, IsFace, IsSeen, IsVertex, Joins, OnCircle}
+use Rattle.plane.specs.{OnSegment, Triangulation, TurnsLeft, vertex}
 
 -- a left-turning triple that no constraint enters, and whose circle neither contains nor carries a
 -- further vertex that is seen from inside the triple

@@ -2,27 +2,20 @@
 use Rattle.std.specs.Prelude.{◌≡◌, ◌⊎◌, ◌↔◌, ◌≤ℤ◌, ◌+◌, ◌<◌, ◌≤◌, []}
 use Rattle.std.specs.Prelude.{ℕ, ℤ, List, length, Bool, true, false, not, count_by, slice_index_or}
 use Rattle.std.specs.Prelude.{slice_set, map}
-use Rattle.plane.specs.Fraction.{Point, Fraction, whole, IsSame, InHull}
-use Rattle.plane.specs.Side.{TurnsLeft}
-use Rattle.plane.specs.Circle.{InsideCircle, IsNearer}
-use Rattle.plane.specs.Pairs.{Joins, EachPairOnce}
-use Rattle.plane.specs.Tiling.{Triangulation, IsVertex, vertex, IsEdge, IsFace, InCorners}
-use Rattle.plane.specs.Tiling.{InsideCorners, TilesHull, JoinsLine, IsTiling}
-use Rattle.plane.specs.Delaunay.{IsConstrainedDelaunay, IsLocallyDelaunay, IsStrictlyEmpty}
-use Rattle.plane.specs.Line.{Item, Meets, IsBefore}
-use Rattle.plane.specs.Shape.{InClosedCircle, InClosedRectangle, IsNearest, IsVertexIn, IsEdgeIn}
-use Rattle.plane.specs.Location.{Location, IsOuter, IsLocation}
+use Rattle.plane.specs.{EachPairOnce, Fraction, InClosedCircle, InClosedRectangle, InCorners}
+use Rattle.plane.specs.{InHull, InsideCircle, InsideCorners, IsBefore, IsConstrainedDelaunay}
+use Rattle.plane.specs.{IsEdge, IsEdgeIn, IsFace, IsLocallyDelaunay, IsLocation, IsNearer}
+use Rattle.plane.specs.{IsNearest, IsOuter, IsSame, IsStrictlyEmpty, IsTiling, IsVertex, Item}
+use Rattle.plane.specs.{Joins, JoinsLine, Location, Meets, Point, TilesHull, Triangulation}
+use Rattle.plane.specs.{Shape.IsVertexIn, TurnsLeft, vertex, whole}
+use Rattle.plane_theorems.specs.Delaunay.Cells.{HasDiskOf, HasFaceAt, HasVertexAt, HasVerticesOf}
+use Rattle.plane_theorems.specs.Delaunay.Cells.{InCell, ListsCircle}
+use Rattle.plane_theorems.specs.Delaunay.EdgeTests.{HasPointIn, MeetsCircle, MeetsRectangle}
+use Rattle.plane_theorems.specs.Delaunay.Flood.{HasStart, InRegion, IsFlooded, IsFloodedAround}
+use Rattle.plane_theorems.specs.Delaunay.Flood.{IsFloodedByVertices, IsTried, Region, start_point}
+use Rattle.plane_theorems.specs.Delaunay.History.{AreOneState, HasFacesOf, HaveOneCircle}
+use Rattle.plane_theorems.specs.Delaunay.History.{IsVisiblyEmpty, NoFourOnCircle}
 use Rattle.plane_theorems.specs.Delaunay.Nearer.{nearer_count}
-use Rattle.plane_theorems.specs.Delaunay.Flood.{Region, InRegion, IsFlooded, HasStart}
-use Rattle.plane_theorems.specs.Delaunay.Flood.{IsFloodedByVertices}
-use Rattle.plane_theorems.specs.Delaunay.Flood.{IsFloodedAround, start_point, IsTried}
-use Rattle.plane_theorems.specs.Delaunay.EdgeTests.{MeetsCircle, MeetsRectangle, HasPointIn}
-use Rattle.plane_theorems.specs.Delaunay.History.{IsVisiblyEmpty, AreOneState, HasFacesOf}
-use Rattle.plane_theorems.specs.Delaunay.History.{NoFourOnCircle}
-use Rattle.plane_theorems.specs.Delaunay.History.{HaveOneCircle}
-use Rattle.plane_theorems.specs.Delaunay.Cells.{InCell, ListsCircle, HasVertexAt, HasFaceAt}
-use Rattle.plane_theorems.specs.Delaunay.Cells.{HasVerticesOf}
-use Rattle.plane_theorems.specs.Delaunay.Cells.{HasDiskOf}
 
 -- a point in no closed face is strictly left of an outer edge
 abbrev pub OutsideIsLeftOfOuter : Type 0

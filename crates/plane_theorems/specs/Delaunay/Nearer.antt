@@ -1,8 +1,6 @@
 -- How many vertices are nearer to a point than a vertex is.
 use Rattle.std.specs.Prelude.{ℕ, Bool, ◌*ℤ◌, count_by, int_lt}
-use Rattle.plane.specs.Fraction.{Fraction, whole}
-use Rattle.plane.specs.Circle.{gap}
-use Rattle.plane.specs.Tiling.{Triangulation, vertex}
+use Rattle.plane.specs.{Fraction, gap, Triangulation, vertex, whole}
 
 -- whether p is strictly nearer to c than q is
 abbrev pub is_nearer : Fraction → Fraction → Fraction → Bool

@@ -1,15 +1,15 @@
 -- Theorems: from the local circle test to constrained Delaunay, and what queries stand on.
-use Rattle.plane_theorems.specs.Delaunay.Laws.{OutsideIsLeftOfOuter, LocalGivesConstrainedDelaunay}
-use Rattle.plane_theorems.specs.Delaunay.Laws.{StrictlyEmptyIsFace, NearestByNeighbours}
-use Rattle.plane_theorems.specs.Delaunay.Laws.{NearerCountFalls, VisiblyEmptyIsFace, FacesAreUnique}
-use Rattle.plane_theorems.specs.Delaunay.Laws.{OverlappingFacesTie, CellIsHull, PartHasCells}
-use Rattle.plane_theorems.specs.Delaunay.Laws.{PartFaceStays, PartHasFace, PartKnowsCells}
-use Rattle.plane_theorems.specs.Delaunay.Laws.{FloodFindsRegion, FloodStarts, EdgeMeetsCircle}
-use Rattle.plane_theorems.specs.Delaunay.Laws.{EdgeMeetsRectangle, LineItemsAreOrdered}
-use Rattle.plane_theorems.specs.Delaunay.Laws.{FloodFindsOnLine, FloodStartsOnLine, RegionHasStart}
-use Rattle.plane_theorems.specs.Delaunay.Laws.{StartIsExact, VerticesAreEnds, OneVertexIsAlone}
-use Rattle.plane_theorems.specs.Delaunay.Laws.{FloodIsBounded, FloodByVerticesFinds, MarksFillUp}
-use Rattle.plane_theorems.specs.Delaunay.Laws.{FloodIsExact}
+use Rattle.plane_theorems.specs.Delaunay.Laws.{CellIsHull, EdgeMeetsCircle, EdgeMeetsRectangle}
+use Rattle.plane_theorems.specs.Delaunay.Laws.{FacesAreUnique, FloodByVerticesFinds}
+use Rattle.plane_theorems.specs.Delaunay.Laws.{FloodFindsOnLine, FloodFindsRegion, FloodIsBounded}
+use Rattle.plane_theorems.specs.Delaunay.Laws.{FloodIsExact, FloodStarts, FloodStartsOnLine}
+use Rattle.plane_theorems.specs.Delaunay.Laws.{LineItemsAreOrdered, LocalGivesConstrainedDelaunay}
+use Rattle.plane_theorems.specs.Delaunay.Laws.{MarksFillUp, NearerCountFalls, NearestByNeighbours}
+use Rattle.plane_theorems.specs.Delaunay.Laws.{OneVertexIsAlone, OutsideIsLeftOfOuter}
+use Rattle.plane_theorems.specs.Delaunay.Laws.{OverlappingFacesTie, PartFaceStays, PartHasCells}
+use Rattle.plane_theorems.specs.Delaunay.Laws.{PartHasFace, PartKnowsCells, RegionHasStart}
+use Rattle.plane_theorems.specs.Delaunay.Laws.{StartIsExact, StrictlyEmptyIsFace, VerticesAreEnds}
+use Rattle.plane_theorems.specs.Delaunay.Laws.{VisiblyEmptyIsFace}
 
 -- each field is a theorem
 pub record DelaunayTheorems : Type 0 where

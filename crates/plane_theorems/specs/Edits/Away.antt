@@ -2,10 +2,8 @@
 -- no edge again.
 use Rattle.std.specs.Prelude.{◌≡◌, ◌≢◌, ◌<◌, ◌+ℤ◌, ◌*ℤ◌, ◌≤ℤ◌, ◌<ℤ◌}
 use Rattle.std.specs.Prelude.{ℕ, List, length, ℤ, pos, Contains, AllPairs}
-use Rattle.plane.specs.Fraction.{Point}
-use Rattle.plane.specs.Tiling.{Face}
-use Rattle.plane_theorems.specs.Edits.Change.{IsFaceOf}
-use Rattle.plane_theorems.specs.Edits.Legal.{squared_length, point_of}
+use Rattle.{plane.specs.Face, plane.specs.Point, plane_theorems.specs.Edits.Change.IsFaceOf}
+use Rattle.plane_theorems.specs.Edits.Legal.{point_of, squared_length}
 
 -- the mean of u and v under the weights k and l is that of the corners of a face under the weights
 -- r, s and t, whose squared lengths are less

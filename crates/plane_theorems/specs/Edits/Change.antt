@@ -1,7 +1,11 @@
 -- What an edit does to faces and outer edges, as lists of indexes.
+-- IsFaceOf faces i j k: i j k is one of the faces, in any rotation
+-- FacesChange old new gone made: the faces afterwards are the former ones without those gone, and
+--   those made, up to rotation
+-- OuterChange old new gone made: the same of outer edges, each listed once afterwards
+-- IsTurnFree f: f gives a face the same number in each rotation
 use Rattle.std.specs.Prelude.{◌≡◌, ◌≢◌, ◌⊎◌, ℕ, List, ℤ, ◌+ℤ◌, Contains, AllPairs}
-use Rattle.plane.specs.Tiling.{Face, face}
-use Rattle.plane_theorems.specs.Tiling.Local.{total}
+use Rattle.{plane.specs.Face, plane.specs.face, plane_theorems.specs.Tiling.Local.total}
 
 -- i j k is one of the faces, in this rotation or another
 abbrev pub IsFaceOf : List Face → ℕ → ℕ → ℕ → Type 0

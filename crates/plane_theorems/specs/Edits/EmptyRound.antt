@@ -1,11 +1,7 @@
 -- Where a point was put into a Delaunay triangulation without constraints: which circles are empty
 -- while its edges are flipped.
 use Rattle.std.specs.Prelude.{◌≢◌, ℕ, ◌<◌, List, length}
-use Rattle.plane.specs.Fraction.{Point}
-use Rattle.plane.specs.Side.{TurnsLeft}
-use Rattle.plane.specs.Circle.{InsideCircle}
-use Rattle.plane.specs.Pairs.{place}
-use Rattle.plane.specs.Tiling.{Face}
+use Rattle.plane.specs.{Face, InsideCircle, place, Point, TurnsLeft}
 use Rattle.plane_theorems.specs.Edits.Change.{IsFaceOf}
 
 -- no point but v is inside the circle of a face without the corner v, nor is one inside that of a

@@ -1,9 +1,6 @@
 -- A new vertex outside the hull, while it is joined to one outer edge after another.
 use Rattle.std.specs.Prelude.{◌≡◌, ℕ, ◌<◌, List, [], ◌∷◌, ◌++◌, length, Contains}
-use Rattle.plane.specs.Fraction.{Point}
-use Rattle.plane.specs.Side.{TurnsLeft}
-use Rattle.plane.specs.Pairs.{place}
-use Rattle.plane.specs.Tiling.{Face, face}
+use Rattle.plane.specs.{Face, face, place, Point, TurnsLeft}
 use Rattle.plane_theorems.specs.Edits.Change.{FacesChange, OuterChange}
 
 -- the faces on the edges of a path from u, with the corner q

@@ -1,12 +1,8 @@
 -- Flips of failing edges, one after another, as one legalising makes them: what they leave alone.
 use Rattle.std.specs.Prelude.{◌⊎◌, ℕ, zero, suc, ◌-◌, ◌*◌, ◌≤◌, List, [], ◌∷◌, length}
-use Rattle.plane.specs.Fraction.{Point}
-use Rattle.plane.specs.Circle.{InsideCircle}
-use Rattle.plane.specs.Pairs.{place, IsSamePair}
-use Rattle.plane.specs.Tiling.{Face, face}
-use Rattle.plane_theorems.specs.Tiling.Local.{LocalMesh}
-use Rattle.plane_theorems.specs.Edits.Change.{IsFaceOf, FacesChange}
-use Rattle.plane_theorems.specs.Edits.Legal.{IsSideOfOne}
+use Rattle.plane.specs.{Face, face, InsideCircle, IsSamePair, place, Point}
+use Rattle.plane_theorems.specs.Edits.Change.{FacesChange, IsFaceOf}
+use Rattle.plane_theorems.specs.{Edits.Legal.IsSideOfOne, Tiling.Local.LocalMesh}
 
 -- the edge from a to c, between the faces a b c and a c d, fails the circle test and is flipped
 pub record IsFailingFlip (points : List Point) (faces new : List Face) (a b c d : ℕ) : Type 0 where

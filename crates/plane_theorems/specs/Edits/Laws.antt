@@ -1,13 +1,10 @@
 -- What is proved of insertions and flips: the mesh stays local, or a line.
 use Rattle.std.specs.Prelude.{◌↔◌, ◌⊎◌, ◌≢◌, ℕ, ◌<◌, List, [], ◌∷◌, ◌++◌, length, Contains}
-use Rattle.plane.specs.Fraction.{Point, Fraction, whole, WithinSegment, InTriangle, InsideTriangle}
-use Rattle.plane.specs.Side.{TurnsLeft}
-use Rattle.plane.specs.Pairs.{place, IsIndex}
-use Rattle.plane.specs.Tiling.{Face, face}
-use Rattle.plane.specs.Location.{IsPast}
-use Rattle.plane_theorems.specs.Tiling.Local.{LocalMesh, LineMesh, alone}
-use Rattle.plane_theorems.specs.Edits.Change.{IsFaceOf, FacesChange, OuterChange}
+use Rattle.plane.specs.{Face, face, Fraction, InsideTriangle, InTriangle, IsIndex, IsPast, place}
+use Rattle.plane.specs.{Point, TurnsLeft, whole, WithinSegment}
+use Rattle.plane_theorems.specs.Edits.Change.{FacesChange, IsFaceOf, OuterChange}
 use Rattle.plane_theorems.specs.Edits.Extension.{IsExtending}
+use Rattle.plane_theorems.specs.Tiling.Local.{alone, LineMesh, LocalMesh}
 
 -- a vertex q strictly inside the face a b c: it is joined to the three corners
 abbrev pub InsertionInsideKeeps : Type 0

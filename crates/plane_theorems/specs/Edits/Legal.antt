@@ -1,13 +1,15 @@
--- Edges between two faces that pass the circle test, and a number that falls as failing edges are
--- flipped.
+-- Edges that pass the circle test, and a number that falls as failing edges are flipped.
+-- point_of points i: the point with index i; (0, 0) past the end of the list
+-- Pass points i j k l: the faces i j k and j i l pass at their common edge: neither far corner is
+--   inside the circle of the other face
+-- AllPassBut points faces cs left: each edge passes, but perhaps constraints and those left to test
+-- IsSideOfOne faces i j: i j is a side of a face
+-- IsRoundSide a b c d i j: i j is a side of the quadrilateral a b c d
+-- lifted_volume points faces: the sum of the lifted areas of the faces, without its sign; each flip
+--   lowers it
 use Rattle.std.specs.Prelude.{◌⊎◌, ℕ, List, ℤ, pos, ◌+ℤ◌, ◌*ℤ◌, nat_abs, slice_index_or}
-use Rattle.plane.specs.Fraction.{Point}
-use Rattle.plane.specs.Circle.{InsideCircle}
-use Rattle.plane.specs.Pairs.{place, Joins, IsSamePair}
-use Rattle.plane.specs.Tiling.{Face}
-use Rattle.plane.specs.Laws.{turn_at}
-use Rattle.plane_theorems.specs.Tiling.Local.{total}
-use Rattle.plane_theorems.specs.Edits.Change.{IsFaceOf}
+use Rattle.plane.specs.{Face, InsideCircle, IsSamePair, Joins, place, Point, turn_at}
+use Rattle.plane_theorems.specs.{Edits.Change.IsFaceOf, Tiling.Local.total}
 
 -- the faces i j k and j i l pass at their common edge: neither opposite vertex is inside the
 -- other's circle

@@ -1,16 +1,10 @@
 -- What is proved of flipping the edges that fail the circle test, until none does.
 use Rattle.std.specs.Prelude.{◌≡◌, ◌↔◌, ◌⊎◌, ℕ, suc, ◌-◌, ◌*◌, ◌<◌, ◌≤◌, List, [], ◌∷◌, length}
-use Rattle.plane.specs.Fraction.{Point, whole}
-use Rattle.plane.specs.Side.{TurnsLeft}
-use Rattle.plane.specs.Circle.{InsideCircle}
-use Rattle.plane.specs.Pairs.{place, Joins, IsSamePair}
-use Rattle.plane.specs.Tiling.{Face, face}
-use Rattle.plane.specs.Delaunay.{IsLocallyDelaunay}
-use Rattle.plane_theorems.specs.Tiling.Local.{LocalMesh}
-use Rattle.plane_theorems.specs.Edits.Change.{IsFaceOf, FacesChange}
-use Rattle.plane_theorems.specs.Edits.Away.{IsAway, AreAway}
-use Rattle.plane_theorems.specs.Edits.Legal.{Pass, AllPassBut, IsRoundSide, IsSideOfOne}
-use Rattle.plane_theorems.specs.Edits.Legal.{lifted_volume}
+use Rattle.plane.specs.{Face, face, InsideCircle, IsLocallyDelaunay, IsSamePair, Joins, place}
+use Rattle.plane.specs.{Point, TurnsLeft, whole}
+use Rattle.plane_theorems.specs.{Edits.Away.AreAway, Edits.Away.IsAway, Tiling.Local.LocalMesh}
+use Rattle.plane_theorems.specs.{Edits.Change.FacesChange, Edits.Change.IsFaceOf, Edits.Legal.Pass}
+use Rattle.plane_theorems.specs.Edits.Legal.{AllPassBut, IsRoundSide, IsSideOfOne, lifted_volume}
 
 -- one question for both sides of an edge: whether the faces i j k and j i l pass
 abbrev pub OneQuestionForBoth : Type 0

@@ -1,12 +1,9 @@
 -- The faces round a vertex, and a mesh of all points but one.
 use Rattle.std.specs.Prelude.{◌≡◌, ◌≢◌, ◌⊎◌, ◌↔◌, ◌+◌, ◌<◌, [], if◌then◌else◌}
 use Rattle.std.specs.Prelude.{ℕ, suc, List, nat_eq, Contains, AllPairs}
-use Rattle.plane.specs.Fraction.{Point, WithinSegment}
-use Rattle.plane.specs.Side.{side, on, TurnsLeft}
-use Rattle.plane.specs.Pairs.{place, IsIndex}
-use Rattle.plane.specs.Tiling.{Face, face}
-use Rattle.plane_theorems.specs.Tiling.Local.{AreBalanced, IsCorner}
+use Rattle.plane.specs.{Face, face, IsIndex, on, place, Point, side, TurnsLeft, WithinSegment}
 use Rattle.plane_theorems.specs.Edits.Change.{IsFaceOf}
+use Rattle.plane_theorems.specs.Tiling.Local.{AreBalanced, IsCorner}
 
 -- the faces at v, one after another to the left: their corners besides v are neighbour 0, 1, .. and
 -- after k steps the first again

@@ -1,13 +1,10 @@
 -- What is proved of the removal of a vertex on the hull: its inner edges can be flipped away, then
 -- its faces dropped, or closed by one where its side is flat.
 use Rattle.std.specs.Prelude.{◌≡◌, ◌≢◌, ◌⊎◌, ℕ, zero, suc, ◌<◌, ◌≤◌, List, [], ◌∷◌, Contains}
-use Rattle.plane.specs.Fraction.{Point}
-use Rattle.plane.specs.Side.{side, on, TurnsLeft}
-use Rattle.plane.specs.Pairs.{place}
-use Rattle.plane.specs.Tiling.{Face, face}
+use Rattle.plane.specs.{Face, face, on, place, Point, side, TurnsLeft}
+use Rattle.plane_theorems.specs.Edits.Change.{FacesChange, IsFaceOf, OuterChange}
+use Rattle.plane_theorems.specs.Edits.Removal.{LineMeshWithout, LocalMeshWithout}
 use Rattle.plane_theorems.specs.Tiling.Local.{LocalMesh}
-use Rattle.plane_theorems.specs.Edits.Change.{IsFaceOf, FacesChange, OuterChange}
-use Rattle.plane_theorems.specs.Edits.Removal.{LocalMeshWithout, LineMeshWithout}
 
 -- the faces at v, one after another to the left, from the outer edge that reaches v to the one that
 -- leaves it: their corners besides v are neighbours 0, 1, .., k

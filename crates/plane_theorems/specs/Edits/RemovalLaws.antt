@@ -2,15 +2,11 @@
 -- it strictly between two of them, and its faces merged; the last vertex takes the freed index.
 use Rattle.std.specs.Prelude.{◌≡◌, ◌⊎◌, ◌-◌, ◌≤◌, [], ◌∷◌, ◌≢◌}
 use Rattle.std.specs.Prelude.{ℕ, suc, List, length, map, swap_remove, Contains}
-use Rattle.plane.specs.Fraction.{Point, WithinSegment}
-use Rattle.plane.specs.Side.{TurnsLeft}
-use Rattle.plane.specs.Pairs.{place, IsIndex}
-use Rattle.plane.specs.Tiling.{Face, face}
-use Rattle.plane_theorems.specs.Tiling.Local.{LocalMesh, LineMesh}
+use Rattle.plane.specs.{Face, face, IsIndex, place, Point, TurnsLeft, WithinSegment}
 use Rattle.plane_theorems.specs.Edits.Change.{FacesChange, OuterChange}
-use Rattle.plane_theorems.specs.Edits.Removal.{IsStar, LocalMeshWithout, LineMeshWithout}
-use Rattle.plane_theorems.specs.Edits.Removal.{renumbered}
-use Rattle.plane_theorems.specs.Edits.Removal.{renumbered_pair}
+use Rattle.plane_theorems.specs.Edits.Removal.{IsStar, LineMeshWithout, LocalMeshWithout}
+use Rattle.plane_theorems.specs.Edits.Removal.{renumbered, renumbered_pair}
+use Rattle.plane_theorems.specs.Tiling.Local.{LineMesh, LocalMesh}
 
 -- at an inner vertex with four neighbours or more, the edge to a neighbour i + 1 lies across a
 -- strictly convex quadrilateral; or there are four, and the vertex is strictly between two opposite

@@ -1,14 +1,10 @@
 -- The faces round a vertex after a flip of one of its edges: the neighbours without the one that it
 -- led to.
 use Rattle.std.specs.Prelude.{◌≡◌, ℕ, suc, ◌+◌, ◌-◌, ◌<◌, ◌≤◌, List, [], ◌∷◌, nat_lt, if◌then◌else◌}
-use Rattle.plane.specs.Fraction.{Point}
-use Rattle.plane.specs.Side.{TurnsLeft}
-use Rattle.plane.specs.Pairs.{place}
-use Rattle.plane.specs.Tiling.{Face, face}
-use Rattle.plane_theorems.specs.Tiling.Local.{LocalMesh}
+use Rattle.plane.specs.{Face, face, place, Point, TurnsLeft}
 use Rattle.plane_theorems.specs.Edits.Change.{FacesChange, OuterChange}
 use Rattle.plane_theorems.specs.Edits.Removal.{IsStar}
-use Rattle.plane_theorems.specs.Edits.RemovalHull.{IsHullStar}
+use Rattle.plane_theorems.specs.{Edits.RemovalHull.IsHullStar, Tiling.Local.LocalMesh}
 
 -- the edge from v to neighbour i + 1, across a strictly convex quadrilateral, is flipped
 pub record IsStarFlip (points : List Point) (faces new : List Face) (outer outer' : List (ℕ × ℕ))

@@ -1,22 +1,21 @@
 -- Theorems: what each edit does keeps the local mesh invariant, and flips end.
-use Rattle.plane_theorems.specs.Edits.Laws.{InsertionInsideKeeps, InsertionWithinSideKeeps}
-use Rattle.plane_theorems.specs.Edits.Laws.{InsertionWithinOuterKeeps, FlipKeeps, FlipCovers}
-use Rattle.plane_theorems.specs.Edits.Laws.{ExtensionBegins, ExtensionGoesOn, ExtensionGoesBack}
-use Rattle.plane_theorems.specs.Edits.Laws.{ExtensionEnds, ExtensionOverLineEnds}
-use Rattle.plane_theorems.specs.Edits.Laws.{InsertionPastEndKeeps, InsertionBetweenKeeps}
-use Rattle.plane_theorems.specs.Edits.LegalLaws.{OneQuestionForBoth, FailingIsConvex, FlipLowers}
-use Rattle.plane_theorems.specs.Edits.LegalLaws.{FlipLeavesSides, PassingIsDropped}
-use Rattle.plane_theorems.specs.Edits.LegalLaws.{ChangeLeavesSides, NoneLeftIsLocallyDelaunay}
-use Rattle.plane_theorems.specs.Edits.LegalLaws.{AwayIsNoEdge, FlipGoesAway, AwayIsBounded}
-use Rattle.plane_theorems.specs.Edits.RemovalLaws.{InnerStarFlips, ThreeFacesMerge, FourFacesMerge}
-use Rattle.plane_theorems.specs.Edits.RemovalLaws.{LastTakesFreedIndex, EndOfLineGoes}
-use Rattle.plane_theorems.specs.Edits.RemovalLaws.{MiddleOfLineGoes, LastTakesFreedIndexOnLine}
-use Rattle.plane_theorems.specs.Edits.RemovalHull.{FlatStarFlips, CornerStarFlips, CornerGoes}
-use Rattle.plane_theorems.specs.Edits.RemovalHull.{FlatSideCloses, CornerLeavesLine, CornerOrFlat}
-use Rattle.plane_theorems.specs.Edits.FlipHistory.{FlipTouchesOneEdge, FlippedStaysAway}
-use Rattle.plane_theorems.specs.Edits.FlipHistory.{WhatStandsWasNotTouched, FlipsAreBounded}
-use Rattle.plane_theorems.specs.Edits.StarFlips.{InnerStarShrinks, HullStarShrinks, StarsAgree}
-use Rattle.plane_theorems.specs.Edits.StarFlips.{HullStarsAgree}
+use Rattle.plane_theorems.specs.Edits.FlipHistory.{FlippedStaysAway, FlipsAreBounded}
+use Rattle.plane_theorems.specs.Edits.FlipHistory.{FlipTouchesOneEdge, WhatStandsWasNotTouched}
+use Rattle.plane_theorems.specs.Edits.Laws.{ExtensionBegins, ExtensionEnds, ExtensionGoesBack}
+use Rattle.plane_theorems.specs.Edits.Laws.{ExtensionGoesOn, ExtensionOverLineEnds, FlipCovers}
+use Rattle.plane_theorems.specs.Edits.Laws.{FlipKeeps, InsertionBetweenKeeps, InsertionInsideKeeps}
+use Rattle.plane_theorems.specs.Edits.Laws.{InsertionPastEndKeeps, InsertionWithinOuterKeeps}
+use Rattle.plane_theorems.specs.{Edits.Laws.InsertionWithinSideKeeps, Edits.StarFlips.StarsAgree}
+use Rattle.plane_theorems.specs.Edits.LegalLaws.{AwayIsBounded, AwayIsNoEdge, ChangeLeavesSides}
+use Rattle.plane_theorems.specs.Edits.LegalLaws.{FailingIsConvex, FlipGoesAway, FlipLeavesSides}
+use Rattle.plane_theorems.specs.Edits.LegalLaws.{FlipLowers, NoneLeftIsLocallyDelaunay}
+use Rattle.plane_theorems.specs.Edits.LegalLaws.{OneQuestionForBoth, PassingIsDropped}
+use Rattle.plane_theorems.specs.Edits.RemovalHull.{CornerGoes, CornerLeavesLine, CornerOrFlat}
+use Rattle.plane_theorems.specs.Edits.RemovalHull.{CornerStarFlips, FlatSideCloses, FlatStarFlips}
+use Rattle.plane_theorems.specs.Edits.RemovalLaws.{EndOfLineGoes, FourFacesMerge, InnerStarFlips}
+use Rattle.plane_theorems.specs.Edits.RemovalLaws.{LastTakesFreedIndex, LastTakesFreedIndexOnLine}
+use Rattle.plane_theorems.specs.Edits.RemovalLaws.{MiddleOfLineGoes, ThreeFacesMerge}
+use Rattle.plane_theorems.specs.Edits.StarFlips.{HullStarsAgree, HullStarShrinks, InnerStarShrinks}
 
 -- each field is a theorem
 pub record EditTheorems : Type 0 where

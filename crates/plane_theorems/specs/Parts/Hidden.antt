@@ -1,10 +1,6 @@
 -- What a constraint at a side of a triple hides of the triple's disk.
 use Rattle.std.specs.Prelude.{◌⊎◌, ℕ, List}
-use Rattle.plane.specs.Side.{TurnsLeft}
-use Rattle.plane.specs.Circle.{InsideCircle, OnCircle}
-use Rattle.plane.specs.Pairs.{Joins}
-use Rattle.plane.specs.Tiling.{Triangulation, vertex}
-use Rattle.plane.specs.Delaunay.{IsSeen}
+use Rattle.plane.specs.{InsideCircle, IsSeen, Joins, OnCircle, Triangulation, TurnsLeft, vertex}
 use Rattle.plane_theorems.specs.Parts.Parts.{IsPartOfPlane}
 
 -- within the closed disk of a triple of a part, all vertices of the whole beyond a side that is a

@@ -1,14 +1,11 @@
 -- A part of the vertices and constraints of a plane, and what it has to know of the whole for a
 -- face of its own triangulation to be one of the whole's.
 use Rattle.std.specs.Prelude.{◌≡◌, ◌⊎◌, ℕ, List, map}
-use Rattle.plane.specs.Fraction.{Fraction, whole, InsideTriangle, OnSegment, InHull}
-use Rattle.plane.specs.Circle.{InsideCircle, OnCircle}
-use Rattle.plane.specs.Pairs.{Joins}
-use Rattle.plane.specs.Tiling.{Triangulation, IsVertex, vertex, IsFace, InsideCorners}
-use Rattle.plane.specs.Tiling.{TilesHull}
-use Rattle.plane.specs.Delaunay.{IsSeen, IsConstrainedDelaunay}
-use Rattle.plane_theorems.specs.Delaunay.Cells.{HasVertexAt, HasFaceAt, HasVerticesOf}
-use Rattle.plane_theorems.specs.Delaunay.History.{IsVisiblyEmpty, HaveOneCircle}
+use Rattle.plane.specs.{Fraction, InHull, InsideCircle, InsideCorners, InsideTriangle}
+use Rattle.plane.specs.{IsConstrainedDelaunay, IsFace, IsSeen, IsVertex, Joins, OnCircle, OnSegment}
+use Rattle.plane.specs.{TilesHull, Triangulation, vertex, whole}
+use Rattle.plane_theorems.specs.Delaunay.Cells.{HasFaceAt, HasVertexAt, HasVerticesOf}
+use Rattle.plane_theorems.specs.Delaunay.History.{HaveOneCircle, IsVisiblyEmpty}
 
 -- s, with some constraints, is a part of t, with others: its vertices are some of t's, by position,
 -- and each point of its constraints is a point of t's. A constraint of s may be several of t's one

@@ -1,13 +1,10 @@
 -- What edits make of constraints: a new vertex on one splits it, and its straight halves can be
 -- joined when their vertex goes.
 use Rattle.std.specs.Prelude.{◌≡◌, ◌≢◌, ◌⊎◌, ◌↔◌, ℕ, ◌<◌, List, nat_abs}
-use Rattle.plane.specs.Fraction.{Point, whole, OnSegment, WithinSegment}
-use Rattle.plane.specs.Crossing.{Cross}
-use Rattle.plane.specs.Pairs.{Joins, IsSamePair, SamePairs, place, IsIndex}
-use Rattle.plane.specs.Tiling.{Triangulation, IsVertex, IsEdge, vertex}
-use Rattle.plane.specs.Laws.{squared_way}
-use Rattle.plane_theorems.specs.Tiling.Laws.{EdgesMeetAtVertices}
-use Rattle.plane_theorems.specs.Edits.Legal.{point_of}
+use Rattle.plane.specs.{Cross, IsEdge, IsIndex, IsSamePair, IsVertex, Joins, OnSegment, place}
+use Rattle.plane.specs.{Point, SamePairs, squared_vector, Triangulation, vertex, whole}
+use Rattle.plane.specs.{WithinSegment}
+use Rattle.plane_theorems.specs.{Edits.Legal.point_of, Tiling.Laws.EdgesMeetAtVertices}
 
 -- the pair of i and j goes, and its halves at n come
 abbrev SplitsPair : List (ℕ × ℕ) → List (ℕ × ℕ) → ℕ → ℕ → ℕ → Type 0
@@ -66,34 +63,34 @@ abbrev pub ArePlacedApart : List Point → Type 0
 ArePlacedApart points = (a b : ℕ) → IsIndex points a → IsIndex points b → a ≢ b
     → place points a ≢ place points b
 
--- it has a first piece
+-- it has a first subconstraint
 abbrev pub PathBegins : Type 0
 PathBegins = (points : List Point) (i j : ℕ) → ArePlacedApart points → IsIndex points i
     → IsIndex points j → i ≢ j → (w : ℕ) × AreNextOn points i j i w
 
--- and is this piece with the path from its end
+-- and is this subconstraint with the path from its end
 abbrev pub PathGoesOn : Type 0
 PathGoesOn = (points : List Point) (i j w : ℕ) → ArePlacedApart points → IsIndex points j → i ≢ j
     → AreNextOn points i j i w
     → (a b : ℕ) → AreNextOn points i j a b ↔ (IsSamePair a b i w ⊎ AreNextOn points w j a b)
 
--- from a vertex to itself there is no piece
+-- from a vertex to itself there is no subconstraint
 abbrev pub PathEnds : Type 0
 PathEnds = (points : List Point) (j : ℕ) → ArePlacedApart points → (a b : ℕ)
     → ¬ AreNextOn points j j a b
 
--- what crosses a piece crosses the whole segment: where no constraint crosses this, none crosses a
--- piece
-abbrev pub PieceCrossesWhole : Type 0
-PieceCrossesWhole = (points : List Point) (i j a b c d : ℕ) → ArePlacedApart points
+-- what crosses a subconstraint crosses the whole segment: where no constraint crosses this, none
+-- crosses a subconstraint
+abbrev pub SubconstraintCrossesWhole : Type 0
+SubconstraintCrossesWhole = (points : List Point) (i j a b c d : ℕ) → ArePlacedApart points
     → IsIndex points i → IsIndex points j → i ≢ j → IsIndex points c → IsIndex points d → c ≢ d
     → AreNextOn points i j a b
     → Cross (place points a) (place points b) (place points c) (place points d)
     → Cross (place points i) (place points j) (place points c) (place points d)
 
--- the path from the end of its first piece is shorter
+-- the path from the end of its first subconstraint is shorter
 abbrev pub PathShortens : Type 0
 PathShortens = (points : List Point) (i j w : ℕ) → ArePlacedApart points → IsIndex points i
     → IsIndex points j → i ≢ j → AreNextOn points i j i w
-    → nat_abs (squared_way (point_of points w) (point_of points j))
-    < nat_abs (squared_way (point_of points i) (point_of points j))
+    → nat_abs (squared_vector (point_of points w) (point_of points j))
+    < nat_abs (squared_vector (point_of points i) (point_of points j))

@@ -1,13 +1,10 @@
 -- What is proved of the items that a segment meets, one after another.
 use Rattle.std.specs.Prelude.{◌≡◌, ◌≢◌, ℕ, ◌↔◌, List, ◌⊎◌}
-use Rattle.plane.specs.Fraction.{Fraction, IsSame, WithinSegment}
-use Rattle.plane.specs.Side.{side, left, right, on}
-use Rattle.plane.specs.Tiling.{Triangulation, IsVertex, IsEdge, IsFace, InsideCorners, vertex}
-use Rattle.plane.specs.Tiling.{TilesHull, JoinsLine}
+use Rattle.plane.specs.{across, along, at_vertex, Fraction, InsideCorners, IsBefore, IsEdge, IsFace}
+use Rattle.plane.specs.{IsLineList, IsOuter, IsSame, IsVertex, Item, JoinsLine, left, Meets, on}
+use Rattle.plane.specs.{right, side, TilesHull, Triangulation, vertex, WithinSegment}
+use Rattle.plane_theorems.specs.Segments.Steps.{ComesNext, IsAhead, IsFirst, IsLast, IsWalk}
 use Rattle.plane_theorems.specs.Tiling.Laws.{EdgesMeetAtVertices}
-use Rattle.plane.specs.Location.{IsOuter}
-use Rattle.plane.specs.Line.{Item, Meets, IsBefore, IsLineList, at_vertex, across, along}
-use Rattle.plane_theorems.specs.Segments.Steps.{ComesNext, IsLast, IsFirst, IsAhead, IsWalk}
 
 -- none of the items that a segment meets is before itself, and the order goes through
 abbrev pub ItemsFollow : Type 0

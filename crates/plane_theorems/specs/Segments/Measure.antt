@@ -3,16 +3,14 @@
 use Rattle.std.specs.Prelude.{◌+◌, ◌&&◌, if◌then◌else◌}
 use Rattle.std.specs.Prelude.{ℕ, zero, suc, List, length, ℤ, pos, Bool, true, false, int_lt}
 use Rattle.std.specs.Prelude.{nat_abs}
-use Rattle.plane.specs.Fraction.{Point}
-use Rattle.plane.specs.Tiling.{Face}
-use Rattle.plane.specs.Laws.{turn_at, squared_way}
-use Rattle.plane_theorems.specs.Tiling.Local.{total, around}
-use Rattle.plane_theorems.specs.Edits.Legal.{point_of}
+use Rattle.plane.specs.{Face, Point, squared_vector, turn_at}
+use Rattle.plane_theorems.specs.{Edits.Legal.point_of, Tiling.Local.around, Tiling.Local.total}
 
 -- seen from i, u is left of the way to v, or on it and nearer
 abbrev pub comes_before : Point → Point → Point → Bool
 comes_before i u v = if int_lt (pos 0) (turn_at i v u) then true else
-    (if int_lt (turn_at i v u) (pos 0) then false else int_lt (squared_way i u) (squared_way i v))
+    (if int_lt (turn_at i v u) (pos 0) then false else int_lt (squared_vector i u)
+    (squared_vector i v))
 
 -- whether u is on the right of the way from i to j
 abbrev pub is_right : Point → Point → Point → Bool

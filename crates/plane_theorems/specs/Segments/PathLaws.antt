@@ -1,15 +1,11 @@
 -- What is proved of a segment that is made an edge by flips.
 use Rattle.std.specs.Prelude.{◌≡◌, ◌⊎◌, ◌↔◌, ℕ, ◌<◌, List, [], ◌∷◌}
-use Rattle.plane.specs.Fraction.{Point, whole}
-use Rattle.plane.specs.Side.{side, right, TurnsLeft}
-use Rattle.plane.specs.Crossing.{Cross}
-use Rattle.plane.specs.Tiling.{Face, face, Triangulation, IsEdge, IsFace, TilesHull, vertex}
-use Rattle.plane_theorems.specs.Edits.Change.{FacesChange}
+use Rattle.plane.specs.{Cross, Face, face, IsEdge, IsFace, Point, right, side, TilesHull}
+use Rattle.plane.specs.{Triangulation, TurnsLeft, vertex, whole}
+use Rattle.plane_theorems.specs.{Edits.Change.FacesChange, Segments.Measure.crossing_sum}
 use Rattle.plane_theorems.specs.Edits.Legal.{point_of}
-use Rattle.plane_theorems.specs.Segments.Measure.{crossing_sum}
-use Rattle.plane_theorems.specs.Segments.Path.{IsFreeOfVertices, IsCrossing, IsLastRight}
-use Rattle.plane_theorems.specs.Segments.Path.{IsLastLeft}
-use Rattle.plane_theorems.specs.Segments.Path.{ComesAfterOnRight, ComesAfterOnLeft}
+use Rattle.plane_theorems.specs.Segments.Path.{ComesAfterOnLeft, ComesAfterOnRight, IsCrossing}
+use Rattle.plane_theorems.specs.Segments.Path.{IsFreeOfVertices, IsLastLeft, IsLastRight}
 
 -- where no edge crosses it, it is an edge
 abbrev pub UncrossedIsEdge : Type 0

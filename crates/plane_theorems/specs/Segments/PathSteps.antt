@@ -1,18 +1,14 @@
 -- What the flips of a path and the removal of a vertex keep, and the joining of straight halves in
 -- the words of plain states.
 use Rattle.std.specs.Prelude.{◌≡◌, ◌≢◌, ◌⊎◌, ◌↔◌, ℕ, ◌-◌, ◌<◌, List, [], ◌∷◌, length, Contains}
-use Rattle.plane.specs.Fraction.{Point, WithinSegment}
-use Rattle.plane.specs.Crossing.{Cross}
-use Rattle.plane.specs.Pairs.{Joins, IsSamePair, place}
-use Rattle.plane.specs.Plain.{Plain, IsPlain, points_of, TakesOut, CanAdd, AreNeighboursOn, Adds}
-use Rattle.plane.specs.Tiling.{Face, face, Triangulation, IsEdge, TilesHull, JoinsLine, vertex}
-use Rattle.plane_theorems.specs.Tiling.Laws.{EdgesMeetAtVertices}
-use Rattle.plane_theorems.specs.Tiling.Local.{LocalMesh, IsCorner}
+use Rattle.plane.specs.{Adds, AreNeighboursOn, CanAdd, Cross, Face, face, IsEdge, IsPlain}
+use Rattle.plane.specs.{IsSamePair, Joins, JoinsLine, place, Plain, Point, points_of, TakesOut}
+use Rattle.plane.specs.{TilesHull, Triangulation, vertex, WithinSegment}
 use Rattle.plane_theorems.specs.Edits.Change.{FacesChange, OuterChange}
-use Rattle.plane_theorems.specs.Edits.Legal.{IsSideOfOne}
-use Rattle.plane_theorems.specs.Edits.Removal.{new_index}
-use Rattle.plane_theorems.specs.Segments.Path.{IsFreeOfVertices, IsCrossing}
-use Rattle.plane_theorems.specs.Segments.Constraints.{AreNextOn}
+use Rattle.plane_theorems.specs.{Edits.Legal.IsSideOfOne, Edits.Removal.new_index}
+use Rattle.plane_theorems.specs.{Segments.Constraints.AreNextOn, Tiling.Laws.EdgesMeetAtVertices}
+use Rattle.plane_theorems.specs.Segments.Path.{IsCrossing, IsFreeOfVertices}
+use Rattle.plane_theorems.specs.Tiling.Local.{IsCorner, LocalMesh}
 
 -- the flip of an edge that crosses the segment of i and j: constraints that do not cross it stay
 -- edges
@@ -24,14 +20,14 @@ PathFlipKeepsConstraints = (t after : Triangulation) (constraints : List (ℕ ×
     → ¬ Cross (vertex t i) (vertex t j) (vertex t a) (vertex t b))
     → (a b : ℕ) → Joins constraints a b → IsEdge after a b
 
--- a piece of a path has no vertex strictly within
-abbrev pub PieceIsFree : Type 0
-PieceIsFree = (t : Triangulation) (i j a b : ℕ) → AreNextOn t.points i j a b
+-- a subconstraint of a path has no vertex strictly within
+abbrev pub SubconstraintIsFree : Type 0
+SubconstraintIsFree = (t : Triangulation) (i j a b : ℕ) → AreNextOn t.points i j a b
     → IsFreeOfVertices t a b
 
 -- where all vertices are on one line, it is an edge
-abbrev pub PieceOnLineIsEdge : Type 0
-PieceOnLineIsEdge = (t : Triangulation) (i j : ℕ) → JoinsLine t → IsFreeOfVertices t i j
+abbrev pub SubconstraintOnLineIsEdge : Type 0
+SubconstraintOnLineIsEdge = (t : Triangulation) (i j : ℕ) → JoinsLine t → IsFreeOfVertices t i j
     → IsEdge t i j
 
 -- where only faces and outer edges at a vertex go, constraints that do not end there stay edges
@@ -44,13 +40,13 @@ RemovalKeepsConstraints = (points : List Point) (faces new gone made : List Face
     → ((a b : ℕ) → Joins constraints a b → IsSideOfOne faces a b)
     → (a b : ℕ) → Joins constraints a b → a ≢ v → b ≢ v → IsSideOfOne new a b ⊎ Joins outer' a b
 
--- i and j are no pair, no pair crosses their segment, and their path is one piece: to add it is to
--- join them
+-- i and j are no pair, no pair crosses their segment, and their path is one subconstraint: to add
+-- it is to join them
 pub record CanBeJoined {V : Type 0} (position : V → Point) (s : Plain V) (i j : ℕ) : Type 0 where
   pub ends : (i < length s.vertices) × (j < length s.vertices)
   pub not_yet : ¬ Joins s.constraints i j
   pub free : CanAdd position s i j
-  pub one_piece : (a b : ℕ) → AreNeighboursOn position (points_of position s) i j a b
+  pub one_subconstraint : (a b : ℕ) → AreNeighboursOn position (points_of position s) i j a b
       ↔ IsSamePair a b i j
   pub joined : (now : Plain V) → now.vertices ≡ s.vertices
       → ((a b : ℕ) → Joins now.constraints a b ↔ (Joins s.constraints a b ⊎ IsSamePair a b i j))

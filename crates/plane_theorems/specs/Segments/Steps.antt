@@ -1,8 +1,6 @@
 -- From an item that a segment meets to the next.
 use Rattle.std.specs.Prelude.{◌⊎◌, List, [], ◌∷◌}
-use Rattle.plane.specs.Fraction.{Fraction, OnSegment}
-use Rattle.plane.specs.Tiling.{Triangulation}
-use Rattle.plane.specs.Line.{Item, Meets, IsBefore}
+use Rattle.plane.specs.{Fraction, IsBefore, Item, Meets, OnSegment, Triangulation}
 
 -- of the items that the segment from p to q meets, n comes next after m
 pub record ComesNext (t : Triangulation) (p q : Fraction) (m n : Item) : Type 0 where

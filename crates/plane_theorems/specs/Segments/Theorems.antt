@@ -1,21 +1,22 @@
 -- Theorems: what a segment meets, item by item, and the flips that make it an edge.
-use Rattle.plane_theorems.specs.Segments.LineLaws.{ItemsFollow, NextAfterCrossing, LastCrossing}
-use Rattle.plane_theorems.specs.Segments.LineLaws.{NextAfterOverlap, NextAfterVertex, LastVertex}
-use Rattle.plane_theorems.specs.Segments.LineLaws.{OverlapAhead, CrossingBySides, FirstItem}
-use Rattle.plane_theorems.specs.Segments.LineLaws.{WalkIsLineList, StepsOnOneLine}
-use Rattle.plane_theorems.specs.Segments.WalkLaws.{EachSegmentHasWalk, RestFalls, LineListIsWalk}
-use Rattle.plane_theorems.specs.Segments.WalkLaws.{FirstFromFace, FirstFromOutside, NextOnLine}
-use Rattle.plane_theorems.specs.Segments.WalkLaws.{FirstOnLine, EqualEnds, FirstFromEdge}
-use Rattle.plane_theorems.specs.Segments.WalkLaws.{OutsideIsOffLine, CrossingOnLine, MeshesAreLaid}
-use Rattle.plane_theorems.specs.Segments.PathLaws.{UncrossedIsEdge, ChosenFlipIsConvex}
+use Rattle.plane_theorems.specs.Segments.Constraints.{PathBegins, PathEnds, PathGoesOn}
+use Rattle.plane_theorems.specs.Segments.Constraints.{PathShortens, SplitIsAppend}
+use Rattle.plane_theorems.specs.Segments.Constraints.{StraightHalvesJoin, SubconstraintCrossesWhole}
+use Rattle.plane_theorems.specs.Segments.LineLaws.{CrossingBySides, FirstItem, ItemsFollow}
+use Rattle.plane_theorems.specs.Segments.LineLaws.{LastCrossing, LastVertex, NextAfterCrossing}
+use Rattle.plane_theorems.specs.Segments.LineLaws.{NextAfterOverlap, NextAfterVertex, OverlapAhead}
+use Rattle.plane_theorems.specs.Segments.LineLaws.{StepsOnOneLine, WalkIsLineList}
+use Rattle.plane_theorems.specs.Segments.PathLaws.{ChosenFlipExists, ChosenFlipIsConvex}
 use Rattle.plane_theorems.specs.Segments.PathLaws.{ChosenFlipLowers, CrossingIsEitherWay}
-use Rattle.plane_theorems.specs.Segments.PathLaws.{ChosenFlipExists, EndsAreOrdered}
-use Rattle.plane_theorems.specs.Segments.PathLaws.{LastHasNoneAfter}
-use Rattle.plane_theorems.specs.Segments.Constraints.{SplitIsAppend, StraightHalvesJoin, PathBegins}
-use Rattle.plane_theorems.specs.Segments.Constraints.{PathGoesOn, PathEnds, PieceCrossesWhole}
-use Rattle.plane_theorems.specs.Segments.Constraints.{PathShortens}
-use Rattle.plane_theorems.specs.Segments.PathSteps.{PathFlipKeepsConstraints, PieceIsFree}
-use Rattle.plane_theorems.specs.Segments.PathSteps.{PieceOnLineIsEdge, RemovalKeepsConstraints}
+use Rattle.plane_theorems.specs.Segments.PathLaws.{EndsAreOrdered, LastHasNoneAfter}
+use Rattle.plane_theorems.specs.Segments.PathLaws.{UncrossedIsEdge}
+use Rattle.plane_theorems.specs.Segments.PathSteps.{PathFlipKeepsConstraints}
+use Rattle.plane_theorems.specs.Segments.PathSteps.{RemovalKeepsConstraints, SubconstraintIsFree}
+use Rattle.plane_theorems.specs.Segments.PathSteps.{SubconstraintOnLineIsEdge}
+use Rattle.plane_theorems.specs.Segments.WalkLaws.{CrossingOnLine, EachSegmentHasWalk, EqualEnds}
+use Rattle.plane_theorems.specs.Segments.WalkLaws.{FirstFromEdge, FirstFromFace, FirstFromOutside}
+use Rattle.plane_theorems.specs.Segments.WalkLaws.{FirstOnLine, LineListIsWalk, MeshesAreLaid}
+use Rattle.plane_theorems.specs.Segments.WalkLaws.{NextOnLine, OutsideIsOffLine, RestFalls}
 
 -- each field is a theorem
 pub record SegmentTheorems : Type 0 where
@@ -103,21 +104,22 @@ pub record SegmentTheorems : Type 0 where
   -- between two different vertices some vertex of the closed segment comes next after the
   -- first
   pub path_begins : PathBegins
-  -- the neighbours on the segment are that first piece and those on the segment from its end
+  -- the neighbours on the segment are that first subconstraint and those on the segment from its
+  -- end
   pub path_goes_on : PathGoesOn
   -- from a vertex to itself there are no neighbours
   pub path_ends : PathEnds
-  -- what crosses a piece between two neighbours on a segment crosses the whole segment
-  pub piece_crosses_whole : PieceCrossesWhole
-  -- from the end of the first piece the squared distance to the last vertex is less
+  -- what crosses a subconstraint between two neighbours on a segment crosses the whole segment
+  pub subconstraint_crosses_whole : SubconstraintCrossesWhole
+  -- from the end of the first subconstraint the squared distance to the last vertex is less
   pub path_shortens : PathShortens
   -- a flip of an edge that crosses the segment keeps each constraint an edge that does not
   -- cross it
   pub path_flip_keeps_constraints : PathFlipKeepsConstraints
-  -- a piece of a path is two vertices with none strictly between
-  pub piece_is_free : PieceIsFree
+  -- a subconstraint of a path is two vertices with none strictly between
+  pub subconstraint_is_free : SubconstraintIsFree
   -- where all vertices are on one line, two of them with none strictly between are an edge
-  pub piece_on_line_is_edge : PieceOnLineIsEdge
+  pub subconstraint_on_line_is_edge : SubconstraintOnLineIsEdge
   -- where only faces and outer edges at a vertex go, each constraint that does not end there
   -- stays an edge
   pub removal_keeps_constraints : RemovalKeepsConstraints

@@ -1,18 +1,13 @@
 -- What is proved of the walk along a segment as a whole: that there is one, where it starts, and
 -- that it ends.
 use Rattle.std.specs.Prelude.{◌≡◌, ◌≢◌, ℕ, ◌<◌, ◌≤◌, ◌+◌, ◌↔◌, List, [], ◌∷◌, length, ◌⊎◌}
-use Rattle.plane.specs.Fraction.{Point, Fraction, IsSame, OnSegment, WithinSegment}
-use Rattle.plane.specs.Side.{side, left, right, on, TurnsLeft}
-use Rattle.plane.specs.Circle.{IsNearer}
-use Rattle.plane.specs.Tiling.{Triangulation, Face, IsVertex, IsEdge, IsFace, InsideCorners, vertex}
-use Rattle.plane.specs.Tiling.{TilesHull}
-use Rattle.plane.specs.Tiling.{JoinsLine}
-use Rattle.plane_theorems.specs.Tiling.Laws.{EdgesMeetAtVertices}
-use Rattle.plane_theorems.specs.Tiling.Local.{IsMesh, AreEdgesOf}
-use Rattle.plane.specs.Location.{IsOuter, outside_hull, IsLocation}
-use Rattle.plane.specs.Line.{Item, Meets, IsLineList, at_vertex, across, along}
-use Rattle.plane_theorems.specs.Segments.Steps.{ComesNext, IsLast, IsFirst, IsAhead, GoesOn, IsWalk}
-use Rattle.plane_theorems.specs.Segments.LineLaws.{ArePlacedOnce}
+use Rattle.plane.specs.{across, along, at_vertex, Face, Fraction, InsideCorners, IsEdge, IsFace}
+use Rattle.plane.specs.{IsLineList, IsLocation, IsNearer, IsOuter, IsSame, IsVertex, Item}
+use Rattle.plane.specs.{JoinsLine, left, Meets, on, OnSegment, outside_hull, Point, right, side}
+use Rattle.plane.specs.{TilesHull, Triangulation, TurnsLeft, vertex, WithinSegment}
+use Rattle.plane_theorems.specs.{Segments.LineLaws.ArePlacedOnce, Tiling.Laws.EdgesMeetAtVertices}
+use Rattle.plane_theorems.specs.Segments.Steps.{ComesNext, GoesOn, IsAhead, IsFirst, IsLast, IsWalk}
+use Rattle.plane_theorems.specs.Tiling.Local.{AreEdgesOf, IsMesh}
 
 -- the faces tile the hull, or all vertices are on one line
 abbrev pub IsLaid : Triangulation → Type 0

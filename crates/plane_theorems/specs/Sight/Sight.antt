@@ -2,12 +2,9 @@
 -- them.
 use Rattle.std.specs.Prelude.{◌≢◌, ◌⊎◌, ◌↔◌, ◌<◌, ℕ, Bool, List, length}
 use Rattle.std.specs.Prelude.{⊤, IsTrue, Contains, slice_index_or}
-use Rattle.plane.specs.Fraction.{Fraction, IsSame, OnSegment, WithinSegment}
-use Rattle.plane.specs.Side.{side, on, TurnsLeft}
-use Rattle.plane.specs.Tiling.{Triangulation, Face, face, vertex, IsVertex, IsEdge, IsFace}
-use Rattle.plane.specs.Tiling.{InCorners, InsideCorners, TilesHull}
-use Rattle.plane.specs.Location.{IsOuter}
-use Rattle.plane.specs.Line.{Item, IsLineList, at_vertex, across, along}
+use Rattle.plane.specs.{across, along, at_vertex, Face, face, Fraction, InCorners, InsideCorners}
+use Rattle.plane.specs.{IsEdge, IsFace, IsLineList, IsOuter, IsSame, IsVertex, Item, on, OnSegment}
+use Rattle.plane.specs.{side, TilesHull, Triangulation, TurnsLeft, vertex, WithinSegment}
 use Rattle.plane_theorems.specs.Tiling.Laws.{IsTurned}
 
 -- face n of the list

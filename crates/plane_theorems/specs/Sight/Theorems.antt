@@ -1,5 +1,5 @@
 -- Theorems: lines of sight over free faces.
-use Rattle.plane_theorems.specs.Sight.Sight.{SightByLine, InFreeByPlace}
+use Rattle.plane_theorems.specs.Sight.Sight.{InFreeByPlace, SightByLine}
 
 -- each field is a theorem
 pub record SightTheorems : Type 0 where

@@ -1,12 +1,10 @@
 -- What is proved of every mesh that keeps the local invariant.
 use Rattle.std.specs.Prelude.{◌≡◌, ◌⊎◌, ◌↔◌, ℕ, ◌+◌, ◌-◌, ◌*◌, List, [], length, ⊤}
-use Rattle.plane.specs.Fraction.{Point, Fraction, WithinSegment}
-use Rattle.plane.specs.Pairs.{Joins, IsSamePair, EachPairOnce}
-use Rattle.plane.specs.Tiling.{Triangulation, Face, IsVertex, IsEdge, HasFace, vertex, TilesHull}
-use Rattle.plane.specs.Tiling.{IsTiling}
-use Rattle.plane.specs.Location.{Location, on_vertex, on_edge, on_face, outside_hull}
-use Rattle.plane.specs.Location.{no_triangulation, IsLocation}
-use Rattle.plane_theorems.specs.Tiling.Local.{LocalMesh, LineMesh, IsMesh, AreEdgesOf}
+use Rattle.plane.specs.{EachPairOnce, Face, Fraction, HasFace, IsEdge, IsLocation, IsSamePair}
+use Rattle.plane.specs.{IsTiling, IsVertex, Joins, Location, no_triangulation, on_edge, on_face}
+use Rattle.plane.specs.{on_vertex, outside_hull, Point, TilesHull, Triangulation, vertex}
+use Rattle.plane.specs.{WithinSegment}
+use Rattle.plane_theorems.specs.Tiling.Local.{AreEdgesOf, IsMesh, LineMesh, LocalMesh}
 
 -- its faces tile the hull, with any list of edges that has each side of a face once
 abbrev pub LocalMeshesTile : Type 0

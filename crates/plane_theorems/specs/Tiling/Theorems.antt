@@ -1,7 +1,7 @@
 -- Theorems: from a local mesh invariant to the tiling of the hull.
-use Rattle.plane_theorems.specs.Tiling.Laws.{LocalMeshesTile, MeshesTile, NoEdgesCross}
 use Rattle.plane_theorems.specs.Tiling.Laws.{EachPointHasOneLocation, HullEdgesCount}
-use Rattle.plane_theorems.specs.Tiling.Laws.{LineEdgesCount}
+use Rattle.plane_theorems.specs.Tiling.Laws.{LineEdgesCount, LocalMeshesTile, MeshesTile}
+use Rattle.plane_theorems.specs.Tiling.Laws.{NoEdgesCross}
 
 -- each field is a theorem
 pub record TilingTheorems : Type 0 where

@@ -1,7 +1,6 @@
 //! Generators of hints by themselves.
 ghost use Rattle.std.specs.Prelude.{Some};
-ghost use Rattle.plane.specs.Hint.{IsAtMost};
-ghost use Rattle.plane.specs.Tests.{InRange};
+ghost use Rattle.plane.specs.{InRange, IsAtMost};
 
 use delaunay_core::HintGenerator;
 use delaunay_core::math::validate_vertex;

@@ -1,9 +1,7 @@
 //! A hint generator that lists what it is told.
 ghost use Rattle.std.specs.Prelude.{◌≡◌, Some};
-ghost use Rattle.plane.specs.Fraction.{Point};
-ghost use Rattle.plane.specs.Hint.{IsAtMostWith, IsAtMostWithout};
-ghost use Rattle.delaunay_core.specs.Held.{place_if};
-ghost use Rattle.delaunay_core.specs.Place.{place_of};
+ghost use Rattle.plane.specs.{IsAtMostWith, IsAtMostWithout, Point};
+ghost use Rattle.delaunay_core.specs.{place_if, place_of};
 
 use delaunay_core::HintGenerator;
 use delaunay_core::math::PlaneTests;

@@ -1,9 +1,7 @@
 //! A hint generator that has several others, of which one is chosen.
 ghost use Rattle.std.specs.Prelude.{◌≡◌, Some};
-ghost use Rattle.plane.specs.Fraction.{Point};
-ghost use Rattle.plane.specs.Hint.{IsAtMost, IsAtMostWith, IsAtMostWithout};
-ghost use Rattle.delaunay_core.specs.Held.{place_if};
-ghost use Rattle.delaunay_core.specs.Place.{place_of};
+ghost use Rattle.plane.specs.{IsAtMost, IsAtMostWith, IsAtMostWithout, Point};
+ghost use Rattle.delaunay_core.specs.{place_if, place_of};
 ghost use Rattle.test_reader.specs.Unions.{IsHeldIn};
 
 use crate::hints::listing::Listing;

@@ -1,9 +1,7 @@
 //! Telling a hint generator or not.
 ghost use Rattle.std.specs.Prelude.{◌≡◌, Some};
-ghost use Rattle.plane.specs.Fraction.{Point};
-ghost use Rattle.plane.specs.Hint.{IsAtMost, IsAtMostWith, IsAtMostWithout};
-ghost use Rattle.delaunay_core.specs.Held.{place_if};
-ghost use Rattle.delaunay_core.specs.Place.{place_of};
+ghost use Rattle.plane.specs.{IsAtMost, IsAtMostWith, IsAtMostWithout, Point};
+ghost use Rattle.delaunay_core.specs.{place_if, place_of};
 
 use delaunay_core::HintGenerator;
 use delaunay_core::math::PlaneTests;

@@ -1,9 +1,7 @@
 use Rattle.std.proofs.Common.{◌≡◌, ◌∙◌, ◌+◌, ℕ, ap, arith, sym, subst}
-use Rattle.delaunay_edit.specs.plane.Tests.{InRange}
-use Rattle.delaunay_interface.specs.Views.{corners_at}
-use Rattle.c_calls.specs.Kept.{kept_place}
+use Rattle.{c_calls.specs.kept_place, delaunay_interface.specs.Views.corners_at}
 use Rattle.c_calls.proofs.Disks.{corner_at, corners_in_range, corners_turn, passes_told, stays_told}
-use Rattle.c_calls.proofs.Disks.{told_same, turn_same}
+use Rattle.{c_calls.proofs.Disks.told_same, c_calls.proofs.Disks.turn_same, plane.specs.InRange}
 use Rattle.c_calls.proofs.beyond.flag_at.Goals as goal
 
 pub is_disk_within-requires-clause-a : goal.is_disk_within-requires-clause-a

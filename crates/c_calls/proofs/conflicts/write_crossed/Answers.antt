@@ -1,9 +1,7 @@
 use Rattle.std.proofs.Common.{length, refl, arith}
-use Rattle.delaunay_edit.specs.delaunay_legalization.Constraints.{constraints_by}
-use Rattle.delaunay_edit.specs.delaunay_legalization.State.{state_of}
-use Rattle.c_calls.specs.Conflicts.{AreCrossed}
-use Rattle.c_calls.proofs.Crossed.{conflict_told, crossed_few}
-use Rattle.c_calls.proofs.Telling.{all_told}
+use Rattle.delaunay_legalization.specs.{constraints_by, state_of}
+use Rattle.c_calls.specs.{AreCrossed}
+use Rattle.c_calls.proofs.{Crossed.conflict_told, Crossed.crossed_few, Telling.all_told}
 use Rattle.c_calls.proofs.Walked.{item_mesh, item_more, meeting_of, walk_begins, walk_ends}
 use Rattle.c_calls.proofs.conflicts.write_crossed.Goals as goal
 

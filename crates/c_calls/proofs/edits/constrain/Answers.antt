@@ -1,5 +1,4 @@
-use Rattle.c_calls.specs.Kept.{kept_place}
-use Rattle.c_calls.proofs.Edited.{addition_ended}
+use Rattle.{c_calls.proofs.Edited.addition_ended, c_calls.specs.kept_place}
 use Rattle.c_calls.proofs.edits.constrain.Goals as goal
 
 pub returns : goal.returns

@@ -1,5 +1,4 @@
-use Rattle.c_calls.specs.Kept.{kept_place}
-use Rattle.c_calls.proofs.Edited.{release_ended}
+use Rattle.{c_calls.proofs.Edited.release_ended, c_calls.specs.kept_place}
 use Rattle.c_calls.proofs.edits.release.Goals as goal
 
 pub returns : goal.returns

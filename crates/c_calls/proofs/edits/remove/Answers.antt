@@ -1,5 +1,4 @@
-use Rattle.c_calls.specs.Kept.{kept_place}
-use Rattle.c_calls.proofs.Edited.{removal_ended}
+use Rattle.{c_calls.proofs.Edited.removal_ended, c_calls.specs.kept_place}
 use Rattle.c_calls.proofs.edits.remove.Goals as goal
 
 pub returns : goal.returns

@@ -1,12 +1,9 @@
 use Rattle.std.proofs.Common.{◌+◌, List, length, sym, subst, arith}
 use Rattle.std.specs.List.{AllZip}
-use Rattle.delaunay_edit.specs.delaunay_legalization.Constraints.{constraints_by}
-use Rattle.delaunay_edit.specs.delaunay_legalization.State.{state_of}
-use Rattle.delaunay_edit.specs.delaunay_location.Items.{item_in}
-use Rattle.c_calls.specs.declared.raw.RawMeeting.{RawMeeting}
-use Rattle.c_calls.specs.Queries.{IsMeeting}
-use Rattle.c_calls.proofs.Telling.{all_told}
-use Rattle.c_calls.proofs.Walked.{IsToldOf, each_more, item_mesh, item_more, meeting_of, no_more}
+use Rattle.delaunay_legalization.specs.{constraints_by, state_of}
+use Rattle.delaunay_location.specs.{item_in}
+use Rattle.{c_calls.proofs.Telling.all_told, c_calls.specs.IsMeeting, c_calls.specs.RawMeeting}
+use Rattle.c_calls.proofs.Walked.{each_more, IsToldOf, item_mesh, item_more, meeting_of, no_more}
 use Rattle.c_calls.proofs.Walked.{walk_begins, walk_ends, walk_goes_on}
 use Rattle.c_calls.proofs.lines.write_meetings.Goals as goal
 

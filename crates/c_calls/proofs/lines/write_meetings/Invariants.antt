@@ -1,9 +1,7 @@
 use Rattle.std.specs.List.{AllZip}
-use Rattle.delaunay_edit.specs.delaunay_legalization.Constraints.{constraints_by}
-use Rattle.delaunay_edit.specs.delaunay_legalization.State.{state_of}
-use Rattle.delaunay_edit.specs.delaunay_location.Walk.{IsReady}
-use Rattle.c_calls.specs.Queries.{IsMeeting}
-use Rattle.c_calls.proofs.Walked.{IsToldOf}
+use Rattle.delaunay_legalization.specs.{constraints_by, state_of}
+use Rattle.c_calls.specs.{IsMeeting}
+use Rattle.{c_calls.proofs.Walked.IsToldOf, delaunay_location.specs.IsReady}
 use Rattle.c_calls.proofs.lines.write_meetings.Given as goal
 
 abbrev pub invariant-loop-item : goal.invariant-loop-item

@@ -1,5 +1,5 @@
 use Rattle.std.proofs.Common.{◌-◌, length, refl, arith}
-use Rattle.c_calls.specs.Kept.{kept_place}
+use Rattle.c_calls.specs.{kept_place}
 use Rattle.c_calls.proofs.Chains.{chain_closed, chain_done, chain_stopped, chain_unclosed}
 use Rattle.c_calls.proofs.list_edits.constrain_chain.Goals as goal
 

@@ -1,5 +1,5 @@
 use Rattle.std.proofs.Common.{refl, arith}
-use Rattle.c_calls.specs.Kept.{kept_place}
+use Rattle.c_calls.specs.{kept_place}
 use Rattle.c_calls.proofs.Chains.{path_ends, path_goes_on, path_stops}
 use Rattle.c_calls.proofs.list_edits.constrain_path.Goals as goal
 

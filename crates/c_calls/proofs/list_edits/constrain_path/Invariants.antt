@@ -1,6 +1,5 @@
 use Rattle.std.proofs.Common.{◌≡◌, ◌+◌, false, take}
-use Rattle.c_calls.specs.Kept.{kept_place}
-use Rattle.c_calls.specs.Lists.{AddsInTurn, chain_segments}
+use Rattle.c_calls.specs.{kept_place, Lists.AddsInTurn, Lists.chain_segments}
 use Rattle.c_calls.proofs.list_edits.constrain_path.Given as goal
 
 abbrev pub invariant-loop-place : goal.invariant-loop-place

@@ -1,8 +1,8 @@
 use Rattle.std.proofs.Common.{◌≤◌, ℕ, length, refl, sym, ap, subst}
 use Rattle.std.specs.Prelude.{Err}
-use Rattle.delaunay_edit.proofs.delaunay_legalization_lemmas.Questions.{both_ways}
-use Rattle.c_calls.specs.Kept.{kept_place}
-use Rattle.c_calls.specs.Lists.{ListInsertion, insertion_outside, unnumbered_points}
+use Rattle.delaunay_legalization.proofs.{both_ways}
+use Rattle.c_calls.specs.{kept_place, unnumbered_points}
+use Rattle.c_calls.specs.Lists.{insertion_outside, ListInsertion}
 use Rattle.c_calls.proofs.Listed.{count_same, may_insert, points_in_range, reserve_refused}
 use Rattle.c_calls.proofs.list_edits.insert_all.Goals as goal
 

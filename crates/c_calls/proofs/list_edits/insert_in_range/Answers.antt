@@ -1,8 +1,6 @@
 use Rattle.std.proofs.Common.{◌≡◌, ◌++◌, ℕ, List, length, drop, refl, subst}
-use Rattle.delaunay_bulk.specs.Bulk.{InsertsAll, StopsAt}
-use Rattle.c_calls.specs.declared.raw.NumberedPoint.{NumberedPoint}
-use Rattle.c_calls.specs.Kept.{kept_place}
-use Rattle.c_calls.specs.Lists.{insertion_refused, unnumbered_points}
+use Rattle.delaunay_bulk.specs.{InsertsAll, StopsAt}
+use Rattle.c_calls.specs.{kept_place, Lists.insertion_refused, NumberedPoint, unnumbered_points}
 use Rattle.c_calls.proofs.Listed.{is_all_inserted, is_stopped}
 use Rattle.c_calls.proofs.list_edits.insert_in_range.Goals as goal
 

@@ -1,6 +1,6 @@
 use Rattle.std.proofs.Common.{ℕ, List, take, subst, arith}
 use Rattle.std.proofs.lemmas.List.{take_all}
-use Rattle.c_calls.specs.Lists.{GivesNumbers}
+use Rattle.c_calls.specs.{GivesNumbers}
 use Rattle.c_calls.proofs.Numbers.{as_many, is_numbered, one_more_number}
 use Rattle.c_calls.proofs.list_edits.set_numbers.Goals as goal
 

@@ -1,5 +1,5 @@
 use Rattle.std.proofs.Common.{take}
-use Rattle.c_calls.specs.Lists.{GivesNumbers}
+use Rattle.c_calls.specs.{GivesNumbers}
 use Rattle.c_calls.proofs.list_edits.set_numbers.Given as goal
 
 abbrev pub invariant-loop-place : goal.invariant-loop-place

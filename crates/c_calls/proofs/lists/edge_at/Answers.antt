@@ -1,6 +1,5 @@
 use Rattle.std.proofs.Common.{◌∙◌, ℕ, ◌*◌, ap}
-use Rattle.delaunay_edit.specs.delaunay_legalization.State.{state_of}
-use Rattle.c_calls.proofs.Marks.{edge_at}
+use Rattle.{c_calls.proofs.Marks.edge_at, delaunay_legalization.specs.state_of}
 use Rattle.c_calls.proofs.lists.edge_at.Goals as goal
 
 pub returns : goal.returns

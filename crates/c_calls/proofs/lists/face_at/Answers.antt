@@ -1,6 +1,5 @@
 use Rattle.std.proofs.Common.{◌∙◌}
-use Rattle.delaunay_edit.specs.delaunay_legalization.State.{state_of}
-use Rattle.c_calls.proofs.Sides.{face_at}
+use Rattle.{c_calls.proofs.Sides.face_at, delaunay_legalization.specs.state_of}
 use Rattle.c_calls.proofs.lists.face_at.Goals as goal
 
 pub returns : goal.returns

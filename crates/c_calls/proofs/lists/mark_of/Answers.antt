@@ -1,8 +1,6 @@
 use Rattle.std.proofs.Common.{◌∙◌, ◌/◌, ℕ, inl, inr, refl, sym, ap}
 use Rattle.std.specs.Prelude.{slice_get}
-use Rattle.delaunay_edit.proofs.delaunay_legalization_lemmas.Constraints.{fixed_edge_is}
-use Rattle.delaunay_edit.proofs.delaunay_legalization_lemmas.Constraints.{is_constraint_edge}
-use Rattle.delaunay_edit.proofs.delaunay_legalization_lemmas.Questions.{both_ways}
+use Rattle.delaunay_legalization.proofs.{both_ways, Constraints.is_constraint_edge, fixed_edge_is}
 use Rattle.c_calls.proofs.lists.mark_of.Goals as goal
 
 pub returns-then-is_constraint_edge : goal.returns-then-is_constraint_edge

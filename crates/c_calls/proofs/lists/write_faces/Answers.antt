@@ -1,5 +1,5 @@
 use Rattle.std.proofs.Common.{refl, arith}
-use Rattle.c_calls.specs.Written.{listed}
+use Rattle.c_calls.specs.{listed}
 use Rattle.c_calls.proofs.Writing.{all_answered, none_answered, one_more}
 use Rattle.c_calls.proofs.lists.write_faces.Goals as goal
 

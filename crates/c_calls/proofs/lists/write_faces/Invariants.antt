@@ -1,7 +1,5 @@
-use Rattle.delaunay_edit.specs.delaunay_legalization.Constraints.{constraints_by}
-use Rattle.delaunay_edit.specs.delaunay_legalization.State.{triangulation_of}
-use Rattle.c_calls.specs.Queries.{IsFaceEntry}
-use Rattle.c_calls.specs.Written.{Answered}
+use Rattle.delaunay_legalization.specs.{constraints_by, triangulation_of}
+use Rattle.c_calls.specs.{Answered, IsFaceEntry}
 use Rattle.c_calls.proofs.lists.write_faces.Given as goal
 
 abbrev pub invariant-loop-index : goal.invariant-loop-index

@@ -1,6 +1,5 @@
 use Rattle.std.proofs.Common.{refl, arith}
-use Rattle.delaunay_edit.proofs.delaunay_legalization_lemmas.Questions.{both_ways}
-use Rattle.c_calls.proofs.Writing.{ranges_more}
+use Rattle.{c_calls.proofs.Writing.ranges_more, delaunay_legalization.proofs.both_ways}
 use Rattle.c_calls.proofs.queries.are_in_range.Goals as goal
 
 pub loop-point-preserved : goal.loop-point-preserved

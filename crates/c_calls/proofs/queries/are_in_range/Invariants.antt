@@ -1,6 +1,5 @@
 use Rattle.std.proofs.Common.{ℕ, ◌<◌, get_or}
-use Rattle.c_calls.specs.declared.raw.RawPoint.{RawPoint}
-use Rattle.c_calls.specs.Written.{IsRawInRange}
+use Rattle.c_calls.specs.{IsRawInRange, RawPoint}
 use Rattle.c_calls.proofs.queries.are_in_range.Given as goal
 
 abbrev pub invariant-loop-point : goal.invariant-loop-point

@@ -1,7 +1,5 @@
 use Rattle.std.proofs.Common.{ℕ, pos, refl, arith}
-use Rattle.c_calls.specs.Kept.{kept_place}
-use Rattle.c_calls.specs.Queries.{IsNearestAnswer}
-use Rattle.c_calls.specs.Written.{answered}
+use Rattle.c_calls.specs.{kept_place, Queries.IsNearestAnswer, Written.answered}
 use Rattle.c_calls.proofs.Writing.{all_answered, answer_at, none_answered, one_more}
 use Rattle.c_calls.proofs.queries.find_nearest.Goals as goal
 

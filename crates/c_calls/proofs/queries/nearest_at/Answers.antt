@@ -1,10 +1,6 @@
 use Rattle.std.proofs.Common.{◌∙◌, ℕ, refl, sym, subst, inl, inr}
-use Rattle.delaunay_edit.specs.delaunay_core.Place.{place_of}
-use Rattle.delaunay_edit.specs.delaunay_legalization.State.{triangulation_of}
-use Rattle.delaunay_edit.specs.plane.Fraction.{whole}
-use Rattle.delaunay_edit.specs.plane.Shape.{IsNearest}
-use Rattle.c_calls.specs.Kept.{kept_place}
-use Rattle.c_calls.specs.Written.{plain_point}
+use Rattle.{delaunay_legalization.specs.triangulation_of, plane.specs.IsNearest, plane.specs.whole}
+use Rattle.{c_calls.specs.kept_place, c_calls.specs.plain_point, delaunay_core.specs.place_of}
 use Rattle.c_calls.proofs.queries.nearest_at.Goals as goal
 
 pub returns-in-Some : goal.returns-in-Some

@@ -1,7 +1,6 @@
 use Rattle.std.proofs.Common.{subst}
-use Rattle.delaunay_edit.specs.delaunay_core.Place.{place_of}
-use Rattle.delaunay_interface.specs.delaunay_edit.Elements.{FindsLocation}
-use Rattle.c_calls.specs.Kept.{kept_place}
+use Rattle.{delaunay_core.specs.place_of, delaunay_edit.specs.FindsLocation}
+use Rattle.c_calls.specs.{kept_place}
 use Rattle.c_calls.proofs.queries.place_at.Goals as goal
 
 pub returns : goal.returns

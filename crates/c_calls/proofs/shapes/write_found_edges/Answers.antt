@@ -1,9 +1,8 @@
 use Rattle.std.proofs.Common.{◌∙◌, ◌+◌, ℕ, List, length, set, sym, ap, subst, arith}
 use Rattle.std.proofs.lemmas.List.{length-map}
-use Rattle.delaunay_queries.specs.Found.{edges_left}
-use Rattle.c_calls.specs.Links.{indexes_in}
-use Rattle.c_calls.proofs.Telling.{IsTelling, all_told, are_more, telling_begins}
-use Rattle.c_calls.proofs.Telling.{telling_ends, telling_goes_on}
+use Rattle.c_calls.specs.{indexes_in}
+use Rattle.c_calls.proofs.Telling.{all_told, are_more, IsTelling, telling_begins, telling_ends}
+use Rattle.{c_calls.proofs.Telling.telling_goes_on, delaunay_shapes.specs.edges_left}
 use Rattle.c_calls.proofs.shapes.write_found_edges.Goals as goal
 
 pub loop-edge-init : goal.loop-edge-init

@@ -1,6 +1,5 @@
-use Rattle.delaunay_queries.specs.Found.{edges_left}
-use Rattle.c_calls.specs.Links.{indexes_in}
-use Rattle.c_calls.proofs.Telling.{IsTelling}
+use Rattle.c_calls.specs.{indexes_in}
+use Rattle.{c_calls.proofs.Telling.IsTelling, delaunay_shapes.specs.edges_left}
 use Rattle.c_calls.proofs.shapes.write_found_edges.Given as goal
 
 abbrev pub invariant-loop-edge : goal.invariant-loop-edge

@@ -1,7 +1,6 @@
 use Rattle.std.proofs.Common.{arith}
 use Rattle.std.proofs.lemmas.Grind.{pow_more}
-use Rattle.decimal_numbers.proofs.Powers.{too_large}
-use Rattle.decimal_numbers.proofs.Splits.{if_none}
+use Rattle.{decimal_numbers.proofs.Powers.too_large, decimal_numbers.proofs.Splits.if_none}
 use Rattle.decimal_numbers.proofs.decimal.raise.Goals as goal
 
 pub loop-preserved : goal.loop-preserved

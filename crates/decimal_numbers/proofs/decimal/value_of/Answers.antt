@@ -1,11 +1,9 @@
 use Rattle.std.proofs.Common.{◌+◌, ◌*◌, ◌^◌, ◌∙◌, length, ap, refl, arith}
 use Rattle.std.proofs.Common.{inl, rules}
 use Rattle.std.specs.Str.Parse.{digits_value_after}
-use Rattle.decimal_numbers.specs.Reading.{parts_of}
-use Rattle.decimal_numbers.specs.Value.{IsTooLong, raised_by}
-use Rattle.decimal_numbers.proofs.Powers.{lowered_magnitude, raised_magnitude}
-use Rattle.decimal_numbers.proofs.Powers.{long_digits, long_raised, long_whole}
-use Rattle.decimal_numbers.proofs.Powers.{short_lowered, short_raised}
+use Rattle.decimal_numbers.specs.{IsTooLong, parts_of, raised_by}
+use Rattle.decimal_numbers.proofs.Powers.{long_digits, long_raised, long_whole, lowered_magnitude}
+use Rattle.decimal_numbers.proofs.Powers.{raised_magnitude, short_lowered, short_raised}
 use Rattle.decimal_numbers.proofs.decimal.value_of.Goals as goal
 
 pub returns-then-written-clause-value : goal.returns-then-written-clause-value

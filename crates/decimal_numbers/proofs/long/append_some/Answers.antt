@@ -2,8 +2,7 @@ use Rattle.std.proofs.Common.{◌-◌, arith, drop, length, length-drop, subst, 
 use Rattle.std.specs.Str.Parse.{AllDigits}
 use Rattle.std.proofs.lemmas.List.{take_all}
 use Rattle.std.proofs.lemmas.Str.Parse.{digit_at}
-use Rattle.decimal_numbers.proofs.Cuts.{all_dropped}
-use Rattle.decimal_numbers.proofs.Powers.{digit_taken}
+use Rattle.decimal_numbers.proofs.{Cuts.all_dropped, Powers.digit_taken}
 use Rattle.decimal_numbers.proofs.long.append_some.Goals as goal
 
 pub returns-then-value-ge-FULL-clause-digits : goal.returns-then-value-ge-FULL-clause-digits

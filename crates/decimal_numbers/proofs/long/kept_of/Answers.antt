@@ -2,10 +2,8 @@ use Rattle.std.proofs.Common.{arith, inl, inr, ◌∙◌}
 use Rattle.decimal_numbers.proofs.Cuts.{all_digits, digits_high, wide_whole}
 use Rattle.decimal_numbers.proofs.Splits.{is_none, is_some}
 use Rattle.decimal_numbers.proofs.long.kept_of.Goals as goal
-use Rattle.decimal_numbers.proofs.long.kept_of.Goals.{
-  then-not-is_empty-via-then-not-is_empty,
-  then-not-is_empty-via-else-not-is_empty+then-fraction-gt-MAX_BEHIND,
-}
+use goal.{then-not-is_empty-via-else-not-is_empty+then-fraction-gt-MAX_BEHIND}
+use goal.{then-not-is_empty-via-then-not-is_empty}
 
 pub returns-then-not-is_empty-clause-none : goal.returns-then-not-is_empty-clause-none
 returns-then-not-is_empty-clause-none c =

@@ -1,7 +1,6 @@
 use Rattle.std.proofs.Common.{◌+◌, length, arith, ap, refl, sym}
-use Rattle.decimal_numbers.specs.Reading.{parts_of}
 use Rattle.decimal_numbers.proofs.Longs.{kept_value, large_cut, large_raised, raised_value}
-use Rattle.decimal_numbers.proofs.Splits.{if_none}
+use Rattle.{decimal_numbers.proofs.Splits.if_none, decimal_numbers.specs.parts_of}
 use Rattle.decimal_numbers.proofs.long.long_value_of.Goals as goal
 
 pub returns-then-written-clause-value : goal.returns-then-written-clause-value

@@ -1,11 +1,8 @@
 use Rattle.std.proofs.Common.{◌+◌, ◌<◌, length, arith, ap, sym, subst}
-use Rattle.decimal_numbers.specs.Grammar.{IsPower, SpellsNoNumber}
-use Rattle.decimal_numbers.proofs.Splits.{parts_are, number_of, if_none, is_none, is_some}
+use Rattle.{decimal_numbers.specs.Grammar.SpellsNoNumber, decimal_numbers.specs.IsPower}
+use Rattle.decimal_numbers.proofs.Splits.{if_none, is_none, is_some, number_of, parts_are}
 use Rattle.decimal_numbers.proofs.parts.written_of.Goals as goal
-use Rattle.decimal_numbers.proofs.parts.written_of.Goals.{
-  else-is_empty-via-then-is_empty+else-is_empty-2,
-  else-is_empty-via-else-is_empty,
-}
+use goal.{else-is_empty-via-else-is_empty, else-is_empty-via-then-is_empty+else-is_empty-2}
 
 pub returns-then-is_empty-2-clause-none : goal.returns-then-is_empty-2-clause-none
 returns-then-is_empty-2-clause-none c = λ p s.

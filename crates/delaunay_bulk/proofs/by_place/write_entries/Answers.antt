@@ -1,7 +1,7 @@
 use Rattle.std.proofs.Common.{◌∙◌, ◌+◌, sym, ap, drop}
 use Rattle.std.specs.Prelude.{slice_set}
 use Rattle.std.proofs.lemmas.List.{drop_all, length-set}
-use Rattle.delaunay_bulk.specs.ByPlace.{written}
+use Rattle.delaunay_bulk.specs.{written}
 use Rattle.delaunay_bulk.proofs.Written.{first_written, none_waits}
 use Rattle.delaunay_bulk.proofs.by_place.write_entries.Goals as goal
 

@@ -1,5 +1,5 @@
 use Rattle.std.proofs.Common.{◌≡◌, ◌<◌, length, All, drop}
-use Rattle.delaunay_bulk.specs.ByPlace.{written}
+use Rattle.delaunay_bulk.specs.{written}
 use Rattle.delaunay_bulk.proofs.by_place.write_entries.Given as goal
 
 abbrev pub invariant-loop-entry : goal.invariant-loop-entry

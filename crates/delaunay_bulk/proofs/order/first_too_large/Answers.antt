@@ -3,7 +3,7 @@ use Rattle.std.specs.Prelude.{All}
 use Rattle.std.proofs.lemmas.List.{take_all}
 use Rattle.std.proofs.lemmas.List.Elements.{All-more}
 use Rattle.std.proofs.lemmas.Option.{slice_get_read}
-use Rattle.delaunay_interface.specs.plane.Tests.{InRange}
+use Rattle.plane.specs.{InRange}
 use Rattle.delaunay_bulk.proofs.order.first_too_large.Goals as goal
 
 pub loop-place-preserved : goal.loop-place-preserved

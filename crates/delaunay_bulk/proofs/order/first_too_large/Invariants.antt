@@ -1,5 +1,5 @@
 use Rattle.std.specs.Prelude.{All, take}
-use Rattle.delaunay_interface.specs.plane.Tests.{InRange}
+use Rattle.plane.specs.{InRange}
 use Rattle.delaunay_bulk.proofs.order.first_too_large.Given as goal
 
 abbrev pub invariant-loop-place : goal.invariant-loop-place

@@ -1,30 +1,30 @@
 use Rattle.std.proofs.Common.{◌∙◌, sym}
-use Rattle.delaunay_edit.proofs.AddingPieces.{adding_between, adding_goes_on_by, adding_placed}
-use Rattle.delaunay_edit.proofs.AddingPieces.{adding_room, adding_shortens, adding_starts}
-use Rattle.delaunay_edit.proofs.AddingPieces.{adding_to_ends, adding_work}
+use Rattle.delaunay_edit.proofs.AddingSubconstraints.{adding_between, adding_goes_on_by}
+use Rattle.delaunay_edit.proofs.AddingSubconstraints.{adding_placed, adding_room, adding_shortens}
+use Rattle.delaunay_edit.proofs.AddingSubconstraints.{adding_starts, adding_to_ends, adding_work}
 use Rattle.delaunay_edit.proofs.JoinedPairs.{first_joined, index_found, some_joins}
-use Rattle.delaunay_edit.proofs.Making.{making_begins, making_falls, making_goes_on}
-use Rattle.delaunay_edit.proofs.Making.{making_placed, making_work}
-use Rattle.delaunay_edit.proofs.Marks.{gets_mark, has_mark}
+use Rattle.delaunay_edit.proofs.Making.{making_begins, making_falls, making_goes_on, making_placed}
+use Rattle.delaunay_edit.proofs.{Making.making_work, Marks.gets_mark, Marks.has_mark}
 use Rattle.delaunay_edit.proofs.adding.add_path.Goals as goal
 
 pub loop-next-init : goal.loop-next-init
 loop-next-init g c = adding_starts _ _ g.met.M.ConstraintMarker.constraints_are_marked
     c.requires.kept c.requires.way c.requires.room.0
 
-pub invariant_of-list_piece : goal.invariant_of-list_piece
-invariant_of-list_piece g c = adding_placed c.loop-next.invariant.so_far c.requires.sites
+pub invariant_of-list_subconstraint : goal.invariant_of-list_subconstraint
+invariant_of-list_subconstraint g c = adding_placed c.loop-next.invariant.so_far c.requires.sites
 
-pub list_piece-requires : goal.list_piece-requires
-list_piece-requires g c = record {
+pub list_subconstraint-requires : goal.list_subconstraint-requires
+list_subconstraint-requires g c = record {
   ends = adding_between c.loop-next.invariant.so_far;
   room = adding_room c.loop-next.invariant c.requires.room.1;
 }
 
--- ---- turns until a piece is an edge
+-- ---- turns until a subconstraint is an edge
 pub loop-edge-init : goal.loop-edge-init
 loop-edge-init g c =
-    making_begins c.in-Some.ensures.piece.turn (adding_work c.loop-next.invariant c.requires.room.0)
+    making_begins c.in-Some.ensures.subconstraint.turn (adding_work c.loop-next.invariant
+    c.requires.room.0)
 
 pub invariant_of-next_turn : goal.invariant_of-next_turn
 invariant_of-next_turn g c = making_placed c.loop-edge.invariant
@@ -47,7 +47,7 @@ loop-edge-preserved g c = making_goes_on c.loop-edge.invariant c.turn.ensures.tu
 pub loop-edge-smaller : goal.loop-edge-smaller
 loop-edge-smaller g c = making_falls c.loop-edge.invariant c.turn.ensures.turns
 
--- ---- the piece becomes a constraint
+-- ---- the subconstraint becomes a constraint
 pub get_edge_from_neighbors-requires : goal.get_edge_from_neighbors-requires
 get_edge_from_neighbors-requires g c =
     let made = c.in_default-next_turn.ensures.found in first_joined made.whole made.edge
@@ -61,7 +61,8 @@ pub loop-next-preserved-then-not-is_constraint_edge :
     goal.loop-next-preserved-then-not-is_constraint_edge
 loop-next-preserved-then-not-is_constraint_edge g c =
     let laws = g.met.M.ConstraintMarker in
-    adding_goes_on_by c.loop-next.invariant c.in-Some.ensures.piece.next c.list_piece.ensures.room
+    adding_goes_on_by c.loop-next.invariant c.in-Some.ensures.subconstraint.next
+    c.list_subconstraint.ensures.room
     c.loop-edge.invariant c.in_default-next_turn.ensures.found c.next_turn.ensures.room
     (index_found c.in-Some-get_edge_from_neighbors.ensures.some c.fix.ensures.value
     c.fix.ensures.in_range)
@@ -73,7 +74,8 @@ loop-next-preserved-then-not-is_constraint_edge g c =
 
 pub loop-next-preserved : goal.loop-next-preserved
 loop-next-preserved g c =
-    adding_goes_on_by c.loop-next.invariant c.in-Some.ensures.piece.next c.list_piece.ensures.room
+    adding_goes_on_by c.loop-next.invariant c.in-Some.ensures.subconstraint.next
+    c.list_subconstraint.ensures.room
     c.loop-edge.invariant c.in_default-next_turn.ensures.found c.next_turn.ensures.room
     (index_found c.in-Some-get_edge_from_neighbors.ensures.some c.fix.ensures.value
     c.fix.ensures.in_range)
@@ -84,12 +86,12 @@ loop-next-preserved g c =
 pub loop-next-smaller-then-not-is_constraint_edge :
     goal.loop-next-smaller-then-not-is_constraint_edge
 loop-next-smaller-then-not-is_constraint_edge g c =
-    adding_shortens c.loop-next.invariant.so_far c.in-Some.ensures.piece.next
+    adding_shortens c.loop-next.invariant.so_far c.in-Some.ensures.subconstraint.next
 
 pub loop-next-smaller : goal.loop-next-smaller
 loop-next-smaller g c =
-    adding_shortens c.loop-next.invariant.so_far c.in-Some.ensures.piece.next
+    adding_shortens c.loop-next.invariant.so_far c.in-Some.ensures.subconstraint.next
 
 pub returns-clause-adds : goal.returns-clause-adds
 returns-clause-adds g c =
-    adding_to_ends c.loop-next.invariant.so_far c.in_default.ensures.piece
+    adding_to_ends c.loop-next.invariant.so_far c.in_default.ensures.subconstraint

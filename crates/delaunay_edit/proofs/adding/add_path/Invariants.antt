@@ -1,22 +1,20 @@
 use Rattle.std.proofs.Common.{map}
 use Rattle.std.specs.Prelude.{nat_abs}
-use Rattle.delaunay_location.specs.plane.Laws.{squared_way}
-use Rattle.delaunay_location.specs.plane_theorems.Edits.Legal.{point_of}
-use Rattle.delaunay_location.specs.plane_theorems.Segments.Measure.{crossing_sum}
-use Rattle.delaunay_location.specs.delaunay_legalization.Drawn.{faces_of}
-use Rattle.delaunay_edit.proofs.AddingPieces.{IsAddingPieces}
-use Rattle.delaunay_edit.proofs.Making.{IsMaking}
+use Rattle.plane_theorems.specs.{crossing_sum, point_of}
+use Rattle.{delaunay_legalization.specs.faces_of, plane.specs.squared_vector}
+use Rattle.delaunay_edit.proofs.{AddingSubconstraints.IsAddingSubconstraints, Making.IsMaking}
 use Rattle.delaunay_edit.proofs.adding.add_path.Given as goal
 
 abbrev pub invariant-loop-next : goal.invariant-loop-next
-invariant-loop-next g l = IsAddingPieces g.M.ConstraintMarker.marks g.M.ConstraintMarker.constraints
+invariant-loop-next g l = IsAddingSubconstraints g.M.ConstraintMarker.marks
+    g.M.ConstraintMarker.constraints
     g.met.M.ConstraintMarker.constraints_are_marked g.V.HasPosition.place
     g.M.ConstraintMarker.marked l.fn.dcel l.dcel l.fn.from l.fn.to l.at l.fn.work.items l.work.items
     l.fn.work.room l.work.room l.fn.lists l.lists
 
 abbrev pub decreases-loop-next : goal.decreases-loop-next
 decreases-loop-next g l =
-    nat_abs (squared_way (point_of (map g.V.HasPosition.place l.fn.dcel.vertices) l.at)
+    nat_abs (squared_vector (point_of (map g.V.HasPosition.place l.fn.dcel.vertices) l.at)
     (point_of (map g.V.HasPosition.place l.fn.dcel.vertices) l.fn.to))
 
 abbrev pub invariant-loop-edge : goal.invariant-loop-edge

@@ -1,6 +1,5 @@
 use Rattle.std.proofs.Common.{◌∙◌, arith, sym}
-use Rattle.delaunay_edit.proofs.Marks.{gets_mark, has_mark}
-use Rattle.delaunay_edit.proofs.OnePiece.{edge_added}
+use Rattle.delaunay_edit.proofs.{Marks.gets_mark, Marks.has_mark, OneSubconstraint.edge_added}
 use Rattle.delaunay_edit.proofs.constraints.constrain_edge.Goals as goal
 
 pub undirected_edge_data-requires : goal.undirected_edge_data-requires

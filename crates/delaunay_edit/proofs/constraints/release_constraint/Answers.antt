@@ -1,5 +1,4 @@
-use Rattle.delaunay_location.proofs.plane_theorems.Tiling.Totals.{Contains-none}
-use Rattle.delaunay_location.proofs.delaunay_legalization_lemmas.Constraints.{fixed_within}
+use Rattle.{delaunay_legalization.proofs.fixed_within, plane_theorems.proofs.Contains-none}
 use Rattle.delaunay_edit.proofs.Releasing.{released, released_kept, released_left, released_room}
 use Rattle.delaunay_edit.proofs.constraints.release_constraint.Goals as goal
 

@@ -1,8 +1,7 @@
 use Rattle.std.proofs.Common.{ap}
-use Rattle.delaunay_edit.specs.half_edge_dcel.Rounds.{out_edges_left}
-use Rattle.delaunay_edit.proofs.delaunay_legalization_lemmas.Questions.{both_ways}
-use Rattle.delaunay_edit.proofs.CountingAt.{counting_begins, next_within, counting_goes_past}
-use Rattle.delaunay_edit.proofs.CountingAt.{counting_goes_on, counting_ends}
+use Rattle.{delaunay_legalization.proofs.both_ways, half_edge_dcel.specs.out_edges_left}
+use Rattle.delaunay_edit.proofs.CountingAt.{counting_begins, counting_ends, counting_goes_on}
+use Rattle.delaunay_edit.proofs.CountingAt.{counting_goes_past, next_within}
 use Rattle.delaunay_edit.proofs.CountingWalk.{half_listed, half_unlisted}
 use Rattle.delaunay_edit.proofs.counting.count_constraints_at.Goals as goal
 

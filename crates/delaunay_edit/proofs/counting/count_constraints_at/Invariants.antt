@@ -1,5 +1,4 @@
-use Rattle.delaunay_edit.specs.half_edge_dcel.Rounds.{out_edges_left}
-use Rattle.delaunay_edit.proofs.CountingAt.{IsCountingAt}
+use Rattle.{delaunay_edit.proofs.CountingAt.IsCountingAt, half_edge_dcel.specs.out_edges_left}
 use Rattle.delaunay_edit.proofs.counting.count_constraints_at.Given as goal
 
 abbrev pub invariant-loop-edge : goal.invariant-loop-edge

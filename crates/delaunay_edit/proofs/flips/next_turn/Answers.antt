@@ -1,14 +1,13 @@
 use Rattle.std.proofs.Common.{ap, map, refl}
-use Rattle.delaunay_location.specs.delaunay_core.Place.{place_of}
+use Rattle.delaunay_core.specs.{place_of}
 use Rattle.delaunay_edit.proofs.MovedEdges.{can_step, can_wait, longer, shorter}
-use Rattle.delaunay_edit.proofs.Seeking.{AreCorners, HaveSeen, going_back_begins}
-use Rattle.delaunay_edit.proofs.Seeking.{going_back_goes_on, round_ends, round_finds, rounds_begin}
+use Rattle.delaunay_edit.proofs.Seeking.{AreCorners, going_back_begins, going_back_goes_on}
+use Rattle.delaunay_edit.proofs.Seeking.{HaveSeen, round_ends, round_finds, rounds_begin}
 use Rattle.delaunay_edit.proofs.Seeking.{seeking_begins, seeking_ends, seeking_goes_on}
 use Rattle.delaunay_edit.proofs.Seeking.{seeking_within, turns_not_at}
-use Rattle.delaunay_edit.proofs.Walking.{corners_covered}
-use Rattle.delaunay_edit.proofs.flips.next_turn.Given.{Over}
-use Rattle.delaunay_edit.proofs.flips.next_turn.Goals.{After-position_of-in-Some-5, In_default}
+use Rattle.delaunay_edit.proofs.{flips.next_turn.Given.Over, Walking.corners_covered}
 use Rattle.delaunay_edit.proofs.flips.next_turn.Goals as goal
+use Rattle.delaunay_edit.proofs.flips.next_turn.Goals.{After-position_of-in-Some-5, In_default}
 
 pub loop-init : goal.loop-init
 loop-init g c = rounds_begin c.requires.turn
@@ -18,20 +17,20 @@ pub loop-edge-init : goal.loop-edge-init
 loop-edge-init g c = seeking_begins c.loop.invariant.turn
 
 pub directed_edge-here-requires : goal.directed_edge-here-requires
-directed_edge-here-requires g c = rw (ap (λ s. s.dcel) c.placed.view_is)
+directed_edge-here-requires g c = rw (ap (λ s. s.dcel) c.embedding.view_is)
     (seeking_within _ c.loop-edge.invariant _ _ c.in-Some.ensures.items).edge
 
 pub position_of-requires : goal.position_of-requires
-position_of-requires g c = rw (ap (λ s. s.dcel) c.placed.view_is)
+position_of-requires g c = rw (ap (λ s. s.dcel) c.embedding.view_is)
     (seeking_within _ c.loop-edge.invariant _ _ c.in-Some.ensures.items).from
 
 pub position_of-requires-in-Some : goal.position_of-requires-in-Some
-position_of-requires-in-Some g c = rw (ap (λ s. s.dcel) c.placed.view_is)
+position_of-requires-in-Some g c = rw (ap (λ s. s.dcel) c.embedding.view_is)
     (seeking_within _ c.loop-edge.invariant _ _ c.in-Some.ensures.items).to
 
 pub invariant_of-turning : goal.invariant_of-turning
 invariant_of-turning g c =
-    corners_covered _ (g.met.P.PlaneTests.sites_are_covered _) c.placed.invariant.sites
+    corners_covered _ (g.met.P.PlaneTests.sites_are_covered _) c.embedding.invariant.sites
     c.position_of.ensures.listed c.position_of-in-Some.ensures.listed
     c.position_of-in-Some-2.ensures.listed c.position_of-in-Some-3.ensures.listed
     c.position_of-in-Some-4.ensures.listed c.position_of-in-Some-5.ensures.listed
@@ -39,12 +38,12 @@ invariant_of-turning g c =
 -- the corners are those round the edge
 corners : (g : Over) (c : After-position_of-in-Some-5 g) →
     let place = place_of g.V.Scalar.SpadeNum.whole in
-    AreCorners (map g.V.HasPosition.place c.args.placed.now.dcel.vertices)
-    c.args.placed.now.dcel.mesh c.args.from c.args.to c.in-Some.edge
+    AreCorners (map g.V.HasPosition.place c.args.embedding.now.dcel.vertices)
+    c.args.embedding.now.dcel.mesh c.args.from c.args.to c.in-Some.edge
     (place c.position_of.result) (place c.position_of-in-Some.result)
     (place c.position_of-in-Some-2.result) (place c.position_of-in-Some-3.result)
     (place c.position_of-in-Some-4.result) (place c.position_of-in-Some-5.result)
-corners g c = rw (← c.placed.view_is)
+corners g c = rw (← c.embedding.view_is)
     (record { from = cc; to = cc; start = cc; behind_is = cc; end = cc; ahead_is = cc })
 
 pub returns-in-Some-way_made : goal.returns-in-Some-way_made
@@ -75,7 +74,8 @@ loop-edge-smaller g c = shorter _ _ (longer _ _ _ c.in-Some.ensures.items)
 
 -- none of them can be turned
 seen : (g : Over) (c : In_default g)
-    → HaveSeen (map g.V.HasPosition.place c.args.placed.now.dcel.vertices) c.args.placed.now.dcel
+    → HaveSeen (map g.V.HasPosition.place c.args.embedding.now.dcel.vertices)
+    c.args.embedding.now.dcel
     c.args.from c.args.to c.loop.lists
     (record { waiting = c.loop-edge.lists.waiting; unseen = c.pop.new.self })
 seen g c = seeking_ends c.loop-edge.invariant

@@ -1,6 +1,6 @@
 use Rattle.std.proofs.Common.{◌∙◌, ap}
-use Rattle.delaunay_edit.specs.half_edge_links.Mesh.{origin, rev}
-use Rattle.delaunay_edit.specs.half_edge_dcel.Rounds.{out_edges_left}
+use Rattle.half_edge_links.specs.{origin, rev}
+use Rattle.half_edge_dcel.specs.{out_edges_left}
 use Rattle.delaunay_edit.proofs.SeekingEnds.{seeking_begins, seeking_ends, seeking_finds}
 use Rattle.delaunay_edit.proofs.SeekingEnds.{seeking_goes_on, sought_within}
 use Rattle.delaunay_edit.proofs.halves.constraint_end_beside.Goals as goal

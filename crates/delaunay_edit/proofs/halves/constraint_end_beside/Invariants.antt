@@ -1,5 +1,4 @@
-use Rattle.delaunay_edit.specs.half_edge_dcel.Rounds.{out_edges_left}
-use Rattle.delaunay_edit.proofs.SeekingEnds.{IsSeekingEnd}
+use Rattle.{delaunay_edit.proofs.SeekingEnds.IsSeekingEnd, half_edge_dcel.specs.out_edges_left}
 use Rattle.delaunay_edit.proofs.halves.constraint_end_beside.Given as goal
 
 abbrev pub invariant-loop-edge : goal.invariant-loop-edge

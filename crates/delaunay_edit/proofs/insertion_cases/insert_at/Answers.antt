@@ -1,21 +1,17 @@
 use Rattle.std.proofs.Common.{◌∙◌, [], ◌∷◌, ap, arith, length, length-append}
-use Rattle.delaunay_edit.specs.half_edge_dcel.Contents.{edges}
-use Rattle.delaunay_vertices.proofs.Appending.{sites_after}
+use Rattle.delaunay_vertices.proofs.{Appending.sites_after, LeftToTest.passes_beside}
 use Rattle.delaunay_vertices.proofs.EdgeLists.{adds_nothing, adds_on, adds_only}
-use Rattle.delaunay_vertices.proofs.EdgeSides.{room_inside}
+use Rattle.{delaunay_vertices.proofs.EdgeSides.room_inside, half_edge_dcel.specs.edges}
 use Rattle.delaunay_vertices.proofs.FirstVertices.{few_are_legal, first_gains, no_edges}
-use Rattle.delaunay_vertices.proofs.FirstVertices.{second_gains}
-use Rattle.delaunay_vertices.proofs.InsertionCases.{inside_gains}
-use Rattle.delaunay_vertices.proofs.LeftToTest.{passes_beside}
-use Rattle.delaunay_edit.proofs.Cases.{vertex_of_handle, not_on_vertex}
-use Rattle.delaunay_edit.proofs.EmptyRound.{put_in_free}
-use Rattle.delaunay_edit.proofs.Inserting.{PutsIn, appends, puts_beside}
-use Rattle.delaunay_edit.proofs.insertion_cases.insert_at.Given.{Over}
-use Rattle.delaunay_edit.proofs.insertion_cases.insert_at.Goals.{After-legalize_vertex-arg-3-1}
-use Rattle.delaunay_edit.proofs.insertion_cases.insert_at.Goals.{then-index-gt0, else-index-gt0}
-use Rattle.delaunay_edit.proofs.insertion_cases.insert_at.Goals.{in-OnFace, in-OnEdge}
-use Rattle.delaunay_edit.proofs.insertion_cases.insert_at.Goals.{in-OutsideOfConvexHull}
+use Rattle.delaunay_vertices.proofs.{FirstVertices.second_gains, InsertionCases.inside_gains}
+use Rattle.delaunay_edit.proofs.Cases.{not_on_vertex, vertex_of_handle}
+use Rattle.delaunay_edit.proofs.{EmptyRound.put_in_free, insertion_cases.insert_at.Given.Over}
+use Rattle.delaunay_edit.proofs.Inserting.{appends, puts_beside, PutsIn}
 use Rattle.delaunay_edit.proofs.insertion_cases.insert_at.Goals as goal
+use Rattle.delaunay_edit.proofs.insertion_cases.insert_at.Goals.{After-legalize_vertex-arg-3-1}
+use Rattle.delaunay_edit.proofs.insertion_cases.insert_at.Goals.{else-index-gt0, in-OnEdge}
+use Rattle.delaunay_edit.proofs.insertion_cases.insert_at.Goals.{in-OnFace, in-OutsideOfConvexHull}
+use Rattle.delaunay_edit.proofs.insertion_cases.insert_at.Goals.{then-index-gt0}
 
 pub insert_into_triangle-requires-clause-room : goal.insert_into_triangle-requires-clause-room
 insert_into_triangle-requires-clause-room g c =

@@ -1,6 +1,6 @@
 use Rattle.std.proofs.Common.{arith, refl}
-use Rattle.delaunay_edit.proofs.MovedEdges.{fewer_fit}
 use Rattle.delaunay_edit.proofs.JoinedPath.{path_leaves, path_renamed}
+use Rattle.delaunay_edit.proofs.MovedEdges.{fewer_fit}
 use Rattle.delaunay_edit.proofs.joining.settle.Goals as goal
 
 pub add_path-requires-clause-room : goal.add_path-requires-clause-room

@@ -1,5 +1,5 @@
 use Rattle.std.proofs.Common.{arith}
-use Rattle.delaunay_journal.specs.declared.edit.Edit.TheVariants.{Insert}
+use Rattle.delaunay_journal.specs.{Insert}
 use Rattle.delaunay_journal.proofs.Runs.{comes_later, comes_now, counts_on, ends, one_more, runs}
 use Rattle.delaunay_journal.proofs.replaying.replay.Goals as goal
 

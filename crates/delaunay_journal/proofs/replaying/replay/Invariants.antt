@@ -1,10 +1,8 @@
 use Rattle.std.proofs.Common.{◌≡◌, ◌≤◌, ◌+◌, length, vec_capacity}
 use Rattle.std.specs.Prelude.{Contains}
 use Rattle.std.specs.Vec.Iter.{into_iter_items}
-use Rattle.delaunay_interface.specs.plane.Tests.{InRange}
-use Rattle.delaunay_interface.specs.delaunay_edit.Headline.{AreSites, IsDelaunay}
-use Rattle.delaunay_journal.specs.declared.edit.Edit.TheVariants.{Insert}
-use Rattle.delaunay_journal.proofs.Runs.{IsReplayed}
+use Rattle.{delaunay_edit.specs.AreSites, delaunay_edit.specs.IsDelaunay, plane.specs.InRange}
+use Rattle.{delaunay_journal.proofs.Runs.IsReplayed, delaunay_journal.specs.Insert}
 use Rattle.delaunay_journal.proofs.replaying.replay.Given as goal
 
 abbrev pub invariant-loop-edit : goal.invariant-loop-edit

@@ -1,5 +1,5 @@
 use Rattle.std.proofs.Common.{refl, arith}
-use Rattle.delaunay_interface.proofs.EditLemmas.{sites_left}
+use Rattle.delaunay_edit.proofs.Removing.{sites_left}
 use Rattle.delaunay_journal.proofs.SingleEdits.{removed_so}
 use Rattle.delaunay_journal.proofs.steps.remove.Goals as goal
 

@@ -1,6 +1,5 @@
 use Rattle.std.proofs.Common.{◌∙◌, map, refl, ap, arith}
-use Rattle.delaunay_interface.proofs.EditLemmas.{same_places}
-use Rattle.delaunay_interface.proofs.delaunay_legalization_lemmas.Questions.{both_ways}
+use Rattle.{delaunay_edit.proofs.Overwriting.same_places, delaunay_legalization.proofs.both_ways}
 use Rattle.delaunay_journal.proofs.SingleEdits.{position_same, same_position}
 use Rattle.delaunay_journal.proofs.steps.replace.Goals as goal
 

@@ -1,7 +1,6 @@
 use Rattle.std.proofs.Common.{map}
-use Rattle.delaunay_legalization.specs.half_edge_links.Mesh.{origin}
-use Rattle.delaunay_legalization.specs.Around.{IsOpposite}
-use Rattle.delaunay_legalization.specs.Placed.{IsPlaced}
+use Rattle.half_edge_links.specs.{origin}
+use Rattle.{delaunay_legalization.specs.Around.IsOpposite, delaunay_legalization.specs.IsEmbedding}
 use Rattle.delaunay_legalization.proofs.RoundSteps.{IsTurningRound, tests_left}
 use Rattle.delaunay_legalization.proofs.around.legalize_round.Given as goal
 
@@ -11,7 +10,7 @@ invariant-loop-next g l = record {
       (origin l.fn.dcel.mesh l.first) l.first l.spoke l.fn.flips l.flips;
   opposite : IsOpposite g.V.Scalar.SpadeNum.whole (g.P.PlaneTests.sites l.tests)
       (map g.V.HasPosition.place l.dcel.vertices) l.dcel.mesh l.spoke l.opposite;
-  placed : IsPlaced g.V.HasPosition.place g.P.PlaneTests.sites l.dcel l.tests;
+  embedding : IsEmbedding g.V.HasPosition.place g.P.PlaneTests.sites l.dcel l.tests;
 }
 
 abbrev pub decreases-loop-next : goal.decreases-loop-next

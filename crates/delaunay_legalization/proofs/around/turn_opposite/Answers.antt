@@ -1,10 +1,8 @@
 use Rattle.std.proofs.Common.{◌∙◌, refl}
-use Rattle.delaunay_legalization.specs.half_edge_links.Mesh.{next}
-use Rattle.delaunay_legalization.proofs.MeshLegal.{joins_directed}
-use Rattle.delaunay_legalization.proofs.Legalizing.{fixed_stay}
 use Rattle.delaunay_legalization.proofs.CircleQuestions.{flips_either, read_outer_passes}
 use Rattle.delaunay_legalization.proofs.CircleQuestions.{read_tells, read_turns_left, stays_as_is}
-use Rattle.delaunay_legalization.proofs.Questions.{both_ways}
+use Rattle.delaunay_legalization.proofs.{Legalizing.fixed_stay, MeshLegal.joins_directed}
+use Rattle.{delaunay_legalization.proofs.Questions.both_ways, half_edge_links.specs.next}
 use Rattle.delaunay_legalization.proofs.around.turn_opposite.Goals as goal
 
 pub is_in_circle-requires-clause-left_turn : goal.is_in_circle-requires-clause-left_turn
@@ -39,7 +37,7 @@ flip-requires g c =
     let may = flips_either c.requires.turn fails at_next
     c.as_undirected-edge.ensures in
     record {
-      kept = c.requires.turn.placed.kept;
+      kept = c.requires.turn.embedding.kept;
       within = may.within;
       failing = may.failing;
       fits = c.requires.turn.fits fails;
@@ -54,13 +52,13 @@ returns g c =
     let may = flips_either c.requires.turn fails at_next
     c.as_undirected-edge.ensures in
     record {
-      placed = record {
+      embedding = record {
         kept = c.flip.ensures.kept;
-        sites = rw c.flip.ensures.contents c.requires.turn.placed.sites;
+        sites = rw c.flip.ensures.contents c.requires.turn.embedding.sites;
       };
       contents = rw c.flip.ensures.contents refl;
       constraints = rw c.flip.ensures.contents (fixed_stay g.M.ConstraintMarker.constraints
-          c.requires.turn.placed.kept may.within may.failing
+          c.requires.turn.embedding.kept may.within may.failing
           (λ h. both_ways _ (c.is_constraint_edge.ensures.1 h) c.if-is_constraint_edge.false));
       turned = λ _. record {
         failing = fails;

@@ -1,7 +1,6 @@
 use Rattle.std.proofs.Common.{ap, ◌∙◌}
-use Rattle.delaunay_legalization.proofs.half_edge_links_lemmas.Removing.Conditions.{between_faces}
-use Rattle.delaunay_legalization.proofs.Legalizing.{failing_flippable, failing_apart}
-use Rattle.delaunay_legalization.proofs.Placing.{kept_flipped}
+use Rattle.delaunay_legalization.proofs.Legalizing.{failing_apart, failing_flippable}
+use Rattle.{delaunay_legalization.proofs.Placing.kept_flipped, half_edge_links.proofs.between_faces}
 use Rattle.delaunay_legalization.proofs.legalization.flip.Goals as goal
 
 pub flip_cw-requires-clause-between : goal.flip_cw-requires-clause-between

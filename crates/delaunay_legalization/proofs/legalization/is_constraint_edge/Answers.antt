@@ -1,5 +1,5 @@
 use Rattle.std.proofs.Common.{◌∙◌, sym}
-use Rattle.delaunay_legalization.proofs.Constraints.{is_constraint_edge, fixed_edge_is}
+use Rattle.delaunay_legalization.proofs.Constraints.{fixed_edge_is, is_constraint_edge}
 use Rattle.delaunay_legalization.proofs.legalization.is_constraint_edge.Goals as goal
 
 pub returns : goal.returns

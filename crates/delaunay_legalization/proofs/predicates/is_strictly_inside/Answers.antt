@@ -1,9 +1,8 @@
 use Rattle.std.proofs.Common.{◌∙◌, sym}
-use Rattle.delaunay_legalization.proofs.plane.Triangles.{inside_is_sides}
+use Rattle.plane.proofs.Triangles.{inside_is_sides}
 use Rattle.delaunay_legalization.proofs.Questions.{both_ways}
-use Rattle.delaunay_legalization.proofs.predicates.is_strictly_inside.Goals.{then-turns_left}
-use Rattle.delaunay_legalization.proofs.predicates.is_strictly_inside.Goals.{else-turns_left}
 use Rattle.delaunay_legalization.proofs.predicates.is_strictly_inside.Goals as goal
+use goal.{else-turns_left, then-turns_left}
 
 pub returns-then-turns_left-2 : goal.returns-then-turns_left-2
 returns-then-turns_left-2 g c =

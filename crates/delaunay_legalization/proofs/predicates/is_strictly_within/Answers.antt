@@ -1,5 +1,5 @@
 use Rattle.std.proofs.Common.{◌∙◌, refl, sym}
-use Rattle.delaunay_legalization.proofs.Questions.{within_if, if_within, both_ways}
+use Rattle.delaunay_legalization.proofs.Questions.{both_ways, if_within, within_if}
 use Rattle.delaunay_legalization.proofs.predicates.is_strictly_within.Goals as goal
 
 pub returns-then-not-is_on_line : goal.returns-then-not-is_on_line

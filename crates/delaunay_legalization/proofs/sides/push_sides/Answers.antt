@@ -1,6 +1,5 @@
 use Rattle.std.proofs.Common.{◌∙◌}
-use Rattle.delaunay_legalization.proofs.AmongSides.{round_gained_among}
-use Rattle.delaunay_legalization.proofs.Legalizing.{round_gained}
+use Rattle.delaunay_legalization.proofs.{AmongSides.round_gained_among, Legalizing.round_gained}
 use Rattle.delaunay_legalization.proofs.sides.push_sides.Goals as goal
 
 pub returns-in-Round-clause-gains : goal.returns-in-Round-clause-gains

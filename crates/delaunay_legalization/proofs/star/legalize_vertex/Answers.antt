@@ -1,7 +1,6 @@
 use Rattle.std.proofs.Common.{ℕ, IsNone, refl, sym, ap, subst}
-use Rattle.delaunay_legalization.specs.half_edge_links.Mesh.{Mesh, out_edge}
-use Rattle.delaunay_legalization.proofs.RoundSteps.{none_to_turn}
-use Rattle.delaunay_legalization.proofs.Stars.{star_is_left}
+use Rattle.half_edge_links.specs.{Mesh, out_edge}
+use Rattle.delaunay_legalization.proofs.{RoundSteps.none_to_turn, Stars.star_is_left}
 use Rattle.delaunay_legalization.proofs.star.legalize_vertex.Goals as goal
 
 pub legalize-requires-clause-left : goal.legalize-requires-clause-left

@@ -1,7 +1,6 @@
 use Rattle.std.proofs.Common.{◌≡◌, ap, rules}
-use Rattle.delaunay_legalization.specs.half_edge_links.Mesh.{next}
 use Rattle.delaunay_legalization.proofs.Pushing.{next_in_mesh, pushing_begins, pushing_ends}
-use Rattle.delaunay_legalization.proofs.Pushing.{pushing_goes_on}
+use Rattle.{delaunay_legalization.proofs.Pushing.pushing_goes_on, half_edge_links.specs.next}
 use Rattle.delaunay_legalization.proofs.star.push_star.Goals as goal
 
 pub loop-edge-init : goal.loop-edge-init

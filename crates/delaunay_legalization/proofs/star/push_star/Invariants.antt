@@ -1,5 +1,4 @@
-use Rattle.delaunay_legalization.specs.half_edge_dcel.Rounds.{out_edges_left}
-use Rattle.delaunay_legalization.proofs.Pushing.{IsPushing}
+use Rattle.{delaunay_legalization.proofs.Pushing.IsPushing, half_edge_dcel.specs.out_edges_left}
 use Rattle.delaunay_legalization.proofs.star.push_star.Given as goal
 
 abbrev pub invariant-loop-edge : goal.invariant-loop-edge

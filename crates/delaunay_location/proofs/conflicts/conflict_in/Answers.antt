@@ -1,7 +1,5 @@
 use Rattle.std.proofs.Common.{◌≡◌, ◌∙◌, Some, sym}
-use Rattle.delaunay_location.proofs.delaunay_legalization_lemmas.Constraints.{is_constraint_edge}
-use Rattle.delaunay_location.proofs.delaunay_legalization_lemmas.Constraints.{fixed_edge_is}
-use Rattle.delaunay_location.proofs.delaunay_legalization_lemmas.Questions.{both_ways}
+use Rattle.delaunay_legalization.proofs.{both_ways, Constraints.is_constraint_edge, fixed_edge_is}
 use Rattle.delaunay_location.proofs.conflicts.conflict_in.Goals as goal
 
 one_some : {A : Type 0} {x y : A} → Some x ≡ Some y → x ≡ y

@@ -6,7 +6,7 @@ use Rattle.delaunay_location.proofs.line.place_on_line.Goals as goal
 
 pub returns-then-is_on_left_side : goal.returns-then-is_on_left_side
 returns-then-is_on_left_side g c =
-    let kept = rw (ap (λ s. s.dcel) c.placed.view_is) at c.placed.invariant.kept in
+    let kept = rw (ap (λ s. s.dcel) c.embedding.view_is) at c.embedding.invariant.kept in
     let ends = c.ends_of.ensures in
     located_left _ _ _ _ _ _ ends.stop.from ends.stop.to ends.edge
     (all_outer kept c.requires.line _ ends.stop.within)
@@ -14,7 +14,7 @@ returns-then-is_on_left_side g c =
 
 pub returns-then-is_on_right_side : goal.returns-then-is_on_right_side
 returns-then-is_on_right_side g c =
-    let kept = rw (ap (λ s. s.dcel) c.placed.view_is) at c.placed.invariant.kept in
+    let kept = rw (ap (λ s. s.dcel) c.embedding.view_is) at c.embedding.invariant.kept in
     located_right kept _ c.requires.line c.ends_of.ensures.stop c.side-side.ensures
     (c.is_on_right_side.ensures.0 c.if-is_on_right_side.true) c.rev.ensures
 

@@ -2,4 +2,4 @@ use Rattle.std.proofs.Common.{◌<◌, length}
 use Rattle.delaunay_location.proofs.line.walk_along.Given as goal
 
 abbrev pub invariant-loop : goal.invariant-loop
-invariant-loop g l = l.edge < length l.placed.dcel.directed
+invariant-loop g l = l.edge < length l.embedding.dcel.directed

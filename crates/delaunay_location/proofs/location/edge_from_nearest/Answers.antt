@@ -1,10 +1,9 @@
 use Rattle.std.proofs.Common.{◌∙◌, arith}
-use Rattle.delaunay_legalization.proofs.Questions.{both_ways}
+use Rattle.delaunay_legalization.proofs.{both_ways}
 use Rattle.delaunay_location.proofs.Nearest.{starts_all, starts_first, starts_nearer}
 use Rattle.delaunay_location.proofs.Nearest.{starts_no_nearer}
-use Rattle.delaunay_location.proofs.location.edge_from_nearest.Goals.{then-is_nearer}
-use Rattle.delaunay_location.proofs.location.edge_from_nearest.Goals.{else-is_nearer}
 use Rattle.delaunay_location.proofs.location.edge_from_nearest.Goals as goal
+use goal.{else-is_nearer, then-is_nearer}
 
 pub loop-index-init : goal.loop-index-init
 loop-index-init g c = starts_first _ _ _ c.from_index-nearest.ensures

@@ -1,6 +1,5 @@
 use Rattle.std.proofs.Common.{map}
-use Rattle.delaunay_legalization.specs.delaunay_core.Place.{place_of}
-use Rattle.delaunay_location.specs.Location.{StartsNearest}
+use Rattle.{delaunay_core.specs.place_of, delaunay_location.specs.StartsNearest}
 use Rattle.delaunay_location.proofs.location.edge_from_nearest.Given as goal
 
 abbrev pub invariant-loop-index : goal.invariant-loop-index

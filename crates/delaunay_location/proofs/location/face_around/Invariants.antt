@@ -5,4 +5,4 @@ use Rattle.delaunay_location.proofs.location.face_around.Given as goal
 abbrev pub invariant-loop-index : goal.invariant-loop-index
 invariant-loop-index g l =
     (f : ℕ) → 0 < f → f ≤ l.index → ¬ IsInFace g.V.HasPosition.place
-    g.V.Scalar.SpadeNum.whole l.placed l.point f
+    g.V.Scalar.SpadeNum.whole l.embedding l.point f

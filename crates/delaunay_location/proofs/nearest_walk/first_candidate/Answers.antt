@@ -1,10 +1,7 @@
 use Rattle.std.proofs.Common.{ℕ, ◌^◌, map, refl, sym, ap, ◌∙◌, arith, w64}
 use Rattle.std.proofs.lemmas.Int.{to_z-of_z}
 use Rattle.std.specs.Prelude.{ℤ}
-use Rattle.delaunay_legalization.specs.plane.Fraction.{whole}
-use Rattle.delaunay_legalization.specs.plane.Circle.{gap}
-use Rattle.delaunay_legalization.specs.plane.Pairs.{place}
-use Rattle.delaunay_legalization.specs.delaunay_core.Place.{place_of}
+use Rattle.{delaunay_core.specs.place_of, plane.specs.gap, plane.specs.place, plane.specs.whole}
 use Rattle.delaunay_location.proofs.Candidates.{nearer_than_same, reached_next}
 use Rattle.delaunay_location.proofs.Neighbours.{moves_fit, no_nearer_neighbour, none_counted}
 use Rattle.delaunay_location.proofs.nearest_walk.first_candidate.Goals as goal

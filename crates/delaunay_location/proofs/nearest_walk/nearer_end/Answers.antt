@@ -1,14 +1,9 @@
 use Rattle.std.proofs.Common.{ℕ, map, to_z, of_z, ◌∙◌, subst, ap, arith, w64}
 use Rattle.std.proofs.lemmas.Int.{to_z-of_z}
 use Rattle.std.specs.Prelude.{ℤ, ◌<ℤ◌}
-use Rattle.delaunay_legalization.specs.half_edge_links.Mesh.{origin}
-use Rattle.delaunay_legalization.proofs.half_edge_links_lemmas.Lists.Rev.{rev_within}
-use Rattle.delaunay_legalization.specs.plane.Fraction.{whole}
-use Rattle.delaunay_legalization.specs.plane.Circle.{gap}
-use Rattle.delaunay_legalization.specs.plane.Pairs.{place}
-use Rattle.delaunay_legalization.proofs.plane.Sides.{less_by_test}
-use Rattle.delaunay_legalization.specs.delaunay_core.Place.{place_of}
-use Rattle.delaunay_location.proofs.Candidates.{candidate_at_end}
+use Rattle.{half_edge_links.specs.origin, plane.proofs.less_by_test}
+use Rattle.{delaunay_core.specs.place_of, plane.specs.gap, plane.specs.place, plane.specs.whole}
+use Rattle.{delaunay_location.proofs.Candidates.candidate_at_end, half_edge_links.proofs.rev_within}
 use Rattle.delaunay_location.proofs.nearest_walk.nearer_end.Goals as goal
 
 pub returns-then-at_end_2-distance_2 : goal.returns-then-at_end_2-distance_2

@@ -1,8 +1,7 @@
 use Rattle.std.proofs.Common.{map}
-use Rattle.delaunay_legalization.specs.half_edge_links.Mesh.{origin}
-use Rattle.delaunay_legalization.specs.delaunay_core.Place.{place_of}
-use Rattle.delaunay_location.specs.Candidate.{EndsNoNearer}
-use Rattle.delaunay_location.proofs.BothWays.{IsClosingIn, how_many_before}
+use Rattle.half_edge_links.specs.{origin}
+use Rattle.{delaunay_core.specs.place_of, delaunay_location.specs.EndsNoNearer}
+use Rattle.delaunay_location.proofs.BothWays.{how_many_before, IsClosingIn}
 use Rattle.delaunay_location.proofs.nearest_walk.nearer_neighbor.Given as goal
 
 abbrev pub invariant-loop-point : goal.invariant-loop-point

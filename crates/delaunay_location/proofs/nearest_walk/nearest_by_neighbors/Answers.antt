@@ -1,9 +1,8 @@
 use Rattle.std.proofs.Common.{◌^◌}
 use Rattle.std.proofs.lemmas.List.{length-map}
 use Rattle.plane_theorems.proofs.Delaunay.Circles.Nearest.{nearest_by_neighbours}
-use Rattle.delaunay_legalization.specs.delaunay_core.Place.{place_of}
-use Rattle.delaunay_legalization.specs.State.{state_of, triangulation_of}
-use Rattle.delaunay_location.proofs.Candidates.{place_within}
+use Rattle.{delaunay_core.specs.place_of, delaunay_location.proofs.Candidates.place_within}
+use Rattle.delaunay_legalization.specs.{state_of, triangulation_of}
 use Rattle.delaunay_location.proofs.Neighbours.{fewer_moves, more_counted, room_at, room_stays}
 use Rattle.delaunay_location.proofs.nearest_walk.nearest_by_neighbors.Goals as goal
 

@@ -1,8 +1,8 @@
 use Rattle.std.proofs.Common.{◌∙◌, ◌^◌, arith}
 use Rattle.plane_theorems.proofs.Delaunay.Circles.Nearest.{nearest_by_neighbours}
 use Rattle.delaunay_location.proofs.Candidates.{next_falls, reached_on, vertex_within}
-use Rattle.delaunay_location.proofs.Neighbours.{count_stays, more_counted, moves_fit}
-use Rattle.delaunay_location.proofs.Neighbours.{none_counted, room_stays}
+use Rattle.delaunay_location.proofs.Neighbours.{count_stays, more_counted, moves_fit, none_counted}
+use Rattle.delaunay_location.proofs.Neighbours.{room_stays}
 use Rattle.delaunay_location.proofs.nearest_walk.nearest_from.Goals as goal
 
 pub loop-nearer-init : goal.loop-nearer-init

@@ -1,10 +1,7 @@
 use Rattle.std.proofs.Common.{map}
-use Rattle.delaunay_legalization.specs.half_edge_links.Mesh.{origin}
-use Rattle.delaunay_legalization.specs.plane.Fraction.{whole}
-use Rattle.plane_theorems.specs.Delaunay.Nearer.{nearer_count}
-use Rattle.delaunay_legalization.specs.delaunay_core.Place.{place_of}
-use Rattle.delaunay_legalization.specs.State.{state_of, triangulation_of}
-use Rattle.delaunay_location.specs.Candidate.{IsReached}
+use Rattle.{delaunay_core.specs.place_of, half_edge_links.specs.origin, plane.specs.whole}
+use Rattle.delaunay_legalization.specs.{state_of, triangulation_of}
+use Rattle.{delaunay_location.specs.Candidate.IsReached, plane_theorems.specs.nearer_count}
 use Rattle.delaunay_location.proofs.nearest_walk.nearest_from.Given as goal
 
 abbrev pub invariant-loop-nearer : goal.invariant-loop-nearer

@@ -1,5 +1,5 @@
 use Rattle.std.proofs.Common.{inl, inr, refl}
-use Rattle.delaunay_location.proofs.plane.Segments.{on_of_within}
+use Rattle.plane.proofs.{on_of_within}
 use Rattle.delaunay_location.proofs.SegmentTests.{on_if_same, unless, within_if_differs}
 use Rattle.delaunay_location.proofs.outside.carries.Goals as goal
 

@@ -1,8 +1,7 @@
-use Rattle.delaunay_location.specs.delaunay_core.Place.{place_of}
-use Rattle.delaunay_location.specs.Outline.{IsSeenOuter}
+use Rattle.{delaunay_core.specs.place_of, delaunay_location.specs.Outline.IsSeenOuter}
 use Rattle.delaunay_location.proofs.outside.first_along.Given as goal
 
 abbrev pub invariant-loop : goal.invariant-loop
 invariant-loop g l =
-    IsSeenOuter g.V.HasPosition.place l.placed.dcel (place_of g.V.Scalar.SpadeNum.whole l.from)
+    IsSeenOuter g.V.HasPosition.place l.embedding.dcel (place_of g.V.Scalar.SpadeNum.whole l.from)
     l.here

@@ -1,23 +1,23 @@
 use Rattle.std.proofs.Common.{◌∙◌}
-use Rattle.delaunay_location.specs.half_edge_links.Mesh.{rev}
-use Rattle.delaunay_location.proofs.MeshSteps.{placed_value, side_at, starts_at}
+use Rattle.half_edge_links.specs.{rev}
+use Rattle.delaunay_location.proofs.MeshSteps.{embedding_value, side_at, starts_at}
 use Rattle.delaunay_location.proofs.OutlineWalk.{edge_met, end_met, left_there, nothing_on_its_left}
 use Rattle.delaunay_location.proofs.OutlineWalk.{nothing_past_end, nothing_past_start, right_there}
-use Rattle.delaunay_location.proofs.OutlineWalk.{start_met}
-use Rattle.delaunay_location.proofs.SegmentTests.{unless}
+use Rattle.delaunay_location.proofs.{OutlineWalk.start_met, SegmentTests.unless}
 use Rattle.delaunay_location.proofs.outside.first_at.Goals as goal
 
 pub side-start-requires-clause-point_covered : goal.side-start-requires-clause-point_covered
-side-start-requires-clause-point_covered g c = rw (← c.placed.view_is) at
+side-start-requires-clause-point_covered g c = rw (← c.embedding.view_is) at
     (g.met.P.PlaneTests.sites_are_covered _ _ c.start_of.ensures.site)
 
 pub side-end-requires-clause-point_covered : goal.side-end-requires-clause-point_covered
-side-end-requires-clause-point_covered g c = rw (← c.placed.view_is) at
+side-end-requires-clause-point_covered g c = rw (← c.embedding.view_is) at
     (g.met.P.PlaneTests.sites_are_covered _ _ c.end_of.ensures.site)
 
 pub returns-then-is_on_left_side : goal.returns-then-is_on_left_side
 returns-then-is_on_left_side g c =
-    nothing_on_its_left (placed_value c.placed.view_is c.placed.invariant) c.requires.ends.apart
+    nothing_on_its_left (embedding_value c.embedding.view_is c.embedding.invariant)
+    c.requires.ends.apart
     c.args.edge c.requires.seen ((rw c.side_along.ensures at c.is_on_left_side.ensures).0
     c.if-is_on_left_side.true)
 
@@ -25,7 +25,8 @@ pub returns-then-is_on_right_side : goal.returns-then-is_on_right_side
 returns-then-is_on_right_side g c =
     let past = rw (side_at _ _ c.side-end.ensures c.end_of.ensures.place) at
     (c.is_on_right_side.ensures.0 c.if-is_on_right_side.true) in
-    nothing_past_end (placed_value c.placed.view_is c.placed.invariant) c.requires.ends.apart
+    nothing_past_end (embedding_value c.embedding.view_is c.embedding.invariant)
+    c.requires.ends.apart
     c.args.edge c.requires.seen past (c.requires.stop.after past)
 
 pub returns-then-is_on_left_side-2 : goal.returns-then-is_on_left_side-2
@@ -34,7 +35,8 @@ returns-then-is_on_left_side-2 g c =
     c.is_on_right_side.ensures in
     let past = rw (side_at _ _ c.side-start.ensures c.start_of.ensures.place) at
     (c.is_on_left_side-2.ensures.0 c.if-is_on_left_side-2.true) in
-    nothing_past_start (placed_value c.placed.view_is c.placed.invariant) c.requires.ends.apart
+    nothing_past_start (embedding_value c.embedding.view_is c.embedding.invariant)
+    c.requires.ends.apart
     c.args.edge c.requires.seen past
     (c.requires.stop.before (unless right c.if-is_on_right_side.false) past)
 
@@ -46,8 +48,8 @@ returns-then-is_on_line g c =
     let end = side_at _ _ c.side-end.ensures c.end_of.ensures.place in
     let left = rw (side_at _ _ c.side-start.ensures c.start_of.ensures.place) at
     c.is_on_left_side-2.ensures in
-    rw (starts_at c.placed.view_is (rev c.args.edge) vertex) (end_met (placed_value
-    c.placed.view_is c.placed.invariant) c.requires.ends.apart c.args.edge c.requires.seen
+    rw (starts_at c.embedding.view_is (rev c.args.edge) vertex) (end_met (embedding_value
+    c.embedding.view_is c.embedding.invariant) c.requires.ends.apart c.args.edge c.requires.seen
     (unless ends c.if-is_on_left_side.false)
     (rw end at (c.is_on_line.ensures.0 c.if-is_on_line.true))
     (unless left c.if-is_on_left_side-2.false))
@@ -59,8 +61,9 @@ returns-then-is_on_line-2 g c =
     (c.fix-then-is_on_line-2.ensures.value ∙ c.from.ensures.index) in
     let ends = rw c.side_along.ensures at c.is_on_left_side.ensures in
     let start = side_at _ _ c.side-start.ensures c.start_of.ensures.place in
-    rw (starts_at c.placed.view_is c.args.edge vertex) (start_met (placed_value c.placed.view_is
-    c.placed.invariant) c.requires.ends.apart c.args.edge c.requires.seen
+    rw (starts_at c.embedding.view_is c.args.edge vertex)
+    (start_met (embedding_value c.embedding.view_is
+    c.embedding.invariant) c.requires.ends.apart c.args.edge c.requires.seen
     (unless ends c.if-is_on_left_side.false)
     (rw start at (c.is_on_line-2.ensures.0 c.if-is_on_line-2.true))
     (left_there (side_at _ _ c.side-end.ensures c.end_of.ensures.place) c.is_on_right_side.ensures
@@ -69,7 +72,7 @@ returns-then-is_on_line-2 g c =
 pub returns : goal.returns
 returns g c =
     let ends = rw c.side_along.ensures at c.is_on_left_side.ensures in
-    rw c.rev.ensures (edge_met (placed_value c.placed.view_is c.placed.invariant)
+    rw c.rev.ensures (edge_met (embedding_value c.embedding.view_is c.embedding.invariant)
     c.requires.ends.apart c.args.edge c.requires.seen (unless ends c.if-is_on_left_side.false)
     c.requires.start (right_there (side_at _ _ c.side-start.ensures c.start_of.ensures.place)
     c.is_on_left_side-2.ensures c.if-is_on_left_side-2.false c.is_on_line-2.ensures

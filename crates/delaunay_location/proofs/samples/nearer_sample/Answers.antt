@@ -1,14 +1,10 @@
 use Rattle.std.proofs.Common.{ℕ, map, inl, inr, arith}
 use Rattle.std.specs.Prelude.{ℤ}
-use Rattle.delaunay_legalization.specs.plane.Fraction.{whole}
-use Rattle.delaunay_legalization.specs.plane.Circle.{gap}
-use Rattle.delaunay_legalization.specs.plane.Pairs.{place}
-use Rattle.delaunay_legalization.specs.delaunay_core.Place.{place_of}
-use Rattle.delaunay_legalization.specs.Known.{point_at}
-use Rattle.delaunay_location.proofs.Nearest.{less_than_first}
-use Rattle.delaunay_location.proofs.Neighbours.{nearer_by_gaps}
-use Rattle.delaunay_location.proofs.samples.nearer_sample.Goals.{then-is_nearer, else-is_nearer}
+use Rattle.{delaunay_core.specs.place_of, plane.specs.gap, plane.specs.place, plane.specs.whole}
+use Rattle.delaunay_legalization.specs.{point_at}
+use Rattle.delaunay_location.proofs.{Nearest.less_than_first, Neighbours.nearer_by_gaps}
 use Rattle.delaunay_location.proofs.samples.nearer_sample.Goals as goal
+use goal.{else-is_nearer, then-is_nearer}
 
 pub overflow_add-index : goal.overflow_add-index
 overflow_add-index g c = omega (

@@ -1,9 +1,6 @@
 use Rattle.std.proofs.Common.{◌≡◌, ◌⊎◌, ◌<◌, ◌-◌, length, ℕ, map}
 use Rattle.std.specs.Prelude.{◌<ℤ◌}
-use Rattle.delaunay_legalization.specs.plane.Fraction.{whole}
-use Rattle.delaunay_legalization.specs.plane.Circle.{gap}
-use Rattle.delaunay_legalization.specs.plane.Pairs.{place}
-use Rattle.delaunay_legalization.specs.delaunay_core.Place.{place_of}
+use Rattle.{delaunay_core.specs.place_of, plane.specs.gap, plane.specs.place, plane.specs.whole}
 use Rattle.delaunay_location.proofs.samples.nearer_sample.Given as goal
 
 abbrev pub invariant-loop-index : goal.invariant-loop-index

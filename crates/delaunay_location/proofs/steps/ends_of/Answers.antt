@@ -1,5 +1,5 @@
 use Rattle.std.proofs.Common.{◌∙◌}
-use Rattle.delaunay_legalization.proofs.MeshParts.{mesh_edge}
+use Rattle.delaunay_legalization.proofs.{mesh_edge}
 use Rattle.delaunay_location.proofs.steps.ends_of.Goals as goal
 
 pub returns-clause-stop : goal.returns-clause-stop
@@ -17,5 +17,5 @@ returns-clause-stop g c =
     }
 
 pub returns-clause-edge : goal.returns-clause-edge
-returns-clause-edge g c = rw (← c.placed.view_is)
-    (mesh_edge _ _ c.placed.invariant.kept _ (rw (← c.placed.view_is) at c.requires))
+returns-clause-edge g c = rw (← c.embedding.view_is)
+    (mesh_edge _ _ c.embedding.invariant.kept _ (rw (← c.embedding.view_is) at c.requires))

@@ -1,13 +1,13 @@
 use Rattle.std.proofs.Common.{◌∙◌, refl, sym, arith}
+use Rattle.delaunay_legalization.proofs.{both_ways}
 use Rattle.delaunay_legalization.proofs.Legalizing.{positive}
-use Rattle.delaunay_legalization.proofs.Questions.{both_ways}
 use Rattle.delaunay_location.proofs.vertex.is_in_cone.Goals as goal
 
 pub returns-then-is_outer_edge : goal.returns-then-is_outer_edge
 returns-then-is_outer_edge g c =
     let here = c.directed_edge-here.ensures in
     let outer = rw (here.index, here.dcel) at (c.is_outer_edge.ensures.0 c.if-is_outer_edge.true) in
-    rw (← c.placed.view_is) (
+    rw (← c.embedding.view_is) (
       λ t. absurd (both_ways _ t refl),
       λ cone. absurd (let inner = cone.inner in omega (arith, outer, inner)),
     )
@@ -18,12 +18,12 @@ returns-then-is_on_left_side g c =
     let outer = rw (here.index, here.dcel) at c.is_outer_edge.ensures in
     let before = c.fix.ensures.value ∙ rw (here.dcel, here.index) at c.prev.ensures.index in
     let left = sym c.side_along.ensures ∙ c.is_on_left_side.ensures.0 c.if-is_on_left_side.true in
-    let right = rw (c.side_along-then-is_on_left_side.ensures, ← c.placed.view_is, before) at
+    let right = rw (c.side_along-then-is_on_left_side.ensures, ← c.embedding.view_is, before) at
     c.is_on_left_side-then-is_on_left_side.ensures in
-    rw (← c.placed.view_is) (
+    rw (← c.embedding.view_is) (
       λ t. record {
         inner = positive _ (λ z. both_ways _ (outer.1 z) c.if-is_outer_edge.false);
-        left = rw (← c.placed.view_is) at left;
+        left = rw (← c.embedding.view_is) at left;
         right = right.0 t;
       },
       λ cone. right.1 cone.right,

@@ -2,7 +2,7 @@ use Rattle.std.proofs.Common.{arith, map, sym, subst}
 use Rattle.std.specs.Prelude.{pos}
 use Rattle.std.proofs.lemmas.List.{length-map}
 use Rattle.std.proofs.lemmas.List.Elements.{All-get_or, All-map}
-use Rattle.delaunay_legalization.specs.plane.Tests.{InRange}
+use Rattle.plane.specs.{InRange}
 use Rattle.delaunay_location.proofs.vertex_distance.distance_2_to.Goals as goal
 
 pub distance_2-requires-clause-other_in_range : goal.distance_2-requires-clause-other_in_range

@@ -1,7 +1,6 @@
 use Rattle.std.proofs.Common.{sym, subst}
 use Rattle.std.specs.Prelude.{IfOk}
-use Rattle.delaunay_interface.specs.delaunay_legalization.Shape.{IsTriangulated}
-use Rattle.delaunay_queries.specs.Layers.{AreLayers}
+use Rattle.{delaunay_legalization.specs.IsTriangulated, delaunay_queries.specs.AreLayers}
 use Rattle.delaunay_queries.proofs.layers.face_layers.Goals as goal
 
 pub find_layers-requires : goal.find_layers-requires

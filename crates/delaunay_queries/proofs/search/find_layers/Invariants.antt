@@ -1,4 +1,4 @@
-use Rattle.delaunay_queries.specs.Search.{IsSearching, work_left}
+use Rattle.{delaunay_queries.specs.IsSearching, delaunay_queries.specs.Search.work_left}
 use Rattle.delaunay_queries.proofs.search.find_layers.Given as goal
 
 abbrev pub invariant-loop-edge : goal.invariant-loop-edge

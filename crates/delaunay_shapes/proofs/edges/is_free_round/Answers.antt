@@ -1,9 +1,7 @@
 use Rattle.std.proofs.Common.{ap, ◌∙◌, arith}
-use Rattle.delaunay_location.specs.half_edge_links.Mesh.{origin}
-use Rattle.delaunay_location.proofs.delaunay_legalization_lemmas.Rounds.{round_begins, next_within}
-use Rattle.delaunay_location.proofs.delaunay_legalization_lemmas.Rounds.{next_starts, round_goes_on}
-use Rattle.delaunay_location.proofs.delaunay_legalization_lemmas.Rounds.{round_ends}
-use Rattle.delaunay_location.proofs.delaunay_legalization_lemmas.Questions.{both_ways}
+use Rattle.delaunay_legalization.proofs.{both_ways}
+use Rattle.delaunay_legalization.proofs.Rounds.{next_starts, next_within, round_begins, round_ends}
+use Rattle.{delaunay_legalization.proofs.Rounds.round_goes_on, half_edge_links.specs.origin}
 use Rattle.delaunay_shapes.proofs.Crossed.{false_tells, true_tells}
 use Rattle.delaunay_shapes.proofs.edges.is_free_round.Goals as goal
 

@@ -1,7 +1,6 @@
 use Rattle.std.proofs.Common.{ℕ}
-use Rattle.delaunay_location.specs.half_edge_dcel.Rounds.{out_edges_left}
-use Rattle.delaunay_location.proofs.delaunay_legalization_lemmas.Rounds.{IsGoingRound}
-use Rattle.delaunay_shapes.specs.Beside.{IsFreeBeside}
+use Rattle.{delaunay_legalization.proofs.IsGoingRound, half_edge_dcel.specs.out_edges_left}
+use Rattle.delaunay_shapes.specs.{IsFreeBeside}
 use Rattle.delaunay_shapes.proofs.edges.is_free_round.Given as goal
 
 abbrev pub invariant-loop-edge : goal.invariant-loop-edge

@@ -1,13 +1,11 @@
 use Rattle.std.proofs.Common.{ℕ, ◌<◌, ◌/◌, ◌∙◌, refl, sym, ap, length, arith}
-use Rattle.delaunay_location.proofs.delaunay_legalization_lemmas.Questions.{both_ways}
-use Rattle.delaunay_shapes.specs.InShape.{undirected_of}
+use Rattle.{delaunay_legalization.proofs.both_ways, delaunay_shapes.proofs.Flooding.half_of_even}
+use Rattle.delaunay_shapes.specs.{undirected_of}
 use Rattle.delaunay_shapes.proofs.Asking.{filter_finds, filter_passes, undirected_more}
-use Rattle.delaunay_shapes.proofs.Flooding.{half_of_even}
-use Rattle.delaunay_shapes.proofs.Handles.{edge_told, end_covered, start_covered}
-use Rattle.delaunay_shapes.proofs.Handles.{filtered_directed, filtered_edges}
-use Rattle.delaunay_shapes.proofs.filter.edges_by_filter.Goals.{then-is_handle_inside+in_ok-push}
-use Rattle.delaunay_shapes.proofs.filter.edges_by_filter.Goals.{else-is_handle_inside}
+use Rattle.delaunay_shapes.proofs.Handles.{edge_told, end_covered, filtered_directed}
+use Rattle.delaunay_shapes.proofs.Handles.{filtered_edges, start_covered}
 use Rattle.delaunay_shapes.proofs.filter.edges_by_filter.Goals as goal
+use goal.{else-is_handle_inside, then-is_handle_inside+in_ok-push}
 
 pub is_handle_inside-requires : goal.is_handle_inside-requires
 is_handle_inside-requires g c =

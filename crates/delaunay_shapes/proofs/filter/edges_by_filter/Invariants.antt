@@ -1,5 +1,5 @@
-use Rattle.delaunay_shapes.specs.InShape.{IsInside, undirected_of}
-use Rattle.delaunay_shapes.proofs.Asking.{IsFilteredTo}
+use Rattle.delaunay_shapes.specs.{undirected_of}
+use Rattle.{delaunay_shapes.proofs.Asking.IsFilteredTo, delaunay_shapes.specs.InShape.IsInside}
 use Rattle.delaunay_shapes.proofs.filter.edges_by_filter.Given as goal
 
 abbrev pub invariant-loop-index : goal.invariant-loop-index

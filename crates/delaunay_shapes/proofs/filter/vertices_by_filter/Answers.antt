@@ -1,12 +1,10 @@
 use Rattle.std.proofs.Common.{◌∙◌, refl, sym, ap, map, length, arith}
 use Rattle.std.proofs.lemmas.List.{length-map}
-use Rattle.delaunay_location.proofs.delaunay_legalization_lemmas.Questions.{both_ways}
-use Rattle.delaunay_shapes.proofs.Asking.{filter_finds, filter_passes}
-use Rattle.delaunay_shapes.proofs.Handles.{vertex_covered, vertex_told, filtered_within}
-use Rattle.delaunay_shapes.proofs.Handles.{filtered_vertices}
-use Rattle.delaunay_shapes.proofs.filter.vertices_by_filter.Goals.{then-is_point_inside+in_ok-push}
-use Rattle.delaunay_shapes.proofs.filter.vertices_by_filter.Goals.{else-is_point_inside}
+use Rattle.delaunay_legalization.proofs.{both_ways}
+use Rattle.delaunay_shapes.proofs.{Asking.filter_finds, Asking.filter_passes, Handles.vertex_told}
+use Rattle.delaunay_shapes.proofs.Handles.{filtered_vertices, filtered_within, vertex_covered}
 use Rattle.delaunay_shapes.proofs.filter.vertices_by_filter.Goals as goal
+use goal.{else-is_point_inside, then-is_point_inside+in_ok-push}
 
 pub loop-index-preserved : goal.loop-index-preserved
 loop-index-preserved g c =

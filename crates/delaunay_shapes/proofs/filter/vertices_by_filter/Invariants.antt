@@ -1,7 +1,6 @@
 use Rattle.std.proofs.Common.{map}
-use Rattle.delaunay_location.specs.plane.Fraction.{whole}
-use Rattle.delaunay_shapes.specs.Known.{point_at}
-use Rattle.delaunay_shapes.proofs.Asking.{IsFilteredTo}
+use Rattle.plane.specs.{whole}
+use Rattle.{delaunay_shapes.proofs.Asking.IsFilteredTo, delaunay_shapes.specs.point_at}
 use Rattle.delaunay_shapes.proofs.filter.vertices_by_filter.Given as goal
 
 abbrev pub invariant-loop-index : goal.invariant-loop-index

@@ -1,8 +1,7 @@
 use Rattle.std.proofs.Common.{ℕ, ◌/◌, ◌∙◌, ap, sym, subst, arith}
 use Rattle.std.proofs.lemmas.Grind.{common_steps}
-use Rattle.delaunay_location.specs.half_edge_links.Mesh.{face_edge, next, prev}
-use Rattle.delaunay_shapes.specs.Start.{HasSides}
-use Rattle.delaunay_shapes.proofs.FirstEdges.{three_sides}
+use Rattle.half_edge_links.specs.{face_edge, next, prev}
+use Rattle.{delaunay_shapes.proofs.FirstEdges.three_sides, delaunay_shapes.specs.HasSides}
 use Rattle.delaunay_shapes.proofs.flood_start.sides_of_face.Goals as goal
 
 pub returns-clause-starts : goal.returns-clause-starts

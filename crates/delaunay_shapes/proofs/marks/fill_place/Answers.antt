@@ -1,5 +1,5 @@
 use Rattle.std.proofs.Common.{◌≡◌, ◌∙◌, suc, length, ap, arith, rules}
-use Rattle.delaunay_shapes.proofs.Marking.{entry_read, pages_below, names_new_page, same_with_page}
+use Rattle.delaunay_shapes.proofs.Marking.{entry_read, names_new_page, pages_below, same_with_page}
 use Rattle.delaunay_shapes.proofs.marks.fill_place.Goals as goal
 
 pub overflow_cast-len : goal.overflow_cast-len

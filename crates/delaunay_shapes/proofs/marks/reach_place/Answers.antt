@@ -1,6 +1,5 @@
 use Rattle.std.proofs.Common.{◌∙◌, ◌-◌, ◌+◌, ap, arith}
-use Rattle.delaunay_shapes.specs.Marks.{count_others}
-use Rattle.delaunay_shapes.proofs.Marking.{others_longer}
+use Rattle.{delaunay_shapes.proofs.Marking.others_longer, delaunay_shapes.specs.Marks.count_others}
 use Rattle.delaunay_shapes.proofs.marks.reach_place.Goals as goal
 
 pub returns-in_ok-resize-clause-used : goal.returns-in_ok-resize-clause-used

@@ -1,6 +1,5 @@
 use Rattle.std.proofs.Common.{◌/◌, ◌<◌, length, arith}
-use Rattle.delaunay_location.proofs.plane_theorems.Tiling.Totals.{get_or_any}
-use Rattle.delaunay_location.proofs.delaunay_legalization_lemmas.Bits.{one_bit_more}
+use Rattle.{delaunay_legalization.proofs.Bits.one_bit_more, plane_theorems.proofs.get_or_any}
 use Rattle.delaunay_shapes.proofs.marks.set_bit.Goals as goal
 
 pub returns : goal.returns

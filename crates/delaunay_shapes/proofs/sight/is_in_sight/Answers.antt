@@ -1,19 +1,15 @@
 use Rattle.std.proofs.Common.{◌↔◌, IsTrue, map, subst}
 use Rattle.std.specs.Prelude.{All}
-use Rattle.delaunay_location.specs.plane.Fraction.{whole}
-use Rattle.delaunay_location.specs.plane.Tests.{InRange}
-use Rattle.plane_theorems.specs.Sight.Sight.{IsInFree, IsInSight}
-use Rattle.delaunay_location.specs.delaunay_core.Place.{place_of}
-use Rattle.delaunay_location.specs.delaunay_legalization.State.{triangulation_of}
-use Rattle.delaunay_location.proofs.delaunay_legalization_lemmas.Questions.{both_ways}
-use Rattle.delaunay_shapes.specs.Beside.{by_place}
-use Rattle.delaunay_shapes.proofs.Crossed.{false_tells}
+use Rattle.plane_theorems.specs.{IsInFree, IsInSight}
+use Rattle.{delaunay_core.specs.place_of, delaunay_shapes.specs.by_place}
+use Rattle.{delaunay_legalization.proofs.both_ways, delaunay_legalization.specs.triangulation_of}
+use Rattle.{delaunay_shapes.proofs.Crossed.false_tells, plane.specs.InRange, plane.specs.whole}
 use Rattle.delaunay_shapes.proofs.SightDecided.{of_state, sees_end, sees_if, sees_start}
-use Rattle.delaunay_shapes.proofs.sight.is_in_sight.Goals.{After-mesh-dcel}
 use Rattle.delaunay_shapes.proofs.sight.is_in_sight.Goals as goal
+use Rattle.delaunay_shapes.proofs.sight.is_in_sight.Goals.{After-mesh-dcel}
 
-pub invariant_of-placed : goal.invariant_of-placed
-invariant_of-placed g c =
+pub invariant_of-embedding : goal.invariant_of-embedding
+invariant_of-embedding g c =
     let at = g.V.HasPosition.place in
     let mesh = c.mesh-dcel.ensures in
     record {
@@ -47,7 +43,7 @@ returns g c =
     let free = g.G.FreeFaces.free c.args.free.now in
     subst (λ z. IsTrue c.goes_free.result ↔ IsInSight (triangulation_of g.V.HasPosition.place z)
     (by_place free) (whole (at c.args.from)) (whole (at c.args.to))) c.mesh-dcel.ensures.state
-    (sees_if (invariant_of-placed g (goal.at.returns g c).After-mesh-dcel) free (at c.args.from)
+    (sees_if (invariant_of-embedding g (goal.at.returns g c).After-mesh-dcel) free (at c.args.from)
     (at c.args.to)
     (c.is_in_free.ensures.0 c.if-not-is_in_free.false)
     (c.is_in_free-2.ensures.0 c.if-not-is_in_free-2.false) _ c.goes_free.ensures)

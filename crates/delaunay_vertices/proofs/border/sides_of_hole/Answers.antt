@@ -1,5 +1,5 @@
 use Rattle.std.proofs.Common.{arith}
-use Rattle.delaunay_vertices.proofs.Borders.{gathering_begins, gathering_goes_on, gathering_ends}
+use Rattle.delaunay_vertices.proofs.Borders.{gathering_begins, gathering_ends, gathering_goes_on}
 use Rattle.delaunay_vertices.proofs.Borders.{no_border}
 use Rattle.delaunay_vertices.proofs.border.sides_of_hole.Goals as goal
 

@@ -1,6 +1,6 @@
 use Rattle.std.proofs.Common.{arith}
-use Rattle.delaunay_vertices.proofs.FreedEdges.{freeing_begins, freeing_goes_on, freeing_ends}
-use Rattle.delaunay_vertices.proofs.FreedEdges.{free_already, none_to_free, still_there}
+use Rattle.delaunay_vertices.proofs.FreedEdges.{free_already, freeing_begins, freeing_ends}
+use Rattle.delaunay_vertices.proofs.FreedEdges.{freeing_goes_on, none_to_free, still_there}
 use Rattle.delaunay_vertices.proofs.freeing.free_edges_at.Goals as goal
 
 pub returns-then-is_free : goal.returns-then-is_free

@@ -1,5 +1,5 @@
 use Rattle.std.proofs.Common.{sym, ◌∙◌, arith}
-use Rattle.delaunay_legalization.proofs.half_edge_links_lemmas.Lists.Rev.{rev-rev}
+use Rattle.half_edge_links.proofs.{rev-rev}
 use Rattle.delaunay_vertices.proofs.BothRounds.{looking_begins, looking_goes_on, none_back}
 use Rattle.delaunay_vertices.proofs.BothRounds.{none_of_all, none_when_back, starts_there}
 use Rattle.delaunay_vertices.proofs.joining_edge.find_edge_between.Goals as goal

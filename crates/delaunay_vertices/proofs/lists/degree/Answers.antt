@@ -1,5 +1,4 @@
-use Rattle.delaunay_vertices.proofs.Degrees.{room_of_round, room_of_none, round_listed}
-use Rattle.delaunay_vertices.proofs.Degrees.{none_listed}
+use Rattle.delaunay_vertices.proofs.Degrees.{none_listed, room_of_none, room_of_round, round_listed}
 use Rattle.delaunay_vertices.proofs.lists.degree.Goals as goal
 
 pub returns-in-Some : goal.returns-in-Some

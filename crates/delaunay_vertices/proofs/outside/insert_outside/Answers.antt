@@ -1,22 +1,17 @@
 use Rattle.std.proofs.Common.{◌≡◌, ◌∙◌, false, map, ap, inl, inr, refl, sym, subst, arith}
 use Rattle.std.proofs.lemmas.List.{length-map}
-use Rattle.delaunay_legalization.specs.half_edge_links.Mesh.{origin}
-use Rattle.delaunay_legalization.specs.plane.Fraction.{whole}
-use Rattle.delaunay_legalization.specs.plane.Location.{IsPast}
-use Rattle.delaunay_legalization.specs.plane_theorems.Tiling.Local.{alone}
-use Rattle.delaunay_legalization.specs.Drawn.{faces_of, outer_of}
-use Rattle.delaunay_legalization.proofs.Questions.{both_ways}
-use Rattle.delaunay_vertices.proofs.DataGrowing.{grows_past_end}
-use Rattle.delaunay_vertices.proofs.EdgeLists.{adds_only}
-use Rattle.delaunay_vertices.proofs.EdgeSides.{bare_if_past}
-use Rattle.delaunay_vertices.proofs.Growing.{extended_shape, gains}
-use Rattle.delaunay_vertices.proofs.Joining.{joining_begins, joining_ends, room_for_face}
-use Rattle.delaunay_vertices.proofs.Joining.{sites_grown, seen_if, told_of, unseen_if, ahead_apart}
-use Rattle.delaunay_vertices.proofs.Joining.{step_ahead, before_outer, before_apart, step_behind}
-use Rattle.delaunay_vertices.proofs.MadeFaces.{made_none, made_outside}
-use Rattle.delaunay_vertices.proofs.outside.insert_outside.Given.{Over}
-use Rattle.delaunay_vertices.proofs.outside.insert_outside.Goals.{After-is_on_left}
+use Rattle.{half_edge_links.specs.origin, plane.specs.IsPast, plane.specs.whole}
+use Rattle.plane_theorems.specs.{alone}
+use Rattle.delaunay_legalization.specs.{faces_of, outer_of}
+use Rattle.{delaunay_legalization.proofs.both_ways, delaunay_vertices.proofs.EdgeLists.adds_only}
+use Rattle.delaunay_vertices.proofs.{DataGrowing.grows_past_end, outside.insert_outside.Given.Over}
+use Rattle.delaunay_vertices.proofs.{EdgeSides.bare_if_past, Growing.extended_shape, Growing.gains}
+use Rattle.delaunay_vertices.proofs.Joining.{ahead_apart, before_apart, before_outer}
+use Rattle.delaunay_vertices.proofs.Joining.{joining_begins, joining_ends, room_for_face, seen_if}
+use Rattle.delaunay_vertices.proofs.Joining.{sites_grown, step_ahead, step_behind, told_of}
+use Rattle.delaunay_vertices.proofs.{Joining.unseen_if, MadeFaces.made_none, MadeFaces.made_outside}
 use Rattle.delaunay_vertices.proofs.outside.insert_outside.Goals as goal
+use Rattle.delaunay_vertices.proofs.outside.insert_outside.Goals.{After-is_on_left}
 
 -- where the vertex is not strictly on the left of the edge, it is past the end of a line
 past : (g : Over) (c : After-is_on_left g) → c.is_on_left.result ≡ false

@@ -1,5 +1,5 @@
 use Rattle.std.proofs.Common.{length}
-use Rattle.delaunay_legalization.specs.Drawn.{outer_of}
+use Rattle.delaunay_legalization.specs.{outer_of}
 use Rattle.delaunay_vertices.proofs.Joining.{IsJoining, IsJoiningBack}
 use Rattle.delaunay_vertices.proofs.outside.insert_outside.Given as goal
 

@@ -1,4 +1,4 @@
-use Rattle.delaunay_legalization.proofs.Questions.{covered_in}
+use Rattle.delaunay_legalization.proofs.{covered_in}
 use Rattle.delaunay_vertices.proofs.outside.is_on_left.Goals as goal
 
 pub turns_left-requires : goal.turns_left-requires

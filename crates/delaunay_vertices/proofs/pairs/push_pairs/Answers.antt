@@ -1,4 +1,4 @@
-use Rattle.delaunay_vertices.proofs.PairEdges.{listing_begins, listing_goes_on, listing_ends}
+use Rattle.delaunay_vertices.proofs.PairEdges.{listing_begins, listing_ends, listing_goes_on}
 use Rattle.delaunay_vertices.proofs.pairs.push_pairs.Goals as goal
 
 pub loop-i-init : goal.loop-i-init

@@ -1,11 +1,10 @@
 use Rattle.std.proofs.lemmas.List.{length-map}
-use Rattle.delaunay_legalization.proofs.Entries.{not_some}
-use Rattle.delaunay_legalization.proofs.MeshStars.{vertex_has_edge}
+use Rattle.delaunay_legalization.proofs.{Entries.not_some, MeshStars.vertex_has_edge}
 use Rattle.delaunay_vertices.proofs.removal.isolate.Goals as goal
 
 pub unreachable-requires : goal.unreachable-requires
 unreachable-requires g c =
-    not_some _ c.in-None.ensures.none (vertex_has_edge _ _ c.requires.placed.kept.valid.sound
+    not_some _ c.in-None.ensures.none (vertex_has_edge _ _ c.requires.embedding.kept.valid.sound
     c.requires.shape c.args.vertex (rw length-map c.requires.within))
 
 pub outer_edge_beside-requires-clause-round : goal.outer_edge_beside-requires-clause-round

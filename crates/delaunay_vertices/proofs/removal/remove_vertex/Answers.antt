@@ -1,8 +1,8 @@
 use Rattle.std.proofs.Common.{◌≡◌, ◌<◌, length, Some, sym, subst}
 use Rattle.std.specs.Prelude.{slice_get}
-use Rattle.delaunay_vertices.proofs.RemovingConstraints.{freed_vertices, freed_room, freed_placed}
-use Rattle.delaunay_vertices.proofs.RemovingConstraints.{plain_left, data_left}
 use Rattle.delaunay_vertices.proofs.LeftFaces.{freed_faces_leave}
+use Rattle.delaunay_vertices.proofs.RemovingConstraints.{data_left, freed_placed, freed_room}
+use Rattle.delaunay_vertices.proofs.RemovingConstraints.{freed_vertices, plain_left}
 use Rattle.delaunay_vertices.proofs.removal.remove_vertex.Goals as goal
 
 pub free_edges_at-requires-clause-whole : goal.free_edges_at-requires-clause-whole
@@ -15,7 +15,7 @@ take_vertex-requires g c =
     let frees = c.free_edges_at.ensures in
     let kept = c.requires.kept in
     record {
-      placed = freed_placed marked frees kept c.requires.sites;
+      embedding = freed_placed marked frees kept c.requires.sites;
       within = subst (λ vs. c.args.vertex < length vs) (sym (freed_vertices marked frees kept))
           c.requires.within;
       room = freed_room marked frees kept c.requires.room;

@@ -1,13 +1,10 @@
 use Rattle.std.proofs.Common.{arith, vec_capacity}
-use Rattle.delaunay_legalization.proofs.Questions.{both_ways}
+use Rattle.{delaunay_legalization.proofs.both_ways, delaunay_vertices.proofs.HullSides.one_side}
 use Rattle.delaunay_vertices.proofs.DataStays.{none_to_keep, pairs_kept}
 use Rattle.delaunay_vertices.proofs.HullCuts.{corner_isolates, flat_isolates, flat_strip}
-use Rattle.delaunay_vertices.proofs.HullCuts.{sides_opposite}
-use Rattle.delaunay_vertices.proofs.HullIsolating.{flat_left}
-use Rattle.delaunay_vertices.proofs.HullSides.{one_side}
+use Rattle.delaunay_vertices.proofs.{HullCuts.sides_opposite, InnerHoles.isolates_from}
+use Rattle.delaunay_vertices.proofs.{HullIsolating.flat_left, Shrinking.has_spoke}
 use Rattle.delaunay_vertices.proofs.HullStars.{has_two, hull_may_turn, strip_of}
-use Rattle.delaunay_vertices.proofs.InnerHoles.{isolates_from}
-use Rattle.delaunay_vertices.proofs.Shrinking.{has_spoke}
 use Rattle.delaunay_vertices.proofs.removal_hull.isolate_on_hull.Goals as goal
 
 pub shrink_hull_star-count-requires-clause-room : goal.shrink_hull_star-count-requires-clause-room
@@ -16,7 +13,7 @@ shrink_hull_star-count-requires-clause-room g c = rw c.requires.starts c.require
 pub invariant_of-spokes : goal.invariant_of-spokes
 invariant_of-spokes g c =
     let s = c.shrink_hull_star-count.ensures.shrinks in
-    has_spoke s.contents c.requires.placed s.whole s.star.shape (s.star.round.within 0)
+    has_spoke s.contents c.requires.embedding s.whole s.star.shape (s.star.round.within 0)
 
 pub collect_sides-requires : goal.collect_sides-requires
 collect_sides-requires g c =

@@ -1,7 +1,7 @@
 use Rattle.std.proofs.Common.{ap, ◌∙◌, arith}
-use Rattle.delaunay_legalization.specs.half_edge_links.Mesh.{origin, face, rev}
-use Rattle.delaunay_vertices.proofs.Searching.{not_so, search_goes_on}
+use Rattle.half_edge_links.specs.{face, origin, rev}
 use Rattle.delaunay_vertices.proofs.HullEdges.{faces_inner}
+use Rattle.delaunay_vertices.proofs.Searching.{not_so, search_goes_on}
 use Rattle.delaunay_vertices.proofs.removal_hull.outer_edge_beside.Goals as goal
 
 pub returns-then-is_outer-clause-starts : goal.returns-then-is_outer-clause-starts

@@ -1,5 +1,5 @@
 use Rattle.std.proofs.Common.{◌≡◌, length}
-use Rattle.delaunay_legalization.specs.half_edge_links.Mesh.{face, rev}
+use Rattle.half_edge_links.specs.{face, rev}
 use Rattle.delaunay_vertices.proofs.Searching.{IsSearching}
 use Rattle.delaunay_vertices.proofs.removal_hull.outer_edge_beside.Given as goal
 

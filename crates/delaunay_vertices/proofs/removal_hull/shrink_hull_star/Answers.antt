@@ -1,17 +1,14 @@
 use Rattle.std.proofs.Common.{refl, arith}
-use Rattle.delaunay_vertices.specs.Hull.{IsHullFan}
-use Rattle.delaunay_vertices.proofs.Turning.{turning_begins}
-use Rattle.delaunay_vertices.proofs.HullStars.{has_two}
 use Rattle.delaunay_vertices.proofs.HullShrinking.{first_starts, hull_shrinking_goes_on}
 use Rattle.delaunay_vertices.proofs.HullShrinking.{hull_shrinking_stops, hull_turn_at}
-use Rattle.delaunay_vertices.proofs.Shrinking.{has_spoke}
-use Rattle.delaunay_vertices.proofs.Turns.{still_within}
+use Rattle.delaunay_vertices.proofs.{HullStars.has_two, Shrinking.has_spoke, Turning.turning_begins}
+use Rattle.{delaunay_vertices.proofs.Turns.still_within, delaunay_vertices.specs.IsHullFan}
 use Rattle.delaunay_vertices.proofs.removal_hull.shrink_hull_star.Goals as goal
 
 pub loop-edge-init : goal.loop-edge-init
 loop-edge-init g c =
     let hull = c.requires.hull in
-    let kept = c.requires.placed.kept in
+    let kept = c.requires.embedding.kept in
     let round = c.count_edges-count.ensures in
     let star : IsHullFan _ c.args.dcel.now.mesh _ c.args.first c.count_edges-count.result =
     record { shape = hull.shape; outer = hull.outer; round = round } in
@@ -29,7 +26,7 @@ loop-edge-init g c =
 pub invariant_of-spokes : goal.invariant_of-spokes
 invariant_of-spokes g c =
     let s = c.loop-edge.invariant in
-    has_spoke s.so_far.contents c.requires.placed s.so_far.whole s.star.shape
+    has_spoke s.so_far.contents c.requires.embedding s.so_far.whole s.star.shape
     (rw s.so_far.whole.fits.directed_fit at s.from_within)
 
 pub turn_away-requires-clause-turns : goal.turn_away-requires-clause-turns

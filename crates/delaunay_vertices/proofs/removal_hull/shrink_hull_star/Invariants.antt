@@ -1,5 +1,4 @@
-use Rattle.delaunay_legalization.specs.half_edge_links.Mesh.{origin}
-use Rattle.delaunay_vertices.proofs.HullShrinking.{IsHullShrinking}
+use Rattle.{delaunay_vertices.proofs.HullShrinking.IsHullShrinking, half_edge_links.specs.origin}
 use Rattle.delaunay_vertices.proofs.removal_hull.shrink_hull_star.Given as goal
 
 abbrev pub invariant-loop-edge : goal.invariant-loop-edge

@@ -1,10 +1,9 @@
 use Rattle.std.proofs.Common.{◌∙◌, arith}
 use Rattle.delaunay_vertices.proofs.DataStays.{pairs_kept}
-use Rattle.delaunay_vertices.proofs.InnerHoles.{three_wheel, three_isolate, isolates_from}
-use Rattle.delaunay_vertices.proofs.InnerHoles.{wheel_after, four_isolate}
+use Rattle.delaunay_vertices.proofs.InnerHoles.{four_isolate, isolates_from, three_isolate}
+use Rattle.delaunay_vertices.proofs.InnerHoles.{three_wheel, wheel_after}
 use Rattle.delaunay_vertices.proofs.InnerStars.{inner_may_turn, starts_after}
-use Rattle.delaunay_vertices.proofs.Isolating.{four_left, four_named}
-use Rattle.delaunay_vertices.proofs.Shrinking.{has_spoke}
+use Rattle.delaunay_vertices.proofs.{Isolating.four_left, Isolating.four_named, Shrinking.has_spoke}
 use Rattle.delaunay_vertices.proofs.removal_inner.isolate_inner.Goals as goal
 
 pub fill_three-requires : goal.fill_three-requires
@@ -19,7 +18,7 @@ fill_three-requires g c =
 pub invariant_of-spokes : goal.invariant_of-spokes
 invariant_of-spokes g c =
     let s = c.shrink_star-first.ensures.shrinks in
-    has_spoke s.contents c.requires.placed s.whole s.star.shape (s.star.round.within 0)
+    has_spoke s.contents c.requires.embedding s.whole s.star.shape (s.star.round.within 0)
 
 pub edge_beside_line-beside-requires : goal.edge_beside_line-beside-requires
 edge_beside_line-beside-requires g c =

@@ -1,13 +1,12 @@
 use Rattle.std.proofs.Common.{◌∙◌, refl}
-use Rattle.delaunay_vertices.proofs.Turning.{turning_begins}
-use Rattle.delaunay_vertices.proofs.Shrinking.{has_spoke, turn_at, shrinking_goes_on}
-use Rattle.delaunay_vertices.proofs.Shrinking.{shrinking_from, shrinking_stops, shrinking_ends}
-use Rattle.delaunay_vertices.proofs.Turns.{still_within}
+use Rattle.delaunay_vertices.proofs.Shrinking.{has_spoke, shrinking_ends, shrinking_from}
+use Rattle.delaunay_vertices.proofs.Shrinking.{shrinking_goes_on, shrinking_stops, turn_at}
+use Rattle.delaunay_vertices.proofs.{Turning.turning_begins, Turns.still_within}
 use Rattle.delaunay_vertices.proofs.removal_inner.shrink_star.Goals as goal
 
 pub loop-count-init : goal.loop-count-init
 loop-count-init g c = record {
-  so_far = turning_begins c.requires.placed.kept
+  so_far = turning_begins c.requires.embedding.kept
       (c.requires.room c.args.first c.args.count c.requires.star.round);
   star = c.requires.star;
 }
@@ -15,7 +14,7 @@ loop-count-init g c = record {
 pub invariant_of-spokes : goal.invariant_of-spokes
 invariant_of-spokes g c =
     let s = c.loop-count.invariant in
-    has_spoke s.so_far.contents c.requires.placed s.so_far.whole s.star.shape
+    has_spoke s.so_far.contents c.requires.embedding s.so_far.whole s.star.shape
     (s.star.round.within 0)
 
 pub turn_away-requires-clause-turns : goal.turn_away-requires-clause-turns

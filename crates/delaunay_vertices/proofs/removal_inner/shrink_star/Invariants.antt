@@ -1,5 +1,4 @@
-use Rattle.delaunay_legalization.specs.half_edge_links.Mesh.{origin}
-use Rattle.delaunay_vertices.proofs.Shrinking.{IsShrinking}
+use Rattle.{delaunay_vertices.proofs.Shrinking.IsShrinking, half_edge_links.specs.origin}
 use Rattle.delaunay_vertices.proofs.removal_inner.shrink_star.Given as goal
 
 abbrev pub invariant-loop-count : goal.invariant-loop-count

@@ -1,5 +1,5 @@
 use Rattle.std.proofs.Common.{sym, ◌∙◌, arith}
-use Rattle.delaunay_vertices.proofs.Rounds.{counting_fits, counting_goes_on, counted}
+use Rattle.delaunay_vertices.proofs.Rounds.{counted, counting_fits, counting_goes_on}
 use Rattle.delaunay_vertices.proofs.star.count_edges.Goals as goal
 
 pub overflow_add-count : goal.overflow_add-count

@@ -1,6 +1,6 @@
 use Rattle.std.proofs.Common.{ℕ, ◌<◌, ◌∙◌, length, ap, subst}
-use Rattle.delaunay_legalization.proofs.half_edge_links_lemmas.Lists.Rev.{rev-rev, rev_within}
-use Rattle.delaunay_legalization.specs.half_edge_links.Mesh.{origin, rev}
+use Rattle.half_edge_links.specs.{origin, rev}
+use Rattle.half_edge_links.proofs.{rev-rev, rev_within}
 use Rattle.delaunay_vertices.proofs.star.cw_edge.Goals as goal
 
 pub returns-clause-starts : goal.returns-clause-starts

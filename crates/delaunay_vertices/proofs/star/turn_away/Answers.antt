@@ -1,6 +1,5 @@
-use Rattle.delaunay_legalization.proofs.half_edge_links_lemmas.Removing.Conditions.{between_faces}
-use Rattle.delaunay_vertices.proofs.Turns.{may_turn}
-use Rattle.delaunay_vertices.proofs.DataTurns.{turned_stands}
+use Rattle.half_edge_links.proofs.{between_faces}
+use Rattle.delaunay_vertices.proofs.{DataTurns.turned_stands, Turns.may_turn}
 use Rattle.delaunay_vertices.proofs.star.turn_away.Goals as goal
 
 pub flip_cw-requires : goal.flip_cw-requires

@@ -1,32 +1,26 @@
 use Rattle.std.proofs.Common.{◌/◌, get_or, ◌∙◌, ap, inl, refl, sym}
 use Rattle.std.proofs.lemmas.List.{length-map}
-use Rattle.delaunay_legalization.specs.half_edge_dcel.Contents.{edges}
-use Rattle.delaunay_legalization.specs.State.{state_of}
-use Rattle.delaunay_legalization.proofs.Questions.{both_ways}
-use Rattle.delaunay_legalization.proofs.half_edge_links_lemmas.Removing.Conditions.{flippable}
-use Rattle.delaunay_vertices.specs.Edges.{SplitsAt}
-use Rattle.delaunay_vertices.specs.Growth.{CanSplit, GainsVertex}
+use Rattle.half_edge_links.proofs.Removing.Conditions.{flippable}
+use Rattle.{delaunay_legalization.proofs.both_ways, delaunay_legalization.specs.state_of}
+use Rattle.delaunay_vertices.specs.{GainsVertex, Growth.CanSplit, SplitsAt}
 use Rattle.delaunay_vertices.proofs.DataGrowing.{grows_within_line, grows_within_side, rev_half}
-use Rattle.delaunay_vertices.proofs.EdgeSides.{positive, twin_splits, twin_within, within_twin}
-use Rattle.delaunay_vertices.proofs.EdgeSides.{room_inside, vertex_of_edge}
-use Rattle.delaunay_vertices.proofs.EdgeSplits.{hull_split, inner_split, line_split}
-use Rattle.delaunay_vertices.proofs.EdgeSplits.{second_there, second_late, had_mark, had_none}
-use Rattle.delaunay_vertices.proofs.EdgeSplits.{written_mesh, written_gains}
-use Rattle.delaunay_vertices.proofs.Growing.{gains, split_shape}
+use Rattle.delaunay_vertices.proofs.EdgeSides.{positive, room_inside, twin_splits, twin_within}
+use Rattle.delaunay_vertices.proofs.EdgeSides.{vertex_of_edge, within_twin}
+use Rattle.delaunay_vertices.proofs.EdgeSplits.{had_mark, had_none, hull_split, inner_split}
+use Rattle.delaunay_vertices.proofs.EdgeSplits.{line_split, second_late, second_there}
+use Rattle.delaunay_vertices.proofs.EdgeSplits.{written_gains, written_mesh}
+use Rattle.delaunay_vertices.proofs.{Growing.gains, Growing.split_shape, MarkedEdges.own_ends}
 use Rattle.delaunay_vertices.proofs.InsertionCases.{hull_gains, within_side_shape}
 use Rattle.delaunay_vertices.proofs.MadeFaces.{made_none, made_within_side}
-use Rattle.delaunay_vertices.proofs.MarkedEdges.{own_ends}
-use Rattle.delaunay_vertices.proofs.SplitConstraints.{whole_mesh, split_with_mark}
-use Rattle.delaunay_vertices.proofs.SplitConstraints.{split_without_mark}
+use Rattle.delaunay_vertices.proofs.SplitConstraints.{split_with_mark, split_without_mark}
+use Rattle.{delaunay_vertices.proofs.SplitConstraints.whole_mesh, half_edge_dcel.specs.edges}
 use Rattle.delaunay_vertices.proofs.within_edge.insert_within_edge.Given.{Over}
-use Rattle.delaunay_vertices.proofs.within_edge.insert_within_edge.Goals.{After-as_undirected-second_half}
-use Rattle.delaunay_vertices.proofs.within_edge.insert_within_edge.Goals.{
-  then-num_inner_faces-eq0,
-  else-num_inner_faces-eq0+then-is_outer,
-  else-num_inner_faces-eq0+else-is_outer+then-is_outer-2,
-  else-num_inner_faces-eq0+else-is_outer+else-is_outer-2,
-}
 use Rattle.delaunay_vertices.proofs.within_edge.insert_within_edge.Goals as goal
+use Rattle.delaunay_vertices.proofs.within_edge.insert_within_edge.Goals.{After-as_undirected-second_half}
+use Rattle.delaunay_vertices.proofs.within_edge.insert_within_edge.Goals.{else-num_inner_faces-eq0+else-is_outer+else-is_outer-2}
+use Rattle.delaunay_vertices.proofs.within_edge.insert_within_edge.Goals.{else-num_inner_faces-eq0+else-is_outer+then-is_outer-2}
+use Rattle.delaunay_vertices.proofs.within_edge.insert_within_edge.Goals.{else-num_inner_faces-eq0+then-is_outer}
+use Rattle.delaunay_vertices.proofs.within_edge.insert_within_edge.Goals.{then-num_inner_faces-eq0}
 
 pub split_half_edge-requires-clause-half : goal.split_half_edge-requires-clause-half
 split_half_edge-requires-clause-half g c =

@@ -1,9 +1,7 @@
 use Rattle.std.proofs.Common.{◌≡◌, ◌⊎◌, ◌<◌, length, sym, subst}
 use Rattle.std.specs.Prelude.{All}
-use Rattle.delaunay_interface.specs.delaunay_edit.Constrained.{none}
-use Rattle.delaunay_bulk.specs.Bulk.{HaveHandles}
-use Rattle.drawing_faces.specs.Names.{AreFirsts, position}
-use Rattle.drawing_faces.specs.Refusals.{MayTake, RefusesPoints}
+use Rattle.{delaunay_bulk.specs.HaveHandles, delaunay_edit.specs.none}
+use Rattle.drawing_faces.specs.{MayTake, Names.AreFirsts, position, RefusesPoints}
 use Rattle.drawing_faces.proofs.Named.{placed_below, placed_names}
 use Rattle.drawing_faces.proofs.Refusing.{places_refused, refused_by}
 use Rattle.drawing_faces.proofs.drawn.place_points.Goals as goal

@@ -1,16 +1,11 @@
 use Rattle.std.proofs.Common.{ℕ, List, ◌≤◌, ◌∙◌, length, map, ap, refl, sym, subst}
 use Rattle.std.specs.Prelude.{All}
-use Rattle.delaunay_bulk.specs.Bulk.{HaveHandles}
-use Rattle.delaunay_interface.specs.delaunay_edit.Constrained.{constraint_edges}
-use Rattle.delaunay_interface.specs.delaunay_legalization.State.{triangulation_of}
-use Rattle.drawing_faces.specs.Drawing.{RefusesDrawing, ends_of, face_of}
-use Rattle.drawing_faces.specs.Drawing.{hole_refused, memory_refused, points_refused}
-use Rattle.drawing_faces.specs.Kept.{AreKept, IsLeftOut}
-use Rattle.drawing_faces.specs.Names.{places_of, position}
-use Rattle.drawing_faces.specs.Refusals.{HasEnds}
-use Rattle.drawing_faces.specs.Sides.{AreBeside}
-use Rattle.drawing_faces.proofs.Beside.{beside_within}
-use Rattle.drawing_faces.proofs.Keeping.{named_faces}
+use Rattle.{delaunay_edit.specs.constraint_edges, delaunay_legalization.specs.triangulation_of}
+use Rattle.delaunay_bulk.specs.{HaveHandles}
+use Rattle.drawing_faces.specs.{AreKept, ends_of, face_of, HasEnds, IsLeftOut, memory_refused}
+use Rattle.drawing_faces.specs.{places_of, position, RefusesDrawing}
+use Rattle.drawing_faces.specs.{Drawing.hole_refused, Drawing.points_refused, Sides.AreBeside}
+use Rattle.drawing_faces.proofs.{Beside.beside_within, Keeping.named_faces}
 use Rattle.drawing_faces.proofs.Refusing.{all_end_at_points, refused_by}
 use Rattle.drawing_faces.proofs.Together.{drawing_of, segments_refused, sides_refused}
 use Rattle.drawing_faces.proofs.drawn.triangulate_drawing.Goals as goal

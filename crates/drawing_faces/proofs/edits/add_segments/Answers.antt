@@ -1,8 +1,6 @@
 use Rattle.std.proofs.Common.{length, subst}
 use Rattle.std.specs.Prelude.{All}
-use Rattle.drawing_faces.specs.declared.error.DrawingError.TheVariants.{OutOfMemory}
-use Rattle.drawing_faces.specs.Names.{position}
-use Rattle.drawing_faces.specs.Refusals.{HasEnds, RefusesEnds}
+use Rattle.drawing_faces.specs.{HasEnds, OutOfMemory, position, RefusesEnds}
 use Rattle.drawing_faces.proofs.Refusing.{ok_anyway, refused_by, refused_only}
 use Rattle.drawing_faces.proofs.Taking.{added_segments}
 use Rattle.drawing_faces.proofs.edits.add_segments.Goals as goal

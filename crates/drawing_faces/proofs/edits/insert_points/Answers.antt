@@ -1,7 +1,6 @@
 use Rattle.std.proofs.Common.{length, refl, subst}
-use Rattle.delaunay_bulk.specs.Bulk.{InsertsAll}
-use Rattle.drawing_faces.specs.Names.{position}
-use Rattle.drawing_faces.specs.Refusals.{MayTake, RefusesPoints, bulk_fault}
+use Rattle.delaunay_bulk.specs.{InsertsAll}
+use Rattle.drawing_faces.specs.{MayTake, position, Refusals.bulk_fault, RefusesPoints}
 use Rattle.drawing_faces.proofs.Refusing.{bulk_refuses, points_may_be_taken, refused_by}
 use Rattle.drawing_faces.proofs.edits.insert_points.Goals as goal
 

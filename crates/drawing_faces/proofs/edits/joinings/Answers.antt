@@ -2,8 +2,7 @@ use Rattle.std.proofs.Common.{subst}
 use Rattle.std.specs.Prelude.{All}
 use Rattle.std.proofs.lemmas.List.{take_all}
 use Rattle.std.proofs.lemmas.List.Elements.{All-more}
-use Rattle.drawing_faces.specs.Refusals.{HasEnds}
-use Rattle.drawing_faces.proofs.Taking.{joining_more}
+use Rattle.{drawing_faces.proofs.Taking.joining_more, drawing_faces.specs.HasEnds}
 use Rattle.drawing_faces.proofs.edits.joinings.Goals as goal
 
 pub loop-segment-preserved : goal.loop-segment-preserved

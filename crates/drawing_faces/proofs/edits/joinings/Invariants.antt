@@ -1,7 +1,6 @@
 use Rattle.std.proofs.Common.{◌≡◌, map, take}
 use Rattle.std.specs.List.{All}
-use Rattle.drawing_faces.specs.Drawing.{joining_of}
-use Rattle.drawing_faces.specs.Refusals.{HasEnds}
+use Rattle.{drawing_faces.specs.Drawing.joining_of, drawing_faces.specs.HasEnds}
 use Rattle.drawing_faces.proofs.edits.joinings.Given as goal
 
 abbrev pub invariant-loop-segment : goal.invariant-loop-segment

@@ -1,6 +1,6 @@
 use Rattle.std.proofs.Common.{◌≡◌, map}
 use Rattle.std.specs.List.{All}
-use Rattle.drawing_faces.specs.Drawing.{IsDecided, is_taken}
+use Rattle.drawing_faces.specs.Drawing.{is_taken, IsDecided}
 use Rattle.drawing_faces.proofs.edits.taken_of.Given as goal
 
 abbrev pub invariant-loop-outcome : goal.invariant-loop-outcome

@@ -1,11 +1,8 @@
 use Rattle.std.proofs.Common.{◌≡◌, ◌∙◌, drop, map, ap, sym, subst}
 use Rattle.std.proofs.lemmas.Result.{IfOk-weaker}
-use Rattle.delaunay_interface.specs.delaunay_legalization.State.{triangulation_of}
+use Rattle.{delaunay_legalization.specs.triangulation_of, drawing_faces.proofs.Keeping.reached_kept}
+use Rattle.drawing_faces.specs.{AreKept, face_of, faces_inside, IsLeftOut, position}
 use Rattle.drawing_faces.specs.declared.faces.Kept.TheVariants.{Inside}
-use Rattle.drawing_faces.specs.Drawing.{face_of, faces_inside}
-use Rattle.drawing_faces.specs.Kept.{AreKept, IsLeftOut}
-use Rattle.drawing_faces.specs.Names.{position}
-use Rattle.drawing_faces.proofs.Keeping.{reached_kept}
 use Rattle.drawing_faces.proofs.faces.closed_faces.Goals as goal
 
 pub returns : goal.returns

@@ -1,5 +1,5 @@
 use Rattle.std.proofs.Common.{◌∙◌}
-use Rattle.drawing_faces.proofs.MeshFaces.{name_at, indexes_if}
+use Rattle.drawing_faces.proofs.MeshFaces.{indexes_if, name_at}
 use Rattle.drawing_faces.proofs.faces.corner_indexes.Goals as goal
 
 pub returns : goal.returns

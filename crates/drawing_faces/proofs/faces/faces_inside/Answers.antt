@@ -1,13 +1,9 @@
 use Rattle.std.proofs.Common.{◌+◌, ◌++◌, ◌∙◌, drop, inl, inr, ap}
-use Rattle.drawing_faces.specs.Drawing.{faces_inside}
+use Rattle.drawing_faces.specs.{faces_inside}
 use Rattle.drawing_faces.proofs.Inside.{inside_ends, inside_kept, inside_left}
 use Rattle.drawing_faces.proofs.faces.faces_inside.Goals as goal
-use Rattle.drawing_faces.proofs.faces.faces_inside.Goals.{
-  then-layers-i-ne0+in_ok-push,
-  else-layers-i-ne0,
-  else-loop-i-test,
-  then-loop-i-test+then-i-layers,
-}
+use goal.{else-layers-i-ne0, else-loop-i-test, then-layers-i-ne0+in_ok-push}
+use goal.{then-loop-i-test+then-i-layers}
 
 pub loop-i-preserved : goal.loop-i-preserved
 loop-i-preserved c =

@@ -1,5 +1,5 @@
 use Rattle.std.proofs.Common.{◌≡◌, ◌++◌, ◌+◌, drop}
-use Rattle.drawing_faces.specs.Drawing.{faces_inside}
+use Rattle.drawing_faces.specs.{faces_inside}
 use Rattle.drawing_faces.proofs.faces.faces_inside.Given as goal
 
 abbrev pub invariant-loop-i : goal.invariant-loop-i

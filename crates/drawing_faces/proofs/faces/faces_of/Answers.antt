@@ -1,13 +1,12 @@
 use Rattle.std.proofs.Common.{◌≡◌, ◌++◌, ◌∙◌, length, map, sym, ap, arith}
 use Rattle.std.specs.List.{range_with_len}
 use Rattle.std.proofs.lemmas.List.{length-map}
-use Rattle.delaunay_interface.specs.half_edge_links.Triangles.{triangles, triangle_at}
-use Rattle.delaunay_interface.specs.InnerFaces.{inner_faces_left}
-use Rattle.delaunay_interface.specs.delaunay_legalization.Drawn.{corners_of}
-use Rattle.delaunay_interface.proofs.delaunay_legalization_lemmas.Rounds.{first_left, none_left}
-use Rattle.drawing_faces.specs.Drawing.{face_of, indexes_at}
-use Rattle.drawing_faces.proofs.MeshFaces.{row_more, rows_end, rows_by_index, same_indexes}
-use Rattle.drawing_faces.proofs.MeshFaces.{as_faces}
+use Rattle.half_edge_links.specs.{triangle_at, triangles}
+use Rattle.delaunay_legalization.specs.{corners_of}
+use Rattle.delaunay_legalization.proofs.Rounds.{first_left, none_left}
+use Rattle.{delaunay_interface.specs.inner_faces_left, drawing_faces.proofs.MeshFaces.same_indexes}
+use Rattle.drawing_faces.specs.{face_of, indexes_at}
+use Rattle.drawing_faces.proofs.MeshFaces.{as_faces, row_more, rows_by_index, rows_end}
 use Rattle.drawing_faces.proofs.faces.faces_of.Goals as goal
 
 pub loop-face-init : goal.loop-face-init

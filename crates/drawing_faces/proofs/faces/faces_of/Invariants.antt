@@ -1,11 +1,9 @@
 use Rattle.std.proofs.Common.{◌≡◌, ℕ, List, ◌++◌, length, map}
 use Rattle.std.specs.Borrow.{Bor}
 use Rattle.std.specs.List.{range_with_len}
-use Rattle.delaunay_interface.specs.half_edge_dcel.Contents.{Contents}
-use Rattle.delaunay_interface.specs.half_edge_dcel.Left.{each_in}
-use Rattle.delaunay_interface.specs.InnerFaces.{inner_faces_left}
-use Rattle.delaunay_interface.specs.delaunay_legalization.State.{state_of}
-use Rattle.drawing_faces.specs.Drawing.{indexes_at}
+use Rattle.half_edge_dcel.specs.{Contents, each_in}
+use Rattle.{delaunay_interface.specs.inner_faces_left, delaunay_legalization.specs.state_of}
+use Rattle.drawing_faces.specs.{indexes_at}
 use Rattle.drawing_faces.proofs.faces.faces_of.Given as goal
 
 abbrev pub invariant-loop-face : goal.invariant-loop-face

@@ -1,11 +1,7 @@
 use Rattle.std.proofs.Common.{◌≡◌, map}
 use Rattle.std.proofs.lemmas.Result.{IfOk-weaker}
-use Rattle.delaunay_interface.specs.delaunay_legalization.State.{triangulation_of}
-use Rattle.drawing_faces.specs.declared.faces.Kept.TheVariants.{All}
-use Rattle.drawing_faces.specs.Drawing.{face_of}
-use Rattle.drawing_faces.specs.Kept.{AreKept, IsLeftOut}
-use Rattle.drawing_faces.specs.Names.{position}
-use Rattle.drawing_faces.proofs.Keeping.{all_of}
+use Rattle.{delaunay_legalization.specs.triangulation_of, drawing_faces.proofs.Keeping.all_of}
+use Rattle.drawing_faces.specs.{All, AreKept, face_of, IsLeftOut, position}
 use Rattle.drawing_faces.proofs.faces.kept_faces.Goals as goal
 
 pub returns-in-All : goal.returns-in-All

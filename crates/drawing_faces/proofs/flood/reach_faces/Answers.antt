@@ -1,7 +1,6 @@
 use Rattle.std.proofs.Common.{◌≡◌, ◌∙◌, arith, ap, refl, sym, subst}
-use Rattle.delaunay_interface.specs.half_edge_links.Mesh.{face, rev}
-use Rattle.delaunay_interface.proofs.delaunay_legalization_lemmas.Legalizing.{drained}
-use Rattle.drawing_faces.specs.Flood.{IsFlood}
+use Rattle.delaunay_legalization.proofs.Legalizing.{drained}
+use Rattle.{drawing_faces.specs.IsFlood, half_edge_links.specs.face, half_edge_links.specs.rev}
 use Rattle.drawing_faces.proofs.Flooding.{all_open, begun, edge_within, next_entered, next_keeps}
 use Rattle.drawing_faces.proofs.flood.reach_faces.Goals as goal
 

@@ -1,6 +1,6 @@
 use Rattle.std.proofs.Common.{ℕ}
 use Rattle.std.specs.Prelude.{Contains}
-use Rattle.drawing_faces.specs.Flood.{IsFlood, IsReached, flood_left}
+use Rattle.drawing_faces.specs.{Flood.flood_left, IsFlood, IsReached}
 use Rattle.drawing_faces.proofs.flood.reach_faces.Given as goal
 
 abbrev pub invariant-loop-edge : goal.invariant-loop-edge

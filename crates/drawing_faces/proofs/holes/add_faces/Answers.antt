@@ -2,14 +2,10 @@ use Rattle.std.proofs.Common.{rules, ◌∙◌, ◌≤◌, ◌/◌, ℕ, [], ◌
 use Rattle.std.proofs.Common.{append-nil, append_assoc}
 use Rattle.std.specs.Prelude.{Contains}
 use Rattle.std.proofs.lemmas.List.Elements.{All-cons, All-nil}
-use Rattle.delaunay_interface.specs.delaunay_location.declared.position_in_triangulation.PositionInTriangulation.TheVariants.{OnEdge}
-use Rattle.delaunay_interface.specs.delaunay_location.declared.position_in_triangulation.PositionInTriangulation.TheVariants.{OnFace}
-use Rattle.delaunay_interface.specs.delaunay_location.declared.position_in_triangulation.PositionInTriangulation.TheVariants.{OutsideOfConvexHull}
-use Rattle.delaunay_interface.proofs.delaunay_legalization_lemmas.Questions.{both_ways}
-use Rattle.delaunay_interface.specs.half_edge_links.Mesh.{face, rev}
-use Rattle.drawing_faces.specs.Holes.{faces_at}
-use Rattle.drawing_faces.proofs.InFaces.{in_no_face}
-use Rattle.drawing_faces.proofs.Refusing.{ok_of}
+use Rattle.half_edge_links.specs.{face, rev}
+use Rattle.{delaunay_legalization.proofs.both_ways, drawing_faces.specs.Holes.faces_at}
+use Rattle.delaunay_location.specs.{OnEdge, OnFace, OutsideOfConvexHull}
+use Rattle.drawing_faces.proofs.{InFaces.in_no_face, Refusing.ok_of}
 use Rattle.drawing_faces.proofs.holes.add_faces.Goals as goal
 
 pub returns-in_ok-push-in-OnFace-clause-adds : goal.returns-in_ok-push-in-OnFace-clause-adds

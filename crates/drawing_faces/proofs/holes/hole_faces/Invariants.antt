@@ -1,6 +1,6 @@
 use Rattle.std.proofs.Common.{◌≤◌, length, take}
 use Rattle.std.specs.Prelude.{All}
-use Rattle.drawing_faces.specs.Holes.{AreIn}
+use Rattle.drawing_faces.specs.{AreIn}
 use Rattle.drawing_faces.proofs.holes.hole_faces.Given as goal
 
 abbrev pub invariant-loop-place : goal.invariant-loop-place

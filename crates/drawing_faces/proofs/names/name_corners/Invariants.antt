@@ -1,6 +1,5 @@
 use Rattle.std.proofs.Common.{◌≡◌, map, take}
-use Rattle.drawing_faces.specs.Drawing.{face_of}
-use Rattle.drawing_faces.specs.Names.{places_of}
+use Rattle.drawing_faces.specs.{face_of, places_of}
 use Rattle.drawing_faces.proofs.names.name_corners.Given as goal
 
 abbrev pub invariant-loop-face : goal.invariant-loop-face

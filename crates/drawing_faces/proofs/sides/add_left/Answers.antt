@@ -1,4 +1,4 @@
-use Rattle.drawing_faces.specs.Names.{position}
+use Rattle.drawing_faces.specs.{position}
 use Rattle.drawing_faces.proofs.Beside.{passed_all, passed_more, passed_none}
 use Rattle.drawing_faces.proofs.sides.add_left.Goals as goal
 

@@ -1,5 +1,4 @@
-use Rattle.drawing_faces.specs.Names.{position}
-use Rattle.drawing_faces.proofs.Beside.{AddsPassed}
+use Rattle.{drawing_faces.proofs.Beside.AddsPassed, drawing_faces.specs.position}
 use Rattle.drawing_faces.proofs.sides.add_left.Given as goal
 
 abbrev pub invariant-loop-item : goal.invariant-loop-item

@@ -2,8 +2,7 @@ use Rattle.std.proofs.Common.{◌∙◌, ap, get_or, length, subst}
 use Rattle.std.specs.Prelude.{All}
 use Rattle.std.proofs.lemmas.List.{take_all}
 use Rattle.std.proofs.lemmas.List.Elements.{All-more, All-nil}
-use Rattle.drawing_faces.specs.declared.edits.DrawnSegment.{DrawnSegment}
-use Rattle.drawing_faces.specs.Refusals.{HasEnds}
+use Rattle.drawing_faces.specs.{DrawnSegment, HasEnds}
 use Rattle.drawing_faces.proofs.Beside.{beside_none, sides_next}
 use Rattle.drawing_faces.proofs.sides.add_side_faces.Goals as goal
 

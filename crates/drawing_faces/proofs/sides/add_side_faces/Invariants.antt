@@ -1,8 +1,6 @@
 use Rattle.std.proofs.Common.{length, map, take}
 use Rattle.std.specs.List.{All}
-use Rattle.drawing_faces.specs.Drawing.{ends_of}
-use Rattle.drawing_faces.specs.Refusals.{HasEnds}
-use Rattle.drawing_faces.specs.Sides.{AddsBeside}
+use Rattle.drawing_faces.specs.{ends_of, HasEnds, Sides.AddsBeside}
 use Rattle.drawing_faces.proofs.sides.add_side_faces.Given as goal
 
 abbrev pub invariant-loop-side : goal.invariant-loop-side

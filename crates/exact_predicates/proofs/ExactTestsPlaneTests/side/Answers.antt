@@ -1,7 +1,7 @@
 use Rattle.std.proofs.Common.{◌≡◌, ◌∙◌, sym, subst, arith}
 use Rattle.std.specs.Prelude.{pos, ◌<ℤ◌}
 use Rattle.std.proofs.lemmas.Int.{ints}
-use Rattle.plane.proofs.Areas.{left_if_positive, right_if_negative, on_if_zero}
+use Rattle.plane.proofs.{Areas.left_if_positive, on_if_zero, right_if_negative}
 use Rattle.exact_predicates.proofs.ExactTestsPlaneTests.side.Goals as goal
 
 pub returns-then-turn-gt0 : goal.returns-then-turn-gt0

@@ -1,9 +1,9 @@
 use Rattle.std.proofs.Common.{arith}
 use Rattle.std.specs.Prelude.{pos, ◌-ℤ◌}
 use Rattle.std.proofs.lemmas.Int.{ints}
-use Rattle.delaunay_core.specs.Place.{place_of}
-use Rattle.exact_predicates.proofs.Reaches.{lower_known, upper_known, left_passed, right_passed}
-use Rattle.exact_predicates.proofs.Reaches.{bottom_passed, told_by_top}
+use Rattle.delaunay_core.specs.{place_of}
+use Rattle.exact_predicates.proofs.Reaches.{bottom_passed, left_passed, lower_known, right_passed}
+use Rattle.exact_predicates.proofs.Reaches.{told_by_top, upper_known}
 use Rattle.exact_predicates.proofs.Widths.{kept, kept_long, kept_long_is}
 use Rattle.exact_predicates.proofs.disks.is_disk_within.Goals as goal
 

@@ -1,7 +1,6 @@
 use Rattle.std.proofs.Common.{rules}
 use Rattle.std.proofs.lemmas.Option.{slice_get_read}
-use Rattle.half_edge_dcel.proofs.EdgeLists.{moves_item}
-use Rattle.half_edge_dcel.proofs.Fits.{length_moved}
+use Rattle.half_edge_dcel.proofs.{EdgeLists.moves_item, Fits.length_moved}
 use Rattle.half_edge_dcel.proofs.growth.move_item.Goals as goal
 
 pub returns-clause-moves : goal.returns-clause-moves

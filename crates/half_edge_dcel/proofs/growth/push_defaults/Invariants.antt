@@ -1,5 +1,5 @@
 use Rattle.std.proofs.Common.{◌≡◌, vec_capacity}
-use Rattle.half_edge_dcel.specs.Growth.{Grows}
+use Rattle.half_edge_dcel.specs.{Grows}
 use Rattle.half_edge_dcel.proofs.growth.push_defaults.Given as goal
 
 abbrev pub invariant-loop : goal.invariant-loop

@@ -1,5 +1,5 @@
 use Rattle.std.proofs.Common.{◌<◌, length, arith, refl}
-use Rattle.half_edge_dcel.proofs.Turning.{maps_begins, maps_goes_on, maps_ends, fewer_made}
+use Rattle.half_edge_dcel.proofs.Turning.{fewer_made, maps_begins, maps_ends, maps_goes_on}
 use Rattle.half_edge_dcel.proofs.mapped.mapped.Goals as goal
 
 pub loop-item-init : goal.loop-item-init

@@ -1,7 +1,6 @@
 use Rattle.std.proofs.Common.{◌≡◌, length, arith}
-use Rattle.half_edge_links.specs.EdgeList.{shown}
-use Rattle.half_edge_links.proofs.Stored.Shown.{length_shown}
-use Rattle.half_edge_links.proofs.Stored.Fanned.{shows_fanned}
+use Rattle.half_edge_links.specs.{shown}
+use Rattle.half_edge_links.proofs.{Stored.Fanned.shows_fanned, Stored.Shown.length_shown}
 use Rattle.half_edge_links.proofs.inside.fan_edges.Goals as goal
 
 pub returns-clause-items : goal.returns-clause-items

@@ -1,5 +1,5 @@
-use Rattle.half_edge_links.proofs.Stored.Shown.{length_shown, next_shown, prev_shown}
 use Rattle.half_edge_links.proofs.Stored.Removed.{shows_filled}
+use Rattle.half_edge_links.proofs.Stored.Shown.{length_shown, next_shown, prev_shown}
 use Rattle.half_edge_links.proofs.removal.fill.Goals as goal
 
 pub returns-clause-items : goal.returns-clause-items

@@ -1,8 +1,7 @@
 use Rattle.std.proofs.Common.{◌∙◌, refl, arith}
-use Rattle.half_edge_links.specs.EdgeList.{shown}
-use Rattle.half_edge_links.proofs.Removing.VertexSound.{walk_more, walk_ends, no_end}
+use Rattle.half_edge_links.proofs.Removing.VertexSound.{no_end, walk_ends, walk_more}
+use Rattle.{half_edge_links.proofs.Stored.Joined.joined_kept, half_edge_links.specs.shown}
 use Rattle.half_edge_links.proofs.Stored.Shown.{length_shown, prev_shown}
-use Rattle.half_edge_links.proofs.Stored.Joined.{joined_kept}
 use Rattle.half_edge_links.proofs.removal.move_origins.Goals as goal
 
 pub set_origin-requires-clause-joined : goal.set_origin-requires-clause-joined

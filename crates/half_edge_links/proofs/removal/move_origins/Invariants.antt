@@ -1,6 +1,5 @@
 use Rattle.std.proofs.Common.{◌≡◌, length}
-use Rattle.half_edge_links.specs.EdgeList.{shown}
-use Rattle.half_edge_links.proofs.Removing.VertexSound.{HasWalked}
+use Rattle.{half_edge_links.proofs.Removing.VertexSound.HasWalked, half_edge_links.specs.shown}
 use Rattle.half_edge_links.proofs.removal.move_origins.Given as goal
 
 abbrev pub invariant-loop-i : goal.invariant-loop-i

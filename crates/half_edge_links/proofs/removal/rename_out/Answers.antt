@@ -1,8 +1,8 @@
 use Rattle.std.proofs.Common.{refl}
 use Rattle.std.proofs.lemmas.List.{length-set}
 use Rattle.half_edge_links.specs.Remove.{with_out_renamed}
-use Rattle.half_edge_links.proofs.Lists.VertexLists.{set_named, named_at}
-use Rattle.half_edge_links.proofs.Lists.VertexLists.{named_moved, length_out_edges}
+use Rattle.half_edge_links.proofs.Lists.VertexLists.{length_out_edges, named_at, named_moved}
+use Rattle.half_edge_links.proofs.Lists.VertexLists.{set_named}
 use Rattle.half_edge_links.proofs.removal.rename_out.Goals as goal
 
 pub returns : goal.returns

@@ -1,5 +1,5 @@
 use Rattle.std.proofs.Common.{refl}
-use Rattle.half_edge_links.proofs.Lists.VertexLists.{set_named, named_as}
+use Rattle.half_edge_links.proofs.Lists.VertexLists.{named_as, set_named}
 use Rattle.half_edge_links.proofs.vertex_list.set_out_edge.Goals as goal
 
 pub returns : goal.returns

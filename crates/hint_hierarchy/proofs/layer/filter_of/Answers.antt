@@ -1,6 +1,5 @@
 use Rattle.std.proofs.Common.{◌∙◌}
-use Rattle.delaunay_interface.specs.delaunay_core.Place.{place_of}
-use Rattle.hint_hierarchy.proofs.Filtered.{filtered_next}
+use Rattle.{delaunay_core.specs.place_of, hint_hierarchy.proofs.Filtered.filtered_next}
 use Rattle.hint_hierarchy.proofs.layer.filter_of.Goals as goal
 
 pub loop-index-preserved : goal.loop-index-preserved

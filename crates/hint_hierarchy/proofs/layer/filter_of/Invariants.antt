@@ -1,7 +1,6 @@
 use Rattle.std.proofs.Common.{map}
-use Rattle.delaunay_interface.specs.delaunay_core.Place.{place_of}
-use Rattle.hint_hierarchy.proofs.Filtered.{HasBit}
-use Rattle.hint_hierarchy.proofs.Held.{AllBefore}
+use Rattle.delaunay_core.specs.{place_of}
+use Rattle.{hint_hierarchy.proofs.Filtered.HasBit, hint_hierarchy.proofs.Held.AllBefore}
 use Rattle.hint_hierarchy.proofs.layer.filter_of.Given as goal
 
 abbrev pub invariant-loop-index : goal.invariant-loop-index

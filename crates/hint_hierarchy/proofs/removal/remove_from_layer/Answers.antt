@@ -1,6 +1,5 @@
 use Rattle.std.proofs.Common.{refl}
-use Rattle.delaunay_interface.specs.delaunay_core.Held.{place_if}
-use Rattle.delaunay_interface.specs.delaunay_core.Place.{place_of}
+use Rattle.delaunay_core.specs.{place_if, place_of}
 use Rattle.hint_hierarchy.proofs.Held.{all_with, or_with}
 use Rattle.hint_hierarchy.proofs.removal.remove_from_layer.Goals as goal
 

@@ -1,4 +1,4 @@
-use Rattle.mesh_files.specs.Drawn.{SameNumbers}
+use Rattle.mesh_files.specs.{SameNumbers}
 use Rattle.mesh_files.proofs.csv_tables.end_columns.Given as goal
 
 abbrev pub invariant-loop-column : goal.invariant-loop-column

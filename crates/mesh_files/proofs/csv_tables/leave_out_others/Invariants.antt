@@ -1,4 +1,4 @@
-use Rattle.mesh_files.specs.Drawn.{SameNumbers}
+use Rattle.mesh_files.specs.{SameNumbers}
 use Rattle.mesh_files.proofs.csv_tables.leave_out_others.Given as goal
 
 abbrev pub invariant-loop-column : goal.invariant-loop-column

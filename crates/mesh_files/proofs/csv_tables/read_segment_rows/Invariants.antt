@@ -1,4 +1,4 @@
-use Rattle.mesh_files.specs.Drawn.{SameNumbers}
+use Rattle.mesh_files.specs.{SameNumbers}
 use Rattle.mesh_files.proofs.csv_tables.read_segment_rows.Given as goal
 
 abbrev pub invariant-loop : goal.invariant-loop

@@ -1,8 +1,7 @@
 use Rattle.std.proofs.Common.{get_or, []}
 use Rattle.std.proofs.lemmas.Result.{on_ok_weaker}
 use Rattle.csv.specs.Records.{fields_of}
-use Rattle.mesh_files.proofs.PointRows.{trimmed_writes}
-use Rattle.mesh_files.proofs.TableRows.{record_drawn}
+use Rattle.mesh_files.proofs.{PointRows.trimmed_writes, TableRows.record_drawn}
 use Rattle.mesh_files.proofs.csv_tables.take_point_row.Goals as goal
 
 pub returns : goal.returns

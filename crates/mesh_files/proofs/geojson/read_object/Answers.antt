@@ -1,6 +1,5 @@
 use Rattle.std.proofs.Common.{[], refl}
-use Rattle.mesh_files.specs.Runs.{DrawsRuns}
-use Rattle.mesh_files.proofs.TokenRuns.{on_ok_too}
+use Rattle.{mesh_files.proofs.TokenRuns.on_ok_too, mesh_files.specs.DrawsRuns}
 use Rattle.mesh_files.proofs.geojson.read_object.Goals as goal
 
 pub loop-init : goal.loop-init

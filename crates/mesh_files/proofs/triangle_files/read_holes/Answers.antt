@@ -1,5 +1,5 @@
 use Rattle.std.proofs.Common.{◌∙◌, ap, ◌∷◌, [], refl, ℕ, List, sym}
-use Rattle.mesh_files.specs.Rows.{rows_of, words_of}
+use Rattle.mesh_files.specs.{rows_of, words_of}
 use Rattle.mesh_files.proofs.TriangleRows.{holes_more}
 use Rattle.mesh_files.proofs.triangle_files.read_holes.Goals as goal
 

@@ -1,6 +1,5 @@
 use Rattle.std.proofs.Common.{ℕ, List}
-use Rattle.mesh_files.specs.Drawn.{DrawsHoles, SamePoints}
-use Rattle.mesh_files.specs.Triangle.{TakesRows}
+use Rattle.mesh_files.specs.{Drawn.DrawsHoles, Drawn.SamePoints, TakesRows}
 use Rattle.mesh_files.proofs.triangle_files.read_holes.Given as goal
 
 abbrev pub invariant-loop : goal.invariant-loop

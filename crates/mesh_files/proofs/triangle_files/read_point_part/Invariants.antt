@@ -1,6 +1,5 @@
 use Rattle.std.proofs.Common.{◌≡◌, ℕ, List}
-use Rattle.mesh_files.specs.Drawn.{Draws}
-use Rattle.mesh_files.specs.Triangle.{TakesRows}
+use Rattle.mesh_files.specs.{Draws, TakesRows}
 use Rattle.mesh_files.proofs.triangle_files.read_point_part.Given as goal
 
 abbrev pub invariant-loop-place : goal.invariant-loop-place

@@ -1,6 +1,5 @@
 use Rattle.std.proofs.Common.{ℕ, List}
-use Rattle.mesh_files.specs.Drawn.{SameNumbers}
-use Rattle.mesh_files.specs.Triangle.{TakesRows}
+use Rattle.mesh_files.specs.{SameNumbers, TakesRows}
 use Rattle.mesh_files.proofs.triangle_files.read_segment_part.Given as goal
 
 abbrev pub invariant-loop : goal.invariant-loop

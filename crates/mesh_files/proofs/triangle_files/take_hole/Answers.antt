@@ -1,6 +1,5 @@
 use Rattle.std.proofs.Common.{◌∙◌, ap, ◌++◌, ◌∷◌, [], List}
-use Rattle.mesh_files.specs.declared.drawing.Spot.{Spot}
-use Rattle.mesh_files.proofs.TriangleRows.{hole_row}
+use Rattle.{mesh_files.proofs.TriangleRows.hole_row, mesh_files.specs.Spot}
 use Rattle.mesh_files.proofs.triangle_files.take_hole.Goals as goal
 
 pub returns : goal.returns

@@ -1,7 +1,6 @@
 use Rattle.std.proofs.Common.{sym, ◌∙◌}
 use Rattle.std.proofs.lemmas.List.{take_all}
-use Rattle.mesh_files.proofs.WordRows.{passes_more}
-use Rattle.mesh_files.specs.Stretches.{is_in}
+use Rattle.{mesh_files.proofs.WordRows.passes_more, mesh_files.specs.is_in}
 use Rattle.mesh_files.proofs.words.split.Goals as goal
 
 pub loop-i-preserved : goal.loop-i-preserved

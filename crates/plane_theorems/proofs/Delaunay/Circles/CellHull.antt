@@ -6,32 +6,25 @@ use mathlib.Core.Logic.{inl, inr}
 use Rattle.std.specs.Prelude.{ℤ, pos, ◌<ℤ◌, ◌≤ℤ◌, ◌*ℤ◌, ◌+ℤ◌, Contains}
 use Rattle.std.proofs.lemmas.Int.{ints}
 use Rattle.std.proofs.lemmas.List.{get_or_default, get_or-map, length-map}
-use Rattle.plane.proofs.Means.{three_weights}
-use Rattle.plane.proofs.IntegerOrder.{zero_of_mul-zero_ℤ, pos-ne-zero_ℤ, mul-nonneg_ℤ}
-use Rattle.plane.proofs.IntegerOrder.{mul-nonpos_of_nonneg_nonpos_ℤ}
-use Rattle.plane.proofs.Steps.{weak}
-use Rattle.plane.proofs.Signs.{index_not_negative}
-use Rattle.plane_theorems.proofs.Delaunay.Points.Bracket.{bracket, above_if_left}
-use Rattle.plane_theorems.proofs.Delaunay.Points.Hull.{triangle_in_hull, part_in_hull, AreSomewhere}
-use Rattle.plane_theorems.proofs.Delaunay.Points.Hull.{IsForm}
-use Rattle.plane_theorems.proofs.Delaunay.Points.Hull.{bracket_form, sum_form, form-nudge}
-use Rattle.plane_theorems.proofs.Delaunay.Points.Hull.{least_in_hull}
-use Rattle.plane_theorems.proofs.Delaunay.Points.Nudges.{nudge, Closed, InOpen, closed_of_inside}
+use Rattle.plane.specs.{Fraction, InHull, InsideCircle, IsConstrainedDelaunay, IsNotNegative}
+use Rattle.plane.specs.{IsTiling, IsVertex, OnCircle, Point, TilesHull, Triangulation, TurnsLeft}
+use Rattle.plane.specs.{vertex, whole}
+use Rattle.plane.proofs.{index_not_negative, mul-nonneg_ℤ, mul-nonpos_of_nonneg_nonpos_ℤ}
+use Rattle.plane.proofs.{pos-ne-zero_ℤ, three_weights, weak, zero_of_mul-zero_ℤ}
+use Rattle.plane_theorems.specs.{Delaunay.Cells.ListsCircle, Delaunay.Laws.CellIsHull, InCell}
+use Rattle.plane_theorems.proofs.Delaunay.Circles.Cells.{face_is_empty, has_way, HasWay, lift-moved}
+use Rattle.plane_theorems.proofs.Delaunay.Circles.Cells.{on_agrees, triple_in_hull}
+use Rattle.plane_theorems.proofs.Delaunay.Circles.EmptyCircles.{circle_lift, no_face, spot}
+use Rattle.plane_theorems.proofs.Delaunay.Circles.EmptyCircles.{straight_line}
 use Rattle.plane_theorems.proofs.Delaunay.Circles.Lift.{lift, lift-first, lift-second, lift-third}
 use Rattle.plane_theorems.proofs.Delaunay.Circles.Lift.{on_is_lift}
+use Rattle.plane_theorems.proofs.Delaunay.Points.Bracket.{above_if_left, bracket}
+use Rattle.plane_theorems.proofs.Delaunay.Points.Hull.{AreSomewhere, bracket_form, form-nudge}
+use Rattle.plane_theorems.proofs.Delaunay.Points.Hull.{IsForm, least_in_hull, part_in_hull}
+use Rattle.plane_theorems.proofs.Delaunay.Points.Hull.{sum_form, triangle_in_hull}
+use Rattle.plane_theorems.proofs.Delaunay.Points.Nudges.{Closed, closed_of_inside, InOpen, nudge}
 use Rattle.plane_theorems.proofs.Delaunay.Tilings.Faces.{middle, middle-inside}
 use Rattle.plane_theorems.proofs.Delaunay.Tilings.Ground.{triangle_of_closed}
-use Rattle.plane_theorems.proofs.Delaunay.Circles.EmptyCircles.{spot, no_face, straight_line}
-use Rattle.plane_theorems.proofs.Delaunay.Circles.EmptyCircles.{circle_lift}
-use Rattle.plane_theorems.proofs.Delaunay.Circles.Cells.{lift-moved, on_agrees, face_is_empty}
-use Rattle.plane_theorems.proofs.Delaunay.Circles.Cells.{triple_in_hull, HasWay, has_way}
-use Rattle.plane.specs.Fraction.{Point, Fraction, whole, IsNotNegative, InHull}
-use Rattle.plane.specs.Side.{TurnsLeft}
-use Rattle.plane.specs.Circle.{InsideCircle, OnCircle}
-use Rattle.plane.specs.Tiling.{Triangulation, IsVertex, vertex, TilesHull, IsTiling}
-use Rattle.plane.specs.Delaunay.{IsConstrainedDelaunay}
-use Rattle.plane_theorems.specs.Delaunay.Cells.{InCell, ListsCircle}
-use Rattle.plane_theorems.specs.Delaunay.Laws.{CellIsHull}
 
 -- how far the plane of the lifted a b c is above that of the lifted d e f at a point, times a
 -- positive number

@@ -7,34 +7,25 @@ use mathlib.Core.Logic.{◌⊎◌, inl, inr}
 use Rattle.std.specs.Prelude.{◌↔◌, ℤ, pos, ◌<ℤ◌, ◌≤ℤ◌, ◌*ℤ◌, ◌+ℤ◌}
 use Rattle.std.proofs.lemmas.Int.{ints}
 use Rattle.std.proofs.lemmas.List.{get_or-map}
-use Rattle.plane.proofs.Means.{three_weights}
-use Rattle.plane.proofs.Solver.{◌⊕◌, ◌⊗◌, ring_over}
-use Rattle.plane.proofs.Steps.{weak}
-use Rattle.plane.proofs.IntegerOrder.{mul-pos_ℤ, pos_of_mul-pos_ℤ, zero_of_mul-zero_ℤ}
-use Rattle.plane.proofs.IntegerOrder.{pos-ne-zero_ℤ, zero-mul_ℤ}
-use Rattle.plane_theorems.proofs.Delaunay.Points.Bracket.{fraction, bracket, bracketᵖ}
-use Rattle.plane_theorems.proofs.Delaunay.Points.Bracket.{above_if_left}
-use Rattle.plane_theorems.proofs.Delaunay.Points.Hull.{triangle_in_hull}
-use Rattle.plane_theorems.proofs.Delaunay.Points.Nudges.{size, nudge, nudge-above, nudge-on}
-use Rattle.plane_theorems.proofs.Delaunay.Points.Nudges.{nudge-least}
-use Rattle.plane_theorems.proofs.Delaunay.Points.Nudges.{Closed, InOpen, closed_of_inside}
-use Rattle.plane_theorems.proofs.Delaunay.Circles.Lift.{lift, liftᵖ, inside_is_lift, on_is_lift}
-use Rattle.plane_theorems.proofs.Delaunay.Tilings.Faces.{Germ, germ, germ-closed, middle}
-use Rattle.plane_theorems.proofs.Delaunay.Tilings.Faces.{middle-inside, both_inside}
-use Rattle.plane_theorems.proofs.Delaunay.Tilings.Ground.{tiling, closed_of, triangle_of_closed}
-use Rattle.plane_theorems.proofs.Delaunay.Tilings.Ground.{triangle_of_inside, in_map, origin}
-use Rattle.plane_theorems.proofs.Delaunay.Circles.EmptyCircles.{spot, straight_line, circle_lift}
+use Rattle.plane.specs.{Fraction, InCorners, InHull, InsideCircle, IsConstrainedDelaunay, IsFace}
+use Rattle.plane.specs.{IsNotNegative, IsSeen, IsTiling, IsVertex, Joins, OnCircle, Point}
+use Rattle.plane.specs.{TilesHull, Triangulation, TurnsLeft, vertex, whole}
+use Rattle.plane.proofs.{◌⊕◌, ◌⊗◌, bracketᵖ, incircleᵖ as liftᵖ, mul-pos_ℤ, pos-ne-zero_ℤ}
+use Rattle.plane.proofs.{pos_of_mul-pos_ℤ, ring_over, three_weights, weak, zero-mul_ℤ}
+use Rattle.plane.proofs.{zero_of_mul-zero_ℤ}
+use Rattle.plane_theorems.specs.{Delaunay.Cells.AreOnCircle, InCell}
+use Rattle.plane_theorems.proofs.Delaunay.Circles.EmptyCircles.{circle_lift, face_open}
 use Rattle.plane_theorems.proofs.Delaunay.Circles.EmptyCircles.{IsOpenTriple, OneCircle}
-use Rattle.plane_theorems.proofs.Delaunay.Circles.EmptyCircles.{overlapping}
-use Rattle.plane_theorems.proofs.Delaunay.Circles.EmptyCircles.{face_open}
-use Rattle.plane.specs.Fraction.{Point, Fraction, whole, IsNotNegative, InHull}
-use Rattle.plane.specs.Side.{TurnsLeft}
-use Rattle.plane.specs.Circle.{InsideCircle, OnCircle}
-use Rattle.plane.specs.Pairs.{Joins}
-use Rattle.plane.specs.Tiling.{Triangulation, IsVertex, vertex, IsFace, InCorners}
-use Rattle.plane.specs.Tiling.{TilesHull, IsTiling}
-use Rattle.plane.specs.Delaunay.{IsSeen, IsConstrainedDelaunay}
-use Rattle.plane_theorems.specs.Delaunay.Cells.{AreOnCircle, InCell}
+use Rattle.plane_theorems.proofs.Delaunay.Circles.EmptyCircles.{overlapping, spot, straight_line}
+use Rattle.plane_theorems.proofs.Delaunay.Circles.Lift.{inside_is_lift, lift, on_is_lift}
+use Rattle.plane_theorems.proofs.Delaunay.Points.Bracket.{above_if_left, bracket, fraction}
+use Rattle.plane_theorems.proofs.Delaunay.Points.Hull.{triangle_in_hull}
+use Rattle.plane_theorems.proofs.Delaunay.Points.Nudges.{Closed, closed_of_inside, InOpen, nudge}
+use Rattle.plane_theorems.proofs.Delaunay.Points.Nudges.{nudge-above, nudge-least, nudge-on, size}
+use Rattle.plane_theorems.proofs.Delaunay.Tilings.Faces.{both_inside, Germ, germ, germ-closed}
+use Rattle.plane_theorems.proofs.Delaunay.Tilings.Faces.{middle, middle-inside}
+use Rattle.plane_theorems.proofs.Delaunay.Tilings.Ground.{closed_of, in_map, origin, tiling}
+use Rattle.plane_theorems.proofs.Delaunay.Tilings.Ground.{triangle_of_closed, triangle_of_inside}
 
 -- ---- three points on a circle have that circle
 -- the circles of two triples

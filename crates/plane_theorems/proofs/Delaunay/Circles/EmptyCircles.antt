@@ -10,41 +10,30 @@ use native.Mathlib.Decide.{ℕ_discrete}
 use lib.IntN.{neg_ℤ}
 use Rattle.std.specs.Prelude.{◌≢◌, ℤ, pos, ◌<ℤ◌, ◌≤ℤ◌, ◌+ℤ◌, ◌*ℤ◌, Contains, slice_index_or}
 use Rattle.std.proofs.lemmas.Int.{ints}
-use Rattle.plane.proofs.Bracket.{vec}
-use Rattle.plane_theorems.proofs.Delaunay.Points.Numbers.{sum_above, sum_least, sum_none}
-use Rattle.plane.proofs.Steps.{weak, zero_weak_left, left_not_zero, right_not_above, left_not_below}
-use Rattle.plane.proofs.Steps.{zero_weak}
-use Rattle.plane.proofs.Solver.{num, ◌⊕◌, ◌⊖◌, ◌⊗◌, ⊝, ring_over, ring_in_from}
-use Rattle.plane.proofs.IntegerOrder.{zero_of_mul-zero_ℤ, mul_cancel_ℤ, pos-ne-zero_ℤ, Sign, sign}
-use Rattle.plane.proofs.IntegerOrder.{below, none, above}
-use Rattle.plane_theorems.proofs.Delaunay.Points.Bracket.{fraction, bracket, bracketᵖ}
-use Rattle.plane_theorems.proofs.Delaunay.Points.Bracket.{bracket-turned}
-use Rattle.plane_theorems.proofs.Delaunay.Points.Bracket.{bracket-swapped, bracket-first}
-use Rattle.plane_theorems.proofs.Delaunay.Points.Bracket.{bracket-second}
-use Rattle.plane_theorems.proofs.Delaunay.Points.Bracket.{above_if_left, left_if_above}
-use Rattle.plane_theorems.proofs.Delaunay.Circles.Lift.{lift, liftᵖ, lift-turned, lift-first}
-use Rattle.plane_theorems.proofs.Delaunay.Circles.Lift.{lift-second}
-use Rattle.plane_theorems.proofs.Delaunay.Circles.Lift.{lift-third, inside_is_lift, on_is_lift}
-use Rattle.plane.proofs.Means.{TwoWeights, mean_of_two, two_weights, bracket_of_two}
-use Rattle.plane_theorems.proofs.Delaunay.Points.Members.{Member, member, contained}
+use Rattle.plane.specs.{Face, Fraction, HasFace, InsideCircle, IsConstrainedDelaunay, IsEdge}
+use Rattle.plane.specs.{IsFace, IsLocallyDelaunay, IsNotNegative, IsSame, IsSeen, IsStrictlyEmpty}
+use Rattle.plane.specs.{IsTiling, IsVertex, Joins, JoinsLine, left, on, OnSegment, Point, TilesHull}
+use Rattle.plane.specs.{Triangulation, TurnsLeft, vertex}
+use Rattle.plane.proofs.{◌⊕◌, ◌⊖◌, ◌⊗◌, above, below, bracket_of_two, bracketᵖ, incircleᵖ as liftᵖ}
+use Rattle.plane.proofs.{IsTurned, left_not_below, left_not_zero, mean_of_two, mul_cancel_ℤ, none}
+use Rattle.plane.proofs.{num, pos-ne-zero_ℤ, right_not_above, ring_in_from, ring_over, Sign, sign}
+use Rattle.plane.proofs.{turned_face, two_weights, TwoWeights, vec, weak, zero_of_mul-zero_ℤ}
+use Rattle.plane.proofs.{Signs.positive_times_not_positive, zero_weak, zero_weak_left, ⊝}
+use Rattle.plane_theorems.specs.{IsVisiblyEmpty}
+use Rattle.plane_theorems.proofs.Delaunay.Circles.Global.{not_above_face, PassesLocally}
+use Rattle.plane_theorems.proofs.Delaunay.Circles.Lift.{inside_is_lift, lift, lift-first}
+use Rattle.plane_theorems.proofs.Delaunay.Circles.Lift.{lift-second, lift-third, lift-turned}
+use Rattle.plane_theorems.proofs.Delaunay.Circles.Lift.{on_is_lift}
+use Rattle.plane_theorems.proofs.Delaunay.Points.Bracket.{above_if_left, bracket, bracket-first}
+use Rattle.plane_theorems.proofs.Delaunay.Points.Bracket.{bracket-second, bracket-swapped}
+use Rattle.plane_theorems.proofs.Delaunay.Points.Bracket.{bracket-turned, fraction, left_if_above}
+use Rattle.plane_theorems.proofs.Delaunay.Points.Members.{contained, Member, member}
 use Rattle.plane_theorems.proofs.Delaunay.Points.Nudges.{Closed, InOpen, inside-turned, nudge}
-use Rattle.plane_theorems.proofs.Delaunay.Tilings.Faces.{turned-above, both_inside, side_not_inside}
-use Rattle.plane_theorems.proofs.Delaunay.Tilings.Faces.{middle}
-use Rattle.plane_theorems.proofs.Delaunay.Tilings.Faces.{middle-inside}
+use Rattle.plane_theorems.proofs.Delaunay.Points.Numbers.{sum_above, sum_least, sum_none}
+use Rattle.plane_theorems.proofs.Delaunay.Tilings.Faces.{both_inside, middle, middle-inside}
+use Rattle.plane_theorems.proofs.Delaunay.Tilings.Faces.{side_not_inside, turned-above}
 use Rattle.plane_theorems.proofs.Delaunay.Tilings.Generic.{AllOpen, open_if_free, swapped_weights}
-use Rattle.plane_theorems.proofs.Delaunay.Circles.Global.{PassesLocally, not_above_face}
-use Rattle.plane_theorems.proofs.Delaunay.Tilings.Ground.{tiling, inside_of, triangle_of_inside}
-use Rattle.plane.proofs.Triangles.{turned_face}
-use Rattle.plane.proofs.Indexes.{IsTurned}
-use Rattle.plane.specs.Fraction.{Point, Fraction, IsNotNegative, IsSame, OnSegment}
-use Rattle.plane.specs.Side.{left, on, TurnsLeft}
-use Rattle.plane.specs.Circle.{InsideCircle}
-use Rattle.plane.specs.Pairs.{Joins}
-use Rattle.plane.specs.Tiling.{Triangulation, Face, IsVertex, vertex, IsEdge, IsFace, HasFace}
-use Rattle.plane.specs.Tiling.{TilesHull, JoinsLine, IsTiling}
-use Rattle.plane.specs.Delaunay.{IsSeen, IsConstrainedDelaunay, IsLocallyDelaunay, IsStrictlyEmpty}
-use Rattle.plane_theorems.specs.Delaunay.History.{IsVisiblyEmpty}
-use Rattle.plane.proofs.Signs.{positive_times_not_positive}
+use Rattle.plane_theorems.proofs.Delaunay.Tilings.Ground.{inside_of, tiling, triangle_of_inside}
 
 -- the point of vertex i; (0, 0) past the end of the list
 abbrev pub spot : Triangulation → ℕ → Point

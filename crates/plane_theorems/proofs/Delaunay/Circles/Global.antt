@@ -9,31 +9,24 @@ use mathlib.Core.Logic.{◌⊎◌, inl, inr}
 use mathlib.Core.List.{List, [], ◌∷◌}
 use native.Mathlib.Omega.{arith}
 use borrow.Author.Differences.{ints}
-use Rattle.plane_theorems.proofs.Delaunay.Points.Numbers.{less_again, stays_above, stays_below}
-use Rattle.plane_theorems.proofs.Delaunay.Points.Numbers.{none_before}
-use Rattle.plane.proofs.Steps.{weak, weak_right, zero_weak, both_signs, negated_left}
-use Rattle.plane.proofs.Steps.{right_not_zero}
-use Rattle.plane.proofs.IntegerOrder.{mul-pos_ℤ, mul-nonpos_of_nonneg_nonpos_ℤ, lt_or_ge_ℤ}
-use Rattle.plane_theorems.proofs.Delaunay.Points.Bracket.{bracket, bracket-swapped, bracket-turned}
-use Rattle.plane_theorems.proofs.Delaunay.Points.Bracket.{bracket-first}
-use Rattle.plane_theorems.proofs.Delaunay.Circles.Lift.{lift, lift-turned, lift-first, lift-second}
-use Rattle.plane_theorems.proofs.Delaunay.Circles.Lift.{lift-third, lift-across}
-use Rattle.plane_theorems.proofs.Delaunay.Points.Members.{Member}
-use Rattle.plane_theorems.proofs.Delaunay.Points.Nudges.{InOpen, inside-turned, closed_of_inside}
-use Rattle.plane_theorems.proofs.Delaunay.Tilings.Faces.{Tiling}
-use Rattle.plane_theorems.proofs.Delaunay.Tilings.Beyond.{face_across}
-use Rattle.plane_theorems.proofs.Delaunay.Tilings.Walk.{IsOff, OnWay, Leaves, Step, reached}
-use Rattle.plane_theorems.proofs.Delaunay.Tilings.Walk.{leaves_first}
-use Rattle.plane_theorems.proofs.Delaunay.Tilings.Walk.{leaves_second, leaves_third, step}
-use Rattle.plane_theorems.proofs.Delaunay.Tilings.Walk.{passes_between}
-use Rattle.plane_theorems.proofs.Delaunay.Tilings.Walk.{separation, beyond}
-use Rattle.plane_theorems.proofs.Delaunay.Tilings.Generic.{AllOff, IsOpen, on_line, both_left}
-use Rattle.plane_theorems.proofs.Delaunay.Tilings.Generic.{both_right}
-use Rattle.plane_theorems.proofs.Delaunay.Tilings.Generic.{past_left, past_right, open-swapped}
-use Rattle.plane_theorems.proofs.Delaunay.Tilings.Generic.{AllOpen}
-use Rattle.plane_theorems.proofs.Delaunay.Tilings.Generic.{keeps, generic_point}
-use Rattle.plane.specs.Fraction.{Fraction}
 use Rattle.std.proofs.Math.Nat.{lt-suc_self}
+use Rattle.{plane.specs.Fraction, plane_theorems.proofs.Delaunay.Points.Bracket.bracket-turned}
+use Rattle.plane.proofs.{both_signs, lt_or_ge_ℤ, mul-nonpos_of_nonneg_nonpos_ℤ, mul-pos_ℤ}
+use Rattle.plane.proofs.{negated_left, right_not_zero, weak, weak_right, zero_weak}
+use Rattle.plane_theorems.proofs.Delaunay.Circles.Lift.{lift, lift-across, lift-first, lift-second}
+use Rattle.plane_theorems.proofs.Delaunay.Circles.Lift.{lift-third, lift-turned}
+use Rattle.plane_theorems.proofs.Delaunay.Points.Bracket.{bracket, bracket-first, bracket-swapped}
+use Rattle.plane_theorems.proofs.{Delaunay.Points.Members.Member, Delaunay.Tilings.Faces.Tiling}
+use Rattle.plane_theorems.proofs.Delaunay.Points.Nudges.{closed_of_inside, InOpen, inside-turned}
+use Rattle.plane_theorems.proofs.Delaunay.Points.Numbers.{less_again, none_before, stays_above}
+use Rattle.plane_theorems.proofs.{Delaunay.Points.Numbers.stays_below, Delaunay.Tilings.Walk.step}
+use Rattle.plane_theorems.proofs.Delaunay.Tilings.Beyond.{face_across}
+use Rattle.plane_theorems.proofs.Delaunay.Tilings.Generic.{AllOff, AllOpen, both_left, both_right}
+use Rattle.plane_theorems.proofs.Delaunay.Tilings.Generic.{generic_point, IsOpen, keeps, on_line}
+use Rattle.plane_theorems.proofs.Delaunay.Tilings.Generic.{open-swapped, past_left, past_right}
+use Rattle.plane_theorems.proofs.Delaunay.Tilings.Walk.{beyond, IsOff, Leaves, leaves_first}
+use Rattle.plane_theorems.proofs.Delaunay.Tilings.Walk.{leaves_second, leaves_third, OnWay}
+use Rattle.plane_theorems.proofs.Delaunay.Tilings.Walk.{passes_between, reached, separation, Step}
 
 -- ---- numbers
 turned_sum : (k l x p r x' p' r' : ℤ) → r ≡ k *ℤ x +ℤ l *ℤ p → x' ≡ x → r' ≡ r → p ≡ pos 0

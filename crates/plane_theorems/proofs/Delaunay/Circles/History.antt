@@ -5,26 +5,20 @@ use Rattle.std.proofs.Common.{◌≡◌, ℕ, List, sym, ◌∙◌, ap, subst}
 use mathlib.Core.Path.{subst₂, subst₃}
 use mathlib.Core.Logic.{inl, inr}
 use Rattle.std.specs.Prelude.{◌≢◌, pos, ◌≤ℤ◌}
-use Rattle.plane.proofs.Steps.{left_not_below}
-use Rattle.plane.proofs.Centre.{centre, centre_is_centre}
-use Rattle.plane_theorems.proofs.Delaunay.Points.Bracket.{bracket}
-use Rattle.plane_theorems.proofs.Delaunay.Circles.Lift.{lift, inside_is_lift, far_if_none}
-use Rattle.plane_theorems.proofs.Delaunay.Points.Nudges.{InOpen}
-use Rattle.plane_theorems.proofs.Delaunay.Tilings.Ground.{tiling, inside_of}
+use Rattle.plane.specs.{AreEquallyFar, Fraction, InsideCorners, IsConstrainedDelaunay, IsFace}
+use Rattle.plane.specs.{IsSeen, IsTiling, IsVertex, Joins, OnCircle, OnSegment, TilesHull}
+use Rattle.plane.specs.{Triangulation, TurnsLeft, vertex}
+use Rattle.plane.proofs.{centre, Centre.centre_is_centre, left_not_below}
+use Rattle.plane_theorems.specs.{HaveOneCircle, IsHistoryFree, IsVisiblyEmpty}
+use Rattle.plane_theorems.specs.Delaunay.History.{AreOneState, HasFacesOf, IsPartOf, NoFourOnCircle}
+use Rattle.plane_theorems.proofs.Delaunay.Circles.EmptyCircles.{face_open, IsOpenTriple, no_face}
+use Rattle.plane_theorems.proofs.Delaunay.Circles.EmptyCircles.{OneCircle, overlapping, spot}
+use Rattle.plane_theorems.proofs.Delaunay.Circles.EmptyCircles.{straight_line}
+use Rattle.plane_theorems.proofs.Delaunay.Circles.EmptyCircles.{visibly_empty_is_face}
+use Rattle.plane_theorems.proofs.Delaunay.Circles.Lift.{far_if_none, inside_is_lift, lift}
+use Rattle.plane_theorems.proofs.{Delaunay.Points.Bracket.bracket, Delaunay.Points.Nudges.InOpen}
+use Rattle.plane_theorems.proofs.Delaunay.Tilings.Ground.{inside_of, tiling}
 use Rattle.plane_theorems.proofs.Delaunay.Tilings.Where.{vertices_apart}
-use Rattle.plane_theorems.proofs.Delaunay.Circles.EmptyCircles.{visibly_empty_is_face, IsOpenTriple}
-use Rattle.plane_theorems.proofs.Delaunay.Circles.EmptyCircles.{OneCircle, face_open, overlapping}
-use Rattle.plane_theorems.proofs.Delaunay.Circles.EmptyCircles.{no_face}
-use Rattle.plane_theorems.proofs.Delaunay.Circles.EmptyCircles.{spot, straight_line}
-use Rattle.plane.specs.Fraction.{Fraction, OnSegment}
-use Rattle.plane.specs.Side.{TurnsLeft}
-use Rattle.plane.specs.Circle.{AreEquallyFar, OnCircle}
-use Rattle.plane.specs.Pairs.{Joins}
-use Rattle.plane.specs.Tiling.{Triangulation, IsVertex, vertex, IsFace, InsideCorners, TilesHull}
-use Rattle.plane.specs.Tiling.{IsTiling}
-use Rattle.plane.specs.Delaunay.{IsSeen, IsConstrainedDelaunay}
-use Rattle.plane_theorems.specs.Delaunay.History.{IsVisiblyEmpty, IsPartOf, AreOneState, HasFacesOf}
-use Rattle.plane_theorems.specs.Delaunay.History.{NoFourOnCircle, HaveOneCircle, IsHistoryFree}
 
 -- no constraint enters the triple u v w of points, and no vertex that is seen from inside it is
 -- inside its circle

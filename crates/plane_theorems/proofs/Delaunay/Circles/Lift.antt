@@ -8,15 +8,12 @@ use lib.Signed.{◌<ℤ◌}
 use mathlib.Core.Path.{◌≡◌}
 use mathlib.Core.Logic.{◌↔◌}
 use mathlib.Core.List.{[], ◌∷◌}
-use Rattle.plane.specs.Fraction.{Point, Fraction, whole}
-use Rattle.plane.specs.Side.{TurnsLeft}
-use Rattle.plane.specs.Circle.{AreEquallyFar, InsideCircle, OnCircle}
-use Rattle.plane.proofs.Solver.{var, num, Shape}
-use Rattle.plane.proofs.Bracket.{vec}
-use Rattle.plane.proofs.Centre.{centre}
+use Rattle.plane.specs.{AreEquallyFar, Fraction, InsideCircle, OnCircle, Point, TurnsLeft, whole}
+use Rattle.plane.proofs.{centre, num, vec, Vec3ᵖ as Syntax}
+use Rattle.plane.proofs.Solver.{Shape, var}
+use Rattle.plane_theorems.proofs.Delaunay.Points.Bracket.{bracket}
 use Rattle.plane.proofs.Circles as C
-pub use Rattle.plane.proofs.Circles.{heightᵖ, incircleᵖ as liftᵖ}
-use Rattle.plane_theorems.proofs.Delaunay.Points.Bracket.{Syntax, bracket}
+pub use Rattle.plane.proofs.{heightᵖ, incircleᵖ as liftᵖ}
 
 -- how far the plane through the lifted corners a b c is above the lifted point d, times the bracket
 unfoldable pub lift : Fraction → Fraction → Fraction → Fraction → ℤ

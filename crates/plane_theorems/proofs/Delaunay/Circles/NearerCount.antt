@@ -6,13 +6,10 @@ use Rattle.std.specs.Prelude.{ℤ, pos, ◌<ℤ◌, ◌*ℤ◌, sum_by, ◌≤�
 use Rattle.std.proofs.lemmas.Int.{ints}
 use Rattle.std.proofs.lemmas.List.Sums.{sum_by-cons}
 use Rattle.std.proofs.lemmas.List.{get_or_default}
+use Rattle.plane.specs.{Fraction, gap, IsNearer, IsVertex, Point, Triangulation, vertex, whole}
+use Rattle.plane.proofs.{lt_or_ge_ℤ, test_false, test_true}
+use Rattle.plane_theorems.specs.{nearer_count}
 use Rattle.plane_theorems.proofs.Delaunay.Points.Members.{Member, member, sum_by-lt}
-use Rattle.plane.proofs.Sides.{test_true, test_false}
-use Rattle.plane.proofs.IntegerOrder.{lt_or_ge_ℤ}
-use Rattle.plane.specs.Fraction.{Point, Fraction, whole}
-use Rattle.plane.specs.Circle.{gap, IsNearer}
-use Rattle.plane.specs.Tiling.{Triangulation, IsVertex, vertex}
-use Rattle.plane_theorems.specs.Delaunay.Nearer.{nearer_count}
 
 -- a sum of ones is the number of entries
 ones : {X : Type 0} (xs : List X) → sum_by (λ _. 1) xs ≡ length xs

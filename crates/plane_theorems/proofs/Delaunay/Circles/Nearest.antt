@@ -4,25 +4,20 @@ use Rattle.std.proofs.Common.{◌≡◌, ℕ, [], ◌∷◌, arith}
 use mathlib.Core.Logic.{◌⊎◌, inl, inr}
 use Rattle.std.specs.Prelude.{ℤ, pos, ◌<ℤ◌, ◌≤ℤ◌, ◌+ℤ◌, ◌-ℤ◌, ◌*ℤ◌}
 use Rattle.std.proofs.lemmas.Int.{ints}
-use Rattle.plane_theorems.proofs.Delaunay.Tilings.Faces.{middle, middle-inside}
-use Rattle.plane.proofs.Steps.{weak}
-use Rattle.plane.proofs.Solver.{Poly, ◌⊕◌, ◌⊖◌, ◌⊗◌, ring_over}
-use Rattle.plane.proofs.IntegerOrder.{mul-pos_ℤ, mul-nonneg_ℤ, mul-nonpos_of_nonneg_nonpos_ℤ}
-use Rattle.plane.proofs.IntegerOrder.{nonneg_of_mul-nonneg_ℤ, lt_or_ge_ℤ}
-use Rattle.plane_theorems.proofs.Delaunay.Points.Bracket.{Syntax, bracket, bracketᵖ, above_if_left}
-use Rattle.plane_theorems.proofs.Delaunay.Circles.Lift.{lift, liftᵖ, pointᵖ}
-use Rattle.plane_theorems.proofs.Delaunay.Tilings.Cones.{Cone, cone}
-use Rattle.plane_theorems.proofs.Delaunay.Tilings.Ground.{tiling, triangle_of_inside}
-use Rattle.plane.proofs.Triangles.{turned_face}
+use Rattle.plane.specs.{Fraction, gap, InsideCircle, IsConstrainedDelaunay, IsEdge, IsFace}
+use Rattle.plane.specs.{IsNearer, IsNearest, IsTiling, IsVertex, Joins, Point, TilesHull}
+use Rattle.plane.specs.{Triangulation, vertex, whole}
+use Rattle.plane.proofs.{◌⊕◌, ◌⊖◌, ◌⊗◌, bracketᵖ, difference_not_negative_from, incircleᵖ as liftᵖ}
+use Rattle.plane.proofs.{less_with_ones, lt_or_ge_ℤ, mul-nonneg_ℤ, mul-nonpos_of_nonneg_nonpos_ℤ}
+use Rattle.plane.proofs.{mul-pos_ℤ, nonneg_of_mul-nonneg_ℤ, Poly, ring_over, turned_face}
+use Rattle.plane.proofs.{Vec3ᵖ as Syntax, weak}
+use Rattle.plane_theorems.proofs.Delaunay.Circles.EmptyCircles.{circle_lift, no_face, spot}
+use Rattle.plane_theorems.proofs.Delaunay.Circles.Lift.{lift, pointᵖ}
 use Rattle.plane_theorems.proofs.Delaunay.Circles.NearestOnLine.{nearest_on_line}
-use Rattle.plane_theorems.proofs.Delaunay.Circles.EmptyCircles.{spot, circle_lift, no_face}
-use Rattle.plane.specs.Fraction.{Point, Fraction, whole}
-use Rattle.plane.specs.Circle.{gap, IsNearer, InsideCircle}
-use Rattle.plane.specs.Pairs.{Joins}
-use Rattle.plane.specs.Tiling.{Triangulation, IsVertex, vertex, IsEdge, IsFace, TilesHull, IsTiling}
-use Rattle.plane.specs.Delaunay.{IsConstrainedDelaunay}
-use Rattle.plane.specs.Shape.{IsNearest}
-use Rattle.plane.proofs.Signs.{difference_not_negative_from, less_with_ones}
+use Rattle.plane_theorems.proofs.Delaunay.Points.Bracket.{above_if_left, bracket}
+use Rattle.plane_theorems.proofs.Delaunay.Tilings.Cones.{Cone, cone}
+use Rattle.plane_theorems.proofs.Delaunay.Tilings.Faces.{middle, middle-inside}
+use Rattle.plane_theorems.proofs.Delaunay.Tilings.Ground.{tiling, triangle_of_inside}
 
 -- ---- squared distances from p
 abbrev gapᵖ : Syntax → Syntax → Poly

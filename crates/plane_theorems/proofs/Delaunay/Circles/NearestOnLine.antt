@@ -6,23 +6,15 @@ use lib.IntN.{nat_abs}
 use mathlib.Core.Logic.{◌⊎◌, inl, inr}
 use Rattle.std.specs.Prelude.{ℤ, pos, ◌<ℤ◌, ◌≤ℤ◌, ◌+ℤ◌, ◌-ℤ◌, ◌*ℤ◌}
 use Rattle.std.proofs.lemmas.Int.{ints}
-use Rattle.plane.proofs.Segments.{same_is_no_way, same-sym}
-use Rattle.plane.proofs.Steps.{weak}
-use Rattle.plane.proofs.Solver.{num, ◌⊕◌, ◌⊖◌, ◌⊗◌, ⊝, ring_in_from}
-use Rattle.plane.proofs.IntegerOrder.{Sign, sign, below, none, above}
-use Rattle.plane.proofs.IntegerOrder.{mul-pos_ℤ, mul-nonneg_ℤ, pos_of_mul-pos_ℤ, square-nonneg_ℤ}
-use Rattle.plane.proofs.IntegerOrder.{square-pos_ℤ}
-use Rattle.plane.proofs.Means.{TwoWeights, two_weights}
-use Rattle.plane.proofs.Nearer.{gap_not_negative, same_not_nearer}
-use Rattle.plane.specs.Fraction.{Point, Fraction, whole, IsSame, IsPositive}
-use Rattle.plane.specs.Side.{run, rise}
-use Rattle.plane.specs.Circle.{gap, IsNearer}
-use Rattle.plane.specs.Tiling.{Triangulation, IsVertex, vertex, IsEdge, JoinsLine}
-use Rattle.plane.specs.Shape.{IsNearest}
-use Rattle.plane.proofs.Signs.{not_negative_plus_positive, positive_plus_not_negative}
-use Rattle.plane.proofs.Signs.{less_without_ones, magnitude_below, less_with_ones}
-use Rattle.plane.proofs.Signs.{sum_not_negative_of}
 use Rattle.std.proofs.Math.Nat.{lt-suc_self}
+use Rattle.plane.specs.{Fraction, gap, IsEdge, IsNearer, IsNearest, IsPositive, IsSame, IsVertex}
+use Rattle.plane.specs.{JoinsLine, Point, rise, run, Triangulation, vertex, whole}
+use Rattle.plane.proofs.{◌⊕◌, ◌⊖◌, ◌⊗◌, above, below, gap_not_negative, less_with_ones}
+use Rattle.plane.proofs.{less_without_ones, magnitude_below, mul-nonneg_ℤ, mul-pos_ℤ, none, num}
+use Rattle.plane.proofs.{pos_of_mul-pos_ℤ, positive_plus_not_negative, ring_in_from, same-sym}
+use Rattle.plane.proofs.{same_not_nearer, Sign, sign, square-nonneg_ℤ, square-pos_ℤ}
+use Rattle.plane.proofs.{sum_not_negative_of, two_weights, TwoWeights, weak, ⊝}
+use Rattle.plane.proofs.{Segments.same_is_no_vector, Signs.not_negative_plus_positive}
 
 -- ---- one coordinate
 -- where k is the mean of v and w under the weights a and b, of the sum n
@@ -178,7 +170,7 @@ apart p v w near = go (sign (run (whole v) (whole w))) (sign (rise (whole v) (wh
     go (none h) (below k) = high (not_zero (inl k))
     go (none h) (above k) = high (not_zero (inr k))
     go (none h) (none k) = absurd (same_not_nearer p (whole w) (whole v)
-        (same-sym (whole v) (whole w) ((same_is_no_way (whole v) (whole w)).1 (h, k))) near)
+        (same-sym (whole v) (whole w) ((same_is_no_vector (whole v) (whole w)).1 (h, k))) near)
 
 -- ---- along the line
 

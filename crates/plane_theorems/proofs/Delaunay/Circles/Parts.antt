@@ -6,40 +6,32 @@ use mathlib.Core.Path.{subst₃}
 use mathlib.Core.Logic.{◌⊎◌, inl, inr}
 use Rattle.std.specs.Prelude.{◌≢◌, pos}
 use Rattle.std.proofs.lemmas.List.{get_or-map, length-map}
-use Rattle.plane.proofs.Steps.{negated_left, weak, zero_weak_left, left_not_zero}
-use Rattle.plane.proofs.IntegerOrder.{Sign, sign, below, none, above}
-use Rattle.plane_theorems.proofs.Delaunay.Points.Bracket.{bracket, bracket-turned, bracket-swapped}
-use Rattle.plane_theorems.proofs.Delaunay.Points.Bracket.{bracket-first, bracket-second}
-use Rattle.plane_theorems.proofs.Delaunay.Points.Bracket.{left_if_above}
-use Rattle.plane_theorems.proofs.Delaunay.Points.Bracket.{above_if_left}
-use Rattle.plane_theorems.proofs.Delaunay.Points.Hull.{corner_in_hull, bracket_form, none_in_hull}
-use Rattle.plane_theorems.proofs.Delaunay.Points.Nudges.{nudge, nudge-least, InOpen}
-use Rattle.plane_theorems.proofs.Delaunay.Points.Nudges.{closed_of_inside}
-use Rattle.plane_theorems.proofs.Delaunay.Circles.Lift.{lift, on_is_lift}
-use Rattle.plane_theorems.proofs.Delaunay.Tilings.Faces.{Tiling, Germ, germ, germ-closed}
-use Rattle.plane_theorems.proofs.Delaunay.Tilings.Faces.{germ-turned}
-use Rattle.plane_theorems.proofs.Delaunay.Tilings.Faces.{middle, middle-inside, both_inside}
-use Rattle.plane_theorems.proofs.Delaunay.Tilings.Faces.{turned-above}
-use Rattle.plane_theorems.proofs.Delaunay.Tilings.Ground.{tiling}
-use Rattle.plane_theorems.proofs.Delaunay.Circles.EmptyCircles.{spot, no_face, straight_line}
+use Rattle.plane.specs.{Fraction, InHull, InsideCircle, InTriangle, IsConstrainedDelaunay, IsFace}
+use Rattle.plane.specs.{IsStrictlyEmpty, IsTiling, IsVertex, JoinsLine, OnCircle, Point, TilesHull}
+use Rattle.plane.specs.{Triangulation, TurnsLeft, vertex, whole}
+use Rattle.plane.proofs.{above, below, left_not_zero, negated_left, none, Sign, sign, weak}
+use Rattle.{plane.proofs.zero_weak_left, plane_theorems.proofs.Delaunay.Circles.CellHull.zero_point}
+use Rattle.plane_theorems.specs.{Delaunay.Laws.PartKnowsCells, InCell}
+use Rattle.plane_theorems.specs.Delaunay.Cells.{HasDiskOf, HasFaceAt, HasVertexAt, HasVerticesOf}
+use Rattle.plane_theorems.specs.Delaunay.Laws.{PartFaceStays, PartHasCells, PartHasFace}
+use Rattle.plane_theorems.proofs.Delaunay.Circles.Cells.{empty_open, face_is_empty, germ_goes_on}
+use Rattle.plane_theorems.proofs.Delaunay.Circles.Cells.{inside_agrees, on_agrees, triple_in_cell}
+use Rattle.plane_theorems.proofs.Delaunay.Circles.Cells.{triple_in_hull}
+use Rattle.plane_theorems.proofs.Delaunay.Circles.EmptyCircles.{face_open, IsOpenTriple, no_face}
+use Rattle.plane_theorems.proofs.Delaunay.Circles.EmptyCircles.{OneCircle, overlapping, spot}
+use Rattle.plane_theorems.proofs.Delaunay.Circles.EmptyCircles.{straight_line}
 use Rattle.plane_theorems.proofs.Delaunay.Circles.EmptyCircles.{strictly_empty_is_face}
-use Rattle.plane_theorems.proofs.Delaunay.Circles.EmptyCircles.{IsOpenTriple}
-use Rattle.plane_theorems.proofs.Delaunay.Circles.EmptyCircles.{OneCircle, overlapping, face_open}
-use Rattle.plane_theorems.proofs.Delaunay.Circles.History.{distinct}
-use Rattle.plane_theorems.proofs.Delaunay.Circles.Cells.{inside_agrees, on_agrees, face_is_empty}
-use Rattle.plane_theorems.proofs.Delaunay.Circles.Cells.{empty_open, triple_in_hull, germ_goes_on}
-use Rattle.plane_theorems.proofs.Delaunay.Circles.CellHull.{zero_point}
-use Rattle.plane_theorems.proofs.Delaunay.Circles.Cells.{triple_in_cell}
-use Rattle.plane.specs.Fraction.{Point, Fraction, whole, InTriangle, InHull}
-use Rattle.plane.specs.Side.{TurnsLeft}
-use Rattle.plane.specs.Circle.{InsideCircle, OnCircle}
-use Rattle.plane.specs.Tiling.{Triangulation, IsVertex, vertex, IsFace, TilesHull, JoinsLine}
-use Rattle.plane.specs.Tiling.{IsTiling}
-use Rattle.plane.specs.Delaunay.{IsConstrainedDelaunay, IsStrictlyEmpty}
-use Rattle.plane_theorems.specs.Delaunay.Cells.{InCell, HasVertexAt, HasFaceAt}
-use Rattle.plane_theorems.specs.Delaunay.Cells.{HasVerticesOf, HasDiskOf}
-use Rattle.plane_theorems.specs.Delaunay.Laws.{PartHasCells, PartFaceStays, PartHasFace}
-use Rattle.plane_theorems.specs.Delaunay.Laws.{PartKnowsCells}
+use Rattle.plane_theorems.proofs.{Delaunay.Circles.History.distinct, Delaunay.Tilings.Ground.tiling}
+use Rattle.plane_theorems.proofs.Delaunay.Circles.Lift.{lift, on_is_lift}
+use Rattle.plane_theorems.proofs.Delaunay.Points.Bracket.{above_if_left, bracket, bracket-first}
+use Rattle.plane_theorems.proofs.Delaunay.Points.Bracket.{bracket-second, bracket-swapped}
+use Rattle.plane_theorems.proofs.Delaunay.Points.Bracket.{bracket-turned, left_if_above}
+use Rattle.plane_theorems.proofs.Delaunay.Points.Hull.{bracket_form, corner_in_hull, none_in_hull}
+use Rattle.plane_theorems.proofs.Delaunay.Points.Nudges.{closed_of_inside, InOpen, nudge}
+use Rattle.plane_theorems.proofs.Delaunay.Points.Nudges.{nudge-least}
+use Rattle.plane_theorems.proofs.Delaunay.Tilings.Faces.{both_inside, Germ, germ, germ-closed}
+use Rattle.plane_theorems.proofs.Delaunay.Tilings.Faces.{germ-turned, middle, middle-inside, Tiling}
+use Rattle.plane_theorems.proofs.Delaunay.Tilings.Faces.{turned-above}
 
 -- ---- the cell of a circle
 module _ (s t : Triangulation) (D : IsConstrainedDelaunay s []) (E : IsConstrainedDelaunay t [])

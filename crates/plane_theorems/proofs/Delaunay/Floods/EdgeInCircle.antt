@@ -5,18 +5,13 @@ use Rattle.std.proofs.Common.{◌≡◌, [], ◌∷◌, arith, sym, subst}
 use mathlib.Core.Logic.{◌⊎◌, ◌↔◌, inl, inr}
 use Rattle.std.specs.Prelude.{ℤ, pos, ◌<ℤ◌, ◌≤ℤ◌, ◌+ℤ◌, ◌-ℤ◌, ◌*ℤ◌}
 use Rattle.std.proofs.lemmas.Int.{ints}
-use Rattle.plane.proofs.Segments.{start_on_segment, end_on_segment}
-use Rattle.plane.proofs.Solver.{num, ◌⊕◌, ◌⊖◌, ◌⊗◌, ⊝, ring_in, ring_in_from}
-use Rattle.plane.proofs.Steps.{weak, zero_or_left}
-use Rattle.plane.proofs.IntegerOrder.{mul-pos_ℤ, mul-nonneg_ℤ, nonneg_of_mul-nonneg_ℤ}
-use Rattle.plane.proofs.IntegerOrder.{square-nonneg_ℤ, lt_or_ge_ℤ}
-use Rattle.plane.proofs.Means.{TwoWeights, mean_of_two, two_weights}
-use Rattle.plane.specs.Fraction.{Point, Fraction, whole, IsNotNegative, OnSegment}
-use Rattle.plane.specs.Circle.{gap}
-use Rattle.plane.specs.Shape.{InClosedCircle}
-use Rattle.plane_theorems.specs.Delaunay.EdgeTests.{distance_2, factor, MeetsCircle, HasPointIn}
-use Rattle.plane.proofs.Signs.{one_times_sum, at_most_by_difference, difference_not_negative_from}
-use Rattle.plane.proofs.Signs.{sum_not_negative_of}
+use Rattle.plane.specs.{Fraction, gap, InClosedCircle, IsNotNegative, OnSegment, Point, whole}
+use Rattle.plane.proofs.{◌⊕◌, ◌⊖◌, ◌⊗◌, at_most_by_difference, difference_not_negative_from}
+use Rattle.plane.proofs.{end_on_segment, lt_or_ge_ℤ, mean_of_two, mul-nonneg_ℤ, mul-pos_ℤ}
+use Rattle.plane.proofs.{nonneg_of_mul-nonneg_ℤ, num, one_times_sum, ring_in, ring_in_from}
+use Rattle.plane.proofs.{square-nonneg_ℤ, start_on_segment, sum_not_negative_of, two_weights}
+use Rattle.plane.proofs.{TwoWeights, weak, zero_or_left, ⊝}
+use Rattle.plane_theorems.specs.{Delaunay.EdgeTests.MeetsCircle, distance_2, factor, HasPointIn}
 
 -- ---- from the numbers to a point
 -- an end

@@ -6,27 +6,21 @@ use mathlib.Core.Logic.{◌⊎◌, ◌↔◌, inl, inr}
 use lib.IntN.{neg_ℤ, negsuc}
 use Rattle.std.specs.Prelude.{ℤ, pos, ◌<ℤ◌, ◌≤ℤ◌, ◌+ℤ◌, ◌-ℤ◌, ◌*ℤ◌}
 use Rattle.std.proofs.lemmas.Int.{ints}
-use Rattle.plane.proofs.Segments.{start_on_segment, end_on_segment}
-use Rattle.plane.proofs.Bracket as B
-use Rattle.plane.proofs.Solver.{num, ◌⊕◌, ◌⊖◌, ◌⊗◌, ⊝, ring_in, ring_in_from, ring_over}
-use Rattle.plane.proofs.Steps.{weak, weak_right, right_not_above, left_not_zero, zero_weak_left}
-use Rattle.plane.proofs.IntegerOrder.{mul-pos_ℤ, mul-nonneg_ℤ, neg-pos_ℤ, lt_or_ge_ℤ}
-use Rattle.plane.proofs.Sides.{left_if, right_if, if_left, if_right}
-use Rattle.plane.proofs.Means.{TwoWeights, mean_of_two, two_weights}
-use Rattle.plane_theorems.proofs.Delaunay.Points.Numbers.{mix_positive}
-use Rattle.plane_theorems.proofs.Delaunay.Points.Bracket.{fraction, bracket, bracketᵖ, mixed}
-use Rattle.plane_theorems.proofs.Delaunay.Points.Bracket.{bracket-mixed}
-use Rattle.plane_theorems.proofs.Delaunay.Points.Bracket.{bracket-first, bracket-turned}
-use Rattle.plane_theorems.proofs.Delaunay.Points.Bracket.{bracket-swapped}
-use Rattle.plane_theorems.proofs.Delaunay.Circles.EmptyCircles.{weights_along}
-use Rattle.plane.specs.Fraction.{Point, Fraction, whole, IsNotNegative}
-use Rattle.plane.specs.Side.{side, left, right}
-use Rattle.plane.specs.Shape.{InClosedRectangle}
-use Rattle.plane_theorems.specs.Delaunay.EdgeTests.{AreCornersOn, MeetsRectangle, HasPointIn}
+use Rattle.plane.specs.{Fraction, InClosedRectangle, IsNotNegative, left, Point, right, side, whole}
+use Rattle.plane.proofs.{◌⊕◌, ◌⊖◌, ◌⊗◌, at_most_itself, balanced, bracketᵖ}
+use Rattle.plane.proofs.{difference_not_negative_from, end_on_segment, if_left, if_right, left_if}
+use Rattle.plane.proofs.{left_not_zero, lt_or_ge_ℤ, mean_of_two, mul-nonneg_ℤ, mul-pos_ℤ, neg-mul_ℤ}
+use Rattle.plane.proofs.{neg-pos_ℤ, num, right_if, right_not_above, ring_in, ring_in_from}
+use Rattle.plane.proofs.{ring_over, start_on_segment, sum_not_negative_of, two_weights, TwoWeights}
+use Rattle.plane.proofs.{weak, weak_right, zero_weak_left, ⊝}
 use Rattle.plane.proofs.Signs.{difference_not_positive, negative_of_opposite}
-use Rattle.plane.proofs.Signs.{difference_not_negative_from, sum_not_negative_of, at_most_itself}
-use Rattle.plane.proofs.IntegerLaws.{neg-mul_ℤ}
-use Rattle.plane.proofs.Lines.{balanced}
+use Rattle.plane_theorems.specs.{AreCornersOn, HasPointIn, MeetsRectangle}
+use Rattle.plane_theorems.proofs.Delaunay.Circles.EmptyCircles.{weights_along}
+use Rattle.plane_theorems.proofs.Delaunay.Points.Bracket.{bracket, bracket-first, bracket-mixed}
+use Rattle.plane_theorems.proofs.Delaunay.Points.Bracket.{bracket-swapped, bracket-turned, fraction}
+use Rattle.plane_theorems.proofs.Delaunay.Points.Bracket.{mixed}
+use Rattle.plane_theorems.proofs.Delaunay.Points.Numbers.{mix_positive}
+use Rattle.plane.proofs.Bracket as B
 
 -- ---- how far a point is past a line across, or along
 abbrev past_x : ℤ → ℤ → Fraction → ℤ

@@ -9,34 +9,26 @@ use mathlib.Core.Logic.{◌⊎◌, inl, inr}
 use native.Mathlib.Omega.{arith}
 use borrow.Author.Differences.{ints}
 use Rattle.std.specs.Prelude.{sum_by}
-use Rattle.plane_theorems.proofs.Delaunay.Points.Numbers.{less_again, stays_above, stays_below}
-use Rattle.plane_theorems.proofs.Delaunay.Points.Numbers.{none_before}
-use Rattle.plane.proofs.Steps.{weak, zero_weak_left, left_not_zero, right_not_zero, right_not_above}
-use Rattle.plane.proofs.Steps.{product_zero_left, weak_right}
-use Rattle.plane.proofs.IntegerOrder.{zero_of_mul-zero_ℤ, Sign, sign, below, none, above}
-use Rattle.plane.proofs.IntegerOrder.{zero-mul_ℤ}
+use Rattle.std.proofs.Math.Nat.{lt-suc_self}
+use Rattle.{plane.specs.Fraction, plane_theorems.proofs.Delaunay.Points.Numbers.stays_below}
+use Rattle.plane.proofs.{above, below, index_not_negative, left_not_zero, none, product_zero_left}
+use Rattle.plane.proofs.{right_not_above, right_not_zero, Sign, sign, weak, weak_right, zero-mul_ℤ}
+use Rattle.plane.proofs.{Segments.start_part, zero_of_mul-zero_ℤ, zero_weak_left}
 use Rattle.plane_theorems.proofs.Delaunay.Points.Bracket.{bracket, bracket-first, bracket-second}
 use Rattle.plane_theorems.proofs.Delaunay.Points.Bracket.{bracket-swapped, bracket-turned, pluecker}
 use Rattle.plane_theorems.proofs.Delaunay.Points.Members.{Member, member-le-sum_by}
-use Rattle.plane_theorems.proofs.Delaunay.Points.Nudges.{size, nudge, bracket-nudge, nudge-above}
-use Rattle.plane_theorems.proofs.Delaunay.Points.Nudges.{nudge-on}
-use Rattle.plane_theorems.proofs.Delaunay.Points.Nudges.{Closed, closed-turned}
-use Rattle.plane_theorems.proofs.Delaunay.Tilings.Faces.{Tiling, StartsFrom, Germ, germ}
-use Rattle.plane_theorems.proofs.Delaunay.Tilings.Faces.{germ-closed}
-use Rattle.plane_theorems.proofs.Delaunay.Tilings.Faces.{germ-turned, corner_2}
-use Rattle.plane_theorems.proofs.Delaunay.Tilings.Walk.{OnWay, Step, reached, leaves_first}
-use Rattle.plane_theorems.proofs.Delaunay.Tilings.Walk.{leaves_second}
-use Rattle.plane_theorems.proofs.Delaunay.Tilings.Walk.{leaves_third, step, separation, leave}
-use Rattle.plane_theorems.proofs.Delaunay.Tilings.Meets.{OnSide, IsAt, on_side-swapped}
-use Rattle.plane_theorems.proofs.Delaunay.Tilings.Meets.{on_side_of_closed}
-use Rattle.plane_theorems.proofs.Delaunay.Tilings.Meets.{at_here, IsEdge, edge-swapped, Shared}
-use Rattle.plane_theorems.proofs.Delaunay.Tilings.Meets.{same}
-use Rattle.plane_theorems.proofs.Delaunay.Tilings.Meets.{reversed, at_vertex, edges_meet}
-use Rattle.plane_theorems.proofs.Delaunay.Tilings.Meets.{edge_outside}
-use Rattle.plane.specs.Fraction.{Fraction}
-use Rattle.plane.proofs.Segments.{start_part}
-use Rattle.plane.proofs.Signs.{index_not_negative}
-use Rattle.std.proofs.Math.Nat.{lt-suc_self}
+use Rattle.plane_theorems.proofs.Delaunay.Points.Nudges.{bracket-nudge, Closed, closed-turned}
+use Rattle.plane_theorems.proofs.Delaunay.Points.Nudges.{nudge, nudge-above, nudge-on, size}
+use Rattle.plane_theorems.proofs.Delaunay.Points.Numbers.{less_again, none_before, stays_above}
+use Rattle.plane_theorems.proofs.Delaunay.Tilings.Faces.{corner_2, Germ, germ, germ-closed}
+use Rattle.plane_theorems.proofs.Delaunay.Tilings.Faces.{germ-turned, StartsFrom, Tiling}
+use Rattle.plane_theorems.proofs.Delaunay.Tilings.Meets.{at_here, at_vertex, edge-swapped}
+use Rattle.plane_theorems.proofs.Delaunay.Tilings.Meets.{edge_outside, edges_meet, IsAt, IsEdge}
+use Rattle.plane_theorems.proofs.Delaunay.Tilings.Meets.{on_side-swapped, on_side_of_closed, OnSide}
+use Rattle.plane_theorems.proofs.Delaunay.Tilings.Meets.{reversed, same, Shared}
+use Rattle.plane_theorems.proofs.Delaunay.Tilings.Walk.{leave, leaves_first, leaves_second}
+use Rattle.plane_theorems.proofs.Delaunay.Tilings.Walk.{leaves_third, OnWay, reached, separation}
+use Rattle.plane_theorems.proofs.Delaunay.Tilings.Walk.{Step, step}
 
 -- an end is on the side
 pub on_side-first : (a b : Fraction) → OnSide a b a

@@ -7,36 +7,24 @@ use lib.IntN.{nat_abs, *ℤ_comm}
 use mathlib.Core.Logic.{◌⊎◌, inl, inr}
 use Rattle.std.specs.Prelude.{ℤ, pos, ◌<ℤ◌, ◌≤ℤ◌, ◌-ℤ◌, ◌*ℤ◌, slice_index_or}
 use Rattle.std.proofs.lemmas.Int.{ints}
-use Rattle.plane.proofs.Steps.{weak}
-use Rattle.plane.proofs.IntegerOrder.{lt_or_ge_ℤ, trichotomy_ℤ}
-use Rattle.plane.proofs.Means.{two_weights, bracket_of_two}
-use Rattle.plane.proofs.Bracket.{vec, bracket, lift}
-use Rattle.plane.proofs.Sides.{if_on}
-use Rattle.plane.proofs.Segments.{same-refl, same-sym, within_itself, on_of_within, on_segment-same}
-use Rattle.plane.proofs.Segments.{start_on_segment}
-use Rattle.plane.proofs.Collinear.{place_on, place_of_start, place_of_end, same_by_places}
-use Rattle.plane.proofs.Collinear.{mean_place}
-use Rattle.plane.proofs.LineOrder.{IsBetween, place_within, within_places, ahead, within_if_ahead}
-use Rattle.plane.proofs.LineOrder.{same_if_level}
-use Rattle.plane.proofs.Decisions.{find_below, decide_within_segment}
-use Rattle.plane_theorems.proofs.Delaunay.Points.Numbers.{sum_none}
-pub use Rattle.plane.proofs.Indexes.{turned_join}
-use Rattle.plane_theorems.proofs.Delaunay.Circles.EmptyCircles.{no_face}
-use Rattle.plane_theorems.proofs.Delaunay.Segments.LineItems.{turned_segment}
-use Rattle.plane_theorems.proofs.Delaunay.Floods.Regions.{region_convex, above_line, below_line}
-use Rattle.plane.specs.Fraction.{Point, Fraction, whole, IsSame, IsNotNegative, OnSegment}
-use Rattle.plane.specs.Fraction.{WithinSegment}
-use Rattle.plane.specs.Pairs.{Joins}
-use Rattle.plane.specs.Tiling.{Triangulation, IsVertex, vertex, IsEdge, AreNeighbours, JoinsLine}
-use Rattle.plane.specs.Location.{Location, on_vertex, on_edge, on_face, outside_hull}
-use Rattle.plane.specs.Location.{no_triangulation, IsLocation}
-use Rattle.plane.specs.Shape.{IsEdgeIn}
-use Rattle.plane_theorems.specs.Delaunay.Flood.{Region, InRegion, HasStart, IsFloodedByVertices}
-use Rattle.plane.proofs.Signs.{at_most_through, at_most_times_one, less_is_not_same}
-use Rattle.plane.proofs.Signs.{same_is_at_most, magnitude_below}
-use Rattle.plane.proofs.Signs.{at_most_itself}
-use Rattle.plane.proofs.Indexes.{one_below}
 use Rattle.std.proofs.Math.Nat.{lt-suc_self}
+use Rattle.plane.specs.{AreNeighbours, Fraction, IsEdge, IsEdgeIn, IsLocation, IsNotNegative}
+use Rattle.plane.specs.{IsSame, IsVertex, Joins, JoinsLine, Location, no_triangulation, on_edge}
+use Rattle.plane.specs.{on_face, on_vertex, OnSegment, outside_hull, Point, Triangulation, vertex}
+use Rattle.plane.specs.{whole, WithinSegment}
+use Rattle.plane.proofs.{ahead, at_most_itself, bracket, bracket_of_two, decide_within_segment}
+use Rattle.plane.proofs.{if_on, IsBetween, less_is_not_same, lift, lt_or_ge_ℤ, magnitude_below}
+use Rattle.plane.proofs.{on_of_within, on_segment-same, one_below, place_of_end, place_of_start}
+use Rattle.plane.proofs.{place_on, place_within, same-refl, same-sym, same_by_places, same_if_level}
+use Rattle.plane.proofs.{same_is_at_most, start_on_segment, trichotomy_ℤ, two_weights, vec, weak}
+use Rattle.plane.proofs.{Decisions.find_below, within_if_ahead, within_itself, within_places}
+use Rattle.plane.proofs.{Collinear.mean_place, Signs.at_most_through, Signs.at_most_times_one}
+use Rattle.plane_theorems.specs.{Delaunay.Flood.IsFloodedByVertices, HasStart, InRegion, Region}
+use Rattle.plane_theorems.proofs.Delaunay.Circles.EmptyCircles.{no_face}
+use Rattle.plane_theorems.proofs.Delaunay.Floods.Regions.{above_line, below_line, region_convex}
+use Rattle.plane_theorems.proofs.Delaunay.Points.Numbers.{sum_none}
+use Rattle.plane_theorems.proofs.Delaunay.Segments.LineItems.{turned_segment}
+pub use Rattle.plane.proofs.{turned_join}
 
 -- ---- either way round
 

@@ -11,30 +11,23 @@ use Rattle.std.specs.Prelude.{ℤ, pos, slice_index_or, slice_set, count_by, Boo
 use Rattle.std.specs.Prelude.{cond}
 use Rattle.std.proofs.lemmas.Int.{ints}
 use Rattle.std.proofs.lemmas.List.Sums.{sum_by-set}
-use Rattle.plane.proofs.IntegerOrder.{mul-pos_ℤ, nonneg_of_mul-nonneg_ℤ, le_of_mul-le-mul_ℤ}
-use Rattle.plane.proofs.Nearer.{gap_not_negative, gap_of_none}
-use Rattle.plane.proofs.Segments.{same-refl, within_itself}
-use Rattle.plane.proofs.Decisions.{decide_point}
-use Rattle.plane_theorems.proofs.Delaunay.Points.Members.{Member, member, contained}
-use Rattle.plane_theorems.proofs.Delaunay.Tilings.OuterEdges.{EachHasEdge, edge_of_corner}
-use Rattle.plane_theorems.proofs.Delaunay.Segments.LineItems.{edge_last}
-use Rattle.plane_theorems.proofs.Delaunay.Floods.Flooded.{flood_starts, flood_finds_region, not_few}
-use Rattle.plane_theorems.proofs.Delaunay.Floods.FloodOnLine.{turned_join, turned_edge, edge_at}
-use Rattle.plane_theorems.proofs.Delaunay.Floods.FloodOnLine.{edge_beside}
+use Rattle.plane.specs.{AreDifferent, AreNeighbours, EachPairOnce, Fraction, gap, IsEdge, IsEdgeIn}
+use Rattle.plane.specs.{IsLocation, IsSame, IsSamePair, IsTiling, IsVertex, Joins, Location}
+use Rattle.plane.specs.{no_triangulation, on_edge, on_face, on_vertex, outside_hull, Point}
+use Rattle.plane.specs.{Shape.IsVertexIn, Triangulation, vertex, whole}
+use Rattle.plane.proofs.{at_most_itself, decide_point, gap_not_negative, mul-pos_ℤ}
+use Rattle.plane.proofs.{nonneg_of_mul-nonneg_ℤ, one_below, same-refl, turned_join, within_itself}
+use Rattle.plane.proofs.{IntegerOrder.le_of_mul-le-mul_ℤ, Signs.at_most_times_one}
+use Rattle.{plane.proofs.Nearer.gap_of_none, plane_theorems.specs.start_point}
+use Rattle.plane_theorems.specs.{circle, HasStart, InRegion, IsTried, rectangle, Region}
+use Rattle.plane_theorems.specs.Delaunay.Flood.{IsFlooded, IsFloodedAround, IsFloodedByVertices}
+use Rattle.plane_theorems.proofs.Delaunay.Floods.FloodOnLine.{edge_at, edge_beside}
 use Rattle.plane_theorems.proofs.Delaunay.Floods.FloodOnLine.{flood_finds_on_line}
-use Rattle.plane_theorems.proofs.Delaunay.Floods.FloodOnLine.{flood_starts_on_line}
-use Rattle.plane.specs.Fraction.{Point, Fraction, whole, IsSame}
-use Rattle.plane.specs.Circle.{gap}
-use Rattle.plane.specs.Pairs.{Joins, IsSamePair, AreDifferent, EachPairOnce}
-use Rattle.plane.specs.Tiling.{Triangulation, IsVertex, vertex, IsEdge, AreNeighbours, IsTiling}
-use Rattle.plane.specs.Location.{Location, on_vertex, on_edge, on_face, outside_hull}
-use Rattle.plane.specs.Location.{no_triangulation, IsLocation}
-use Rattle.plane.specs.Shape.{IsVertexIn, IsEdgeIn}
-use Rattle.plane_theorems.specs.Delaunay.Flood.{Region, circle, rectangle, InRegion, IsFlooded}
-use Rattle.plane_theorems.specs.Delaunay.Flood.{IsFloodedByVertices}
-use Rattle.plane_theorems.specs.Delaunay.Flood.{IsFloodedAround, HasStart, start_point, IsTried}
-use Rattle.plane.proofs.Signs.{at_most_times_one, at_most_itself}
-use Rattle.plane.proofs.Indexes.{one_below}
+use Rattle.plane_theorems.proofs.Delaunay.Floods.FloodOnLine.{flood_starts_on_line, turned_edge}
+use Rattle.plane_theorems.proofs.Delaunay.Floods.Flooded.{flood_finds_region, flood_starts, not_few}
+use Rattle.plane_theorems.proofs.Delaunay.Points.Members.{contained, Member, member}
+use Rattle.plane_theorems.proofs.Delaunay.Segments.LineItems.{edge_last}
+use Rattle.plane_theorems.proofs.Delaunay.Tilings.OuterEdges.{EachHasEdge, edge_of_corner}
 
 radius_least : (g r w : ℤ) → pos 0 ≤ℤ g → g ≤ℤ (r *ℤ (w *ℤ w)) → pos 0 <ℤ w → pos 0 ≤ℤ r
 radius_least g r w h k p =

@@ -9,34 +9,27 @@ use mathlib.Core.Logic.{◌⊎◌, inl, inr}
 use mathlib.Core.List.{[], ◌∷◌}
 use native.Mathlib.Omega.{arith}
 use borrow.Author.Differences.{ints}
-use Rattle.plane.proofs.Solver.{◌⊕◌, ◌⊗◌, ring_in_from}
-use Rattle.plane.proofs.Steps.{weak, left_not_zero, zero_or_left, zero_weak_left, product_zero_left}
-use Rattle.plane.proofs.Steps.{sum_first}
-use Rattle.plane.proofs.IntegerOrder.{mul-pos_ℤ, mul-nonneg_ℤ, zero_of_mul-zero_ℤ, pos-ne-zero_ℤ}
-use Rattle.plane.proofs.IntegerOrder.{lt_or_ge_ℤ, neg-pos_ℤ, zero-mul_ℤ}
-use Rattle.plane_theorems.proofs.Delaunay.Points.Numbers.{less_again, mix_positive}
-use Rattle.plane_theorems.proofs.Delaunay.Points.Bracket.{bracket, bracket-swapped, bracket-mixed}
-use Rattle.plane_theorems.proofs.Delaunay.Points.Bracket.{mixed}
-use Rattle.plane_theorems.proofs.Delaunay.Points.Bracket.{cramer, cramer-w}
-use Rattle.plane_theorems.proofs.Delaunay.Points.Nudges.{Closed, InOpen, closed_of_inside}
-use Rattle.plane_theorems.proofs.Delaunay.Points.Nudges.{closed-turned}
-use Rattle.plane_theorems.proofs.Delaunay.Tilings.Faces.{Tiling, corner_2}
-use Rattle.plane_theorems.proofs.Delaunay.Tilings.Walk.{OnWay, Leaves, Step, reached, leaves_first}
-use Rattle.plane_theorems.proofs.Delaunay.Tilings.Walk.{leaves_second, leaves_third, step, leave}
-use Rattle.plane_theorems.proofs.Delaunay.Tilings.Walk.{separation}
-use Rattle.plane_theorems.proofs.Delaunay.Tilings.Walk.{far_end_nearer}
-use Rattle.plane_theorems.proofs.Delaunay.Tilings.Meets.{OnSide, on_side-swapped, on_side_of_closed}
-use Rattle.plane_theorems.proofs.Delaunay.Tilings.Meets.{IsEdge}
-use Rattle.plane_theorems.proofs.Delaunay.Tilings.Meets.{edge_outside}
-use Rattle.plane_theorems.proofs.Delaunay.Tilings.Cones.{Cone, cone}
-use Rattle.plane_theorems.proofs.Delaunay.Tilings.Where.{IsBeyond, IsCovered, covered_or_beyond}
-use Rattle.plane_theorems.proofs.Delaunay.Tilings.Where.{vertex_not_beyond, not_covered_and_beyond}
-use Rattle.plane_theorems.proofs.Delaunay.Tilings.Where.{vertices_apart}
-use Rattle.plane_theorems.proofs.Delaunay.Floods.Flood.{on_side-first}
-use Rattle.plane.specs.Fraction.{Fraction}
-use Rattle.plane.proofs.Signs.{last_of_three}
-use Rattle.plane.proofs.Lines.{balanced}
 use Rattle.std.proofs.Math.Nat.{lt-suc_self}
+use Rattle.{plane.specs.Fraction, plane_theorems.proofs.Delaunay.Tilings.Where.vertices_apart}
+use Rattle.plane.proofs.{◌⊕◌, ◌⊗◌, balanced, left_not_zero, lt_or_ge_ℤ, mul-nonneg_ℤ, mul-pos_ℤ}
+use Rattle.plane.proofs.{neg-pos_ℤ, pos-ne-zero_ℤ, product_zero_left, ring_in_from, weak}
+use Rattle.plane.proofs.{zero-mul_ℤ, zero_of_mul-zero_ℤ, zero_or_left, zero_weak_left}
+use Rattle.plane.proofs.{Signs.last_of_three, Steps.sum_first}
+use Rattle.plane_theorems.proofs.Delaunay.Floods.Flood.{on_side-first}
+use Rattle.plane_theorems.proofs.Delaunay.Points.Bracket.{bracket, bracket-mixed, bracket-swapped}
+use Rattle.plane_theorems.proofs.Delaunay.Points.Bracket.{cramer, cramer-w, mixed}
+use Rattle.plane_theorems.proofs.Delaunay.Points.Nudges.{Closed, closed-turned, closed_of_inside}
+use Rattle.plane_theorems.proofs.Delaunay.Points.Nudges.{InOpen}
+use Rattle.plane_theorems.proofs.Delaunay.Points.Numbers.{less_again, mix_positive}
+use Rattle.plane_theorems.proofs.Delaunay.Tilings.Cones.{Cone, cone}
+use Rattle.plane_theorems.proofs.Delaunay.Tilings.Faces.{corner_2, Tiling}
+use Rattle.plane_theorems.proofs.Delaunay.Tilings.Meets.{edge_outside, IsEdge, on_side-swapped}
+use Rattle.plane_theorems.proofs.Delaunay.Tilings.Meets.{on_side_of_closed, OnSide}
+use Rattle.plane_theorems.proofs.Delaunay.Tilings.Walk.{far_end_nearer, leave, Leaves, leaves_first}
+use Rattle.plane_theorems.proofs.Delaunay.Tilings.Walk.{leaves_second, leaves_third, OnWay, reached}
+use Rattle.plane_theorems.proofs.Delaunay.Tilings.Walk.{separation, Step, step}
+use Rattle.plane_theorems.proofs.Delaunay.Tilings.Where.{covered_or_beyond, IsBeyond, IsCovered}
+use Rattle.plane_theorems.proofs.Delaunay.Tilings.Where.{not_covered_and_beyond, vertex_not_beyond}
 
 -- ---- numbers
 -- three numbers that are not below 0 and sum to 0

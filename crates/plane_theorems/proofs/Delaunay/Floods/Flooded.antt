@@ -4,40 +4,31 @@ use Rattle.std.proofs.Common.{◌≡◌, ℕ, ◌≤◌, List, [], ◌∷◌, le
 use mathlib.Core.Logic.{◌⊎◌, inl, inr}
 use Rattle.std.specs.Prelude.{◌≢◌, ℤ, pos, ◌<ℤ◌, ◌+ℤ◌, ◌*ℤ◌}
 use Rattle.std.proofs.lemmas.Int.{ints}
-use Rattle.plane.proofs.Segments.{on_of_within, on_segment-same, same-sym, start_on_segment}
-use Rattle.plane.proofs.Bracket as B
-use Rattle.plane.proofs.Solver.{num, ◌⊕◌, ◌⊗◌, ⊝, ring_in, ring_in_from}
-use Rattle.plane.proofs.Steps.{weak, left_not_zero}
-use Rattle.plane.proofs.IntegerOrder.{mul-pos_ℤ, zero_of_mul-zero_ℤ, pos-ne-zero_ℤ, zero-mul_ℤ}
-use Rattle.plane.proofs.Means.{TwoWeights, two_weights, mean_of_two}
-use Rattle.plane_theorems.proofs.Delaunay.Points.Bracket.{bracket, bracketᵖ, above_if_left}
-use Rattle.plane_theorems.proofs.Delaunay.Points.Bracket.{bracket-turned}
-use Rattle.plane_theorems.proofs.Delaunay.Points.Bracket.{bracket-first, bracket-second}
-use Rattle.plane_theorems.proofs.Delaunay.Tilings.Walk.{OnWay}
-use Rattle.plane_theorems.proofs.Delaunay.Tilings.Meets.{OnSide, IsAt, on_side-swapped}
-use Rattle.plane_theorems.proofs.Delaunay.Tilings.Meets.{on_side-closed}
-use Rattle.plane_theorems.proofs.Delaunay.Tilings.Meets.{IsEdge}
-use Rattle.plane_theorems.proofs.Delaunay.Tilings.Ground.{tiling, inside_of}
-use Rattle.plane.proofs.Triangles.{turned_face}
-use Rattle.plane_theorems.proofs.Delaunay.Tilings.Where.{IsBeyond, IsCovered}
-use Rattle.plane_theorems.proofs.Delaunay.Tilings.OuterEdges.{face_of_outer, beyond_outer}
+use Rattle.plane.specs.{Fraction, HasFace, InsideTriangle, IsEdgeIn, IsFace, IsLocation}
+use Rattle.plane.specs.{IsNotNegative, IsOuter, IsPast, IsPositive, IsVertex, Joins, Location}
+use Rattle.plane.specs.{no_triangulation, on_edge, on_face, on_vertex, OnSegment, outside_hull}
+use Rattle.plane.specs.{TilesHull, Triangulation, TurnsLeft, vertex}
+use Rattle.plane.proofs.{◌⊕◌, ◌⊗◌, bracketᵖ, left_not_zero, mean_of_two, mul-pos_ℤ, num}
+use Rattle.plane.proofs.{on_of_within, on_segment-same, pos-ne-zero_ℤ, ring_in, ring_in_from}
+use Rattle.plane.proofs.{same-sym, start_on_segment, turned_face, two_weights, TwoWeights, weak}
+use Rattle.plane.proofs.{Signs.same_plus_no_part, zero-mul_ℤ, zero_of_mul-zero_ℤ, ⊝}
+use Rattle.{plane.proofs.IntegerLaws.one-*ℤ, plane_theorems.proofs.Delaunay.Tilings.Walk.OnWay}
+use Rattle.plane_theorems.specs.{HasStart, InRegion, Region}
 use Rattle.plane_theorems.proofs.Delaunay.Circles.EmptyCircles.{weights_along}
-use Rattle.plane_theorems.proofs.Delaunay.Floods.Flood.{IsFlooded, flood_finds}
+use Rattle.plane_theorems.proofs.Delaunay.Floods.Flood.{flood_finds, IsFlooded}
 use Rattle.plane_theorems.proofs.Delaunay.Floods.FloodStart.{Border, border_of_outside}
 use Rattle.plane_theorems.proofs.Delaunay.Floods.FloodStart.{side_of_inside}
 use Rattle.plane_theorems.proofs.Delaunay.Floods.Regions.{IsConvex, region_convex}
-use Rattle.plane.specs.Fraction.{Fraction, IsNotNegative, IsPositive, OnSegment, InsideTriangle}
-use Rattle.plane.specs.Side.{TurnsLeft}
-use Rattle.plane.specs.Pairs.{Joins}
-use Rattle.plane.specs.Tiling.{Triangulation, IsVertex, vertex, IsFace, HasFace, TilesHull}
+use Rattle.plane_theorems.proofs.Delaunay.Points.Bracket.{above_if_left, bracket, bracket-first}
+use Rattle.plane_theorems.proofs.Delaunay.Points.Bracket.{bracket-second, bracket-turned}
+use Rattle.plane_theorems.proofs.Delaunay.Tilings.Ground.{inside_of, tiling}
+use Rattle.plane_theorems.proofs.Delaunay.Tilings.Meets.{IsAt, IsEdge, on_side-closed}
+use Rattle.plane_theorems.proofs.Delaunay.Tilings.Meets.{on_side-swapped, OnSide}
+use Rattle.plane_theorems.proofs.Delaunay.Tilings.OuterEdges.{beyond_outer, face_of_outer}
+use Rattle.plane_theorems.proofs.Delaunay.Tilings.Where.{IsBeyond, IsCovered}
+use Rattle.plane.proofs.Bracket as B
 use Rattle.plane.specs.Tiling as D
-use Rattle.plane.specs.Location.{Location, on_vertex, on_edge, on_face, outside_hull}
-use Rattle.plane.specs.Location.{no_triangulation, IsOuter, IsPast, IsLocation}
-use Rattle.plane.specs.Shape.{IsEdgeIn}
 use Rattle.plane_theorems.specs.Delaunay.Flood as F
-use Rattle.plane_theorems.specs.Delaunay.Flood.{Region, InRegion, HasStart}
-use Rattle.plane.proofs.Signs.{same_plus_no_part}
-use Rattle.plane.proofs.IntegerLaws.{one-*ℤ}
 
 -- ---- a point's coordinates as brackets
 probe : ℤ → ℤ → Fraction

@@ -3,18 +3,14 @@
 use Rattle.std.proofs.Common.{◌≡◌, [], ◌∷◌, arith, sym, subst}
 use Rattle.std.specs.Prelude.{ℤ, pos, ◌<ℤ◌, ◌≤ℤ◌, ◌+ℤ◌, ◌-ℤ◌, ◌*ℤ◌}
 use Rattle.std.proofs.lemmas.Int.{ints}
-use Rattle.plane.proofs.Solver.{num, ◌⊕◌, ◌⊖◌, ◌⊗◌, ⊝, ring_in, ring_in_from}
-use Rattle.plane.proofs.IntegerOrder.{mul-pos_ℤ, mul-nonneg_ℤ, nonneg_of_mul-nonneg_ℤ}
-use Rattle.plane.proofs.IntegerOrder.{square-nonneg_ℤ}
-use Rattle.plane.proofs.Means.{TwoWeights, two_weights}
+use Rattle.plane.specs.{Fraction, gap, InClosedCircle, InClosedRectangle, IsNotNegative, OnSegment}
+use Rattle.plane.specs.{Point, rise, run, whole}
+use Rattle.plane.proofs.{◌⊕◌, ◌⊖◌, ◌⊗◌, at_most_by_difference, difference_not_negative_from}
+use Rattle.plane.proofs.{mul-nonneg_ℤ, mul-pos_ℤ, nonneg_of_mul-nonneg_ℤ, num, ring_in}
+use Rattle.plane.proofs.{ring_in_from, square-nonneg_ℤ, sum_not_negative_of, two_weights}
+use Rattle.plane.proofs.{TwoWeights, ⊝}
+use Rattle.plane_theorems.specs.{circle, InRegion, rectangle, Region}
 use Rattle.plane_theorems.proofs.Delaunay.Points.Numbers.{sum_least}
-use Rattle.plane.specs.Fraction.{Point, Fraction, whole, IsNotNegative, OnSegment}
-use Rattle.plane.specs.Side.{run, rise}
-use Rattle.plane.specs.Circle.{gap}
-use Rattle.plane.specs.Shape.{InClosedCircle, InClosedRectangle}
-use Rattle.plane_theorems.specs.Delaunay.Flood.{Region, circle, rectangle, InRegion}
-use Rattle.plane.proofs.Signs.{at_most_by_difference, difference_not_negative_from}
-use Rattle.plane.proofs.Signs.{sum_not_negative_of}
 
 -- a shape has the segment of each two of its points
 abbrev pub IsConvex : (Fraction → Type 0) → Type 0

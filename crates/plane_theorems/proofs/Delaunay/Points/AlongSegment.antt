@@ -1,6 +1,6 @@
 -- Points of a segment in their order along it: the one nearer to the start comes first, and points
 -- as near are one.
--- Notions: Placed; nearer_if, placed, not_both_nearer, reach_less, after_first, on_line,
+-- Notions: OrderAlong; nearer_if, order_along, not_both_nearer, reach_less, after_first, on_line,
 -- on_line_last, before, not_before, not_past, not_from_end, first_on, none_sooner, same_on_line,
 -- within_on_line.
 use Rattle.std.proofs.Common.{◌≡◌, [], ◌∷◌, arith, ap, sym, ◌∙◌, subst, subst₂, refl}
@@ -8,31 +8,25 @@ use mathlib.Core.Logic.{◌⊎◌, inl, inr}
 use lib.IntN.{neg_ℤ}
 use Rattle.std.specs.Prelude.{ℤ, pos, ◌<ℤ◌, ◌≤ℤ◌, ◌+ℤ◌, ◌-ℤ◌, ◌*ℤ◌}
 use Rattle.std.proofs.lemmas.Int.{ints}
-use Rattle.plane.specs.Line.{OverlapAlong}
+use Rattle.plane.specs.{Fraction, gap, IsNearer, IsNotNegative, IsPositive, IsSame, OnSegment}
+use Rattle.plane.specs.{OverlapAlong, WithinSegment}
+use Rattle.plane.proofs.{◌⊕◌, ◌⊖◌, ◌⊗◌, at_most_and_more, balanced, bracket, bracket_of_two}
+use Rattle.plane.proofs.{bracketᵖ, difference_is_positive, difference_not_negative, less_both_ways}
+use Rattle.plane.proofs.{less_by_difference, less_by_negative_difference, lt_of_mul-lt-mul_ℤ}
+use Rattle.plane.proofs.{mean_of_two, more_by_difference, mul-nonneg_ℤ}
+use Rattle.plane.proofs.{mul-nonpos_of_nonneg_nonpos_ℤ, mul-pos_ℤ, mul_cancel_ℤ}
+use Rattle.plane.proofs.{negated_not_negative, no_difference, nonneg_of_mul-nonneg_ℤ, num}
+use Rattle.plane.proofs.{on_segment-same, on_segment_is, one_times_sum, only_point, pos-ne-zero_ℤ}
+use Rattle.plane.proofs.{pos_of_mul-pos_ℤ, positive_above, product_zero_left, reach, reach-end}
+use Rattle.plane.proofs.{reach-start, reach_of_two, ring_in, ring_in_from, ring_over_from, same-sym}
+use Rattle.plane.proofs.{same-trans, same_not_nearer, start_on_segment, sum_not_negative_of}
+use Rattle.plane.proofs.{sum_of_zeros, trichotomy_ℤ, two_weights, TwoWeights, vec, vec3, weak}
+use Rattle.plane.proofs.{weak_right, weights_x, weights_y, zero-mul_ℤ, zero_below_positive}
+use Rattle.plane.proofs.{zero_of_mul-zero_ℤ, zero_weak, zero_weak_left}
+use Rattle.plane.proofs.{IntegerOrder.le_of_mul-le-mul_ℤ, Signs.at_most_by_difference_to}
+use Rattle.plane.proofs.Segments.{reachᵖ, riseᵖ, runᵖ}
 use Rattle.plane_theorems.proofs.Delaunay.Points.Bracket.{mixed}
 use Rattle.plane_theorems.proofs.Delaunay.Points.Numbers.{mix_positive}
-use Rattle.plane.proofs.Means.{TwoWeights, two_weights, mean_of_two, bracket_of_two}
-use Rattle.plane.proofs.Nearer.{same_not_nearer}
-use Rattle.plane.proofs.Bracket.{vec, vec3, bracket, bracketᵖ}
-use Rattle.plane.proofs.Solver.{num, ◌⊕◌, ◌⊖◌, ◌⊗◌, ring_in, ring_over_from, ring_in_from}
-use Rattle.plane.proofs.Steps.{weak, weak_right, zero_weak, zero_weak_left, product_zero_left}
-use Rattle.plane.proofs.Steps.{no_difference}
-use Rattle.plane.proofs.IntegerOrder.{mul-pos_ℤ, mul-nonneg_ℤ, mul_cancel_ℤ, pos-ne-zero_ℤ}
-use Rattle.plane.proofs.IntegerOrder.{lt_of_mul-lt-mul_ℤ, trichotomy_ℤ, pos_of_mul-pos_ℤ}
-use Rattle.plane.proofs.IntegerOrder.{nonneg_of_mul-nonneg_ℤ, zero_of_mul-zero_ℤ}
-use Rattle.plane.proofs.IntegerOrder.{mul-nonpos_of_nonneg_nonpos_ℤ, le_of_mul-le-mul_ℤ, zero-mul_ℤ}
-use Rattle.plane.proofs.Segments.{reach, reach-end, on_segment_is, same-sym, same-trans, only_point}
-use Rattle.plane.proofs.Segments.{on_segment-same, start_on_segment, reach-start, reach_of_two}
-use Rattle.plane.proofs.Segments.{runᵖ, riseᵖ, reachᵖ, weights_x, weights_y}
-use Rattle.plane.specs.Fraction.{Fraction, IsSame, OnSegment, IsNotNegative, IsPositive}
-use Rattle.plane.specs.Fraction.{WithinSegment}
-use Rattle.plane.specs.Circle.{gap, IsNearer}
-use Rattle.plane.proofs.Signs.{at_most_by_difference_to, difference_not_negative, less_both_ways}
-use Rattle.plane.proofs.Signs.{less_by_difference, less_by_negative_difference, more_by_difference}
-use Rattle.plane.proofs.Signs.{negated_not_negative, one_times_sum, sum_not_negative_of}
-use Rattle.plane.proofs.Signs.{sum_of_zeros, zero_below_positive, difference_is_positive}
-use Rattle.plane.proofs.Signs.{at_most_and_more, positive_above}
-use Rattle.plane.proofs.Lines.{balanced}
 
 -- the squared distance from the start, by how far the point is on the way
 gap-reach : (p q x : Fraction) → bracket (vec p) (vec q) (vec x) ≡ pos 0
@@ -89,10 +83,10 @@ same_y u v x y ex ey e = ring_over_from vec3 [] (vec u ∷ vec v ∷ vec x ∷ v
     ∷ []) (ex, (ey, (e, tt))) tt
 
 -- which of two points comes first from p
-pub data Placed (p x y : Fraction) : Type 0 where
-  sooner : IsNearer p x y → Placed p x y
-  as_soon : IsSame x y → Placed p x y
-  later : IsNearer p y x → Placed p x y
+pub data OrderAlong (p x y : Fraction) : Type 0 where
+  sooner : IsNearer p x y → OrderAlong p x y
+  as_soon : IsSame x y → OrderAlong p x y
+  later : IsNearer p y x → OrderAlong p x y
 
 module _ (p q : Fraction) (apart : ¬ IsSame p q) where
   -- what is less far along the segment is nearer to its start
@@ -122,12 +116,12 @@ module _ (p q : Fraction) (apart : ¬ IsSame p q) where
       }
 
   -- two points of a segment: one comes first, or they are one
-  pub placed : (x y : Fraction) → OnSegment p q x → OnSegment p q y → Placed p x y
-  placed x y hx hy = go (trichotomy_ℤ (reach p q x *ℤ y.w -ℤ reach p q y *ℤ x.w))
+  pub order_along : (x y : Fraction) → OnSegment p q x → OnSegment p q y → OrderAlong p x y
+  order_along x y hx hy = go (trichotomy_ℤ (reach p q x *ℤ y.w -ℤ reach p q y *ℤ x.w))
     where
       go : ((reach p q x *ℤ y.w -ℤ reach p q y *ℤ x.w) <ℤ pos 0)
           ⊎ ((reach p q x *ℤ y.w -ℤ reach p q y *ℤ x.w ≡ pos 0)
-          ⊎ (pos 0 <ℤ (reach p q x *ℤ y.w -ℤ reach p q y *ℤ x.w))) → Placed p x y
+          ⊎ (pos 0 <ℤ (reach p q x *ℤ y.w -ℤ reach p q y *ℤ x.w))) → OrderAlong p x y
       go (inl h) = sooner (nearer_if x y hx hy (less_by_negative_difference _ _ h))
       go (inr (inl e)) = as_soon (same_if x y hx hy (no_difference _ _ e))
       go (inr (inr h)) = later (nearer_if y x hy hx (more_by_difference _ _ h))

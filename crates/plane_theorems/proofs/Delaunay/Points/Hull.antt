@@ -7,15 +7,12 @@ use Rattle.std.proofs.Common.{ℕ, zero, suc, List, length, get_or, refl, arith,
 use Rattle.std.specs.Prelude.{ℤ, pos, ◌≤ℤ◌, ◌*ℤ◌, ◌+ℤ◌, ◌-ℤ◌, All}
 use Rattle.std.proofs.lemmas.List.Elements.{All-cons, All-nil, All-head, All-tail}
 use Rattle.std.proofs.lemmas.Int.{ints}
-use Rattle.plane.proofs.Steps.{weak}
-use Rattle.plane.proofs.Solver.{num, ◌⊕◌, ◌⊖◌, ◌⊗◌, ⊝, ring_in, ring_in_from, ring_over}
-use Rattle.plane.proofs.IntegerOrder.{mul-pos_ℤ, mul-nonneg_ℤ, zero_of_mul-zero_ℤ, pos-ne-zero_ℤ}
-use Rattle.plane.proofs.IntegerOrder.{zero-mul_ℤ, nonneg_of_mul-nonneg_ℤ}
-use Rattle.plane_theorems.proofs.Delaunay.Points.Bracket.{fraction, bracket, bracketᵖ}
-use Rattle.plane_theorems.proofs.Delaunay.Points.Nudges.{nudge}
-use Rattle.plane.proofs.Means.{ThreeWeights}
-use Rattle.plane.specs.Fraction.{Fraction, IsNotNegative, InHull, weighted_sum}
-use Rattle.plane.proofs.Signs.{sum_not_negative_of, index_not_negative}
+use Rattle.plane.specs.{Fraction, InHull, IsNotNegative, weighted_sum}
+use Rattle.plane.proofs.{◌⊕◌, ◌⊖◌, ◌⊗◌, bracketᵖ, index_not_negative, mul-nonneg_ℤ, mul-pos_ℤ}
+use Rattle.plane.proofs.{nonneg_of_mul-nonneg_ℤ, num, pos-ne-zero_ℤ, ring_in, ring_in_from}
+use Rattle.plane.proofs.{ring_over, sum_not_negative_of, weak, zero-mul_ℤ, zero_of_mul-zero_ℤ, ⊝}
+use Rattle.{plane.proofs.Means.ThreeWeights, plane_theorems.proofs.Delaunay.Points.Nudges.nudge}
+use Rattle.plane_theorems.proofs.Delaunay.Points.Bracket.{bracket, fraction}
 
 abbrev zeros : List Fraction → List ℤ
 zeros [] = []

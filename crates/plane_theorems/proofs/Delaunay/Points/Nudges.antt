@@ -1,7 +1,13 @@
--- Closed and open triangles by brackets, and moving a point a little.
--- Notions: Closed, InOpen; size, nudged, germ_sign, nudge_positive, nudge, bracket-nudge,
--- nudge-above, nudge-on, nudge-least, closed-turned, inside-turned, closed_of_inside, room,
--- inside-nudge.
+-- Open and closed triangles by brackets, and moving a point a little.
+-- InOpen a b c x: x is strictly left of the three sides of a b c
+-- Closed a b c x: x is right of none of them
+-- inside-turned, closed-turned: both hold of the next rotation too
+-- closed_of_inside: `InOpen` gives `Closed`
+-- nudge n x m: x moved towards m, by less the larger n is
+-- bracket-nudge: the bracket of a nudged point is n times that of x, and that of m
+-- nudge-above, nudge-on, nudge-least: the bracket of a nudged point, where that of x is positive,
+--   0, at least 0
+-- size z: the absolute value of z
 use Prim.Native.Nat.{ℕ, zero, suc, ◌+◌, ◌<◌, ◌≤◌}
 use lib.IntN.{ℤ, pos, negsuc, ◌+ℤ◌, ◌*ℤ◌, nat_abs}
 use lib.Signed.{◌<ℤ◌, ◌≤ℤ◌}
@@ -9,10 +15,8 @@ use mathlib.Core.Path.{◌≡◌, refl, sym, ◌∙◌, ap, subst}
 use mathlib.Core.Logic.{◌⊎◌, inl, inr}
 use native.Mathlib.Omega.{arith}
 use borrow.Author.Differences.{ints}
-use Rattle.plane.proofs.Steps.{weak}
-use Rattle.plane.proofs.IntegerOrder.{mul-nonneg_ℤ}
-use Rattle.plane_theorems.proofs.Delaunay.Points.Bracket.{bracket, mixed, bracket-mixed}
-use Rattle.plane.specs.Fraction.{Fraction}
+use Rattle.{plane.proofs.mul-nonneg_ℤ, plane.proofs.weak, plane.specs.Fraction}
+use Rattle.plane_theorems.proofs.Delaunay.Points.Bracket.{bracket, bracket-mixed, mixed}
 
 -- ---- n times y and z, where n is larger than z
 -- the absolute value of a whole number

@@ -7,11 +7,9 @@ use lib.Signed.{◌<ℤ◌, ◌≤ℤ◌}
 use mathlib.Core.Path.{◌≡◌}
 use native.Mathlib.Omega.{arith}
 use borrow.Author.Differences.{ints}
-use Rattle.plane.proofs.IntegerLaws.{mul-neg_ℤ}
-use Rattle.plane.proofs.IntegerOrder.{mul-pos_ℤ, mul-nonneg_ℤ, mul-nonpos_of_nonneg_nonpos_ℤ}
-use Rattle.plane.proofs.IntegerOrder.{nonneg_of_mul-nonneg_ℤ, pos_of_mul-pos_ℤ, zero_of_mul-zero_ℤ}
-use Rattle.plane.proofs.IntegerOrder.{pos-ne-zero_ℤ, zero-mul_ℤ}
-use Rattle.plane.proofs.Steps.{weak}
+use Rattle.plane.proofs.{mul-neg_ℤ, mul-nonneg_ℤ, mul-nonpos_of_nonneg_nonpos_ℤ, mul-pos_ℤ}
+use Rattle.plane.proofs.{nonneg_of_mul-nonneg_ℤ, pos-ne-zero_ℤ, pos_of_mul-pos_ℤ, weak, zero-mul_ℤ}
+use Rattle.plane.proofs.{zero_of_mul-zero_ℤ}
 
 -- what is below some j that is at most m is below m
 pub less_again : (i j m : ℕ) → i < j → j < suc m → i < m

@@ -9,28 +9,22 @@ use mathlib.Core.Logic.{◌⊎◌, inl, inr}
 use mathlib.Core.List.{[], ◌∷◌}
 use native.Mathlib.Omega.{arith}
 use borrow.Author.Differences.{ints}
-use Rattle.plane.proofs.Steps.{weak, weak_right, zero_weak_left, zero_weak, product_zero_left}
-use Rattle.plane.proofs.Steps.{not_right_strict, not_left_strict, right_not_zero, left_not_zero}
-use Rattle.plane.proofs.Steps.{no_difference}
-use Rattle.plane.proofs.IntegerLaws.{neg-mul_ℤ, mul-neg_ℤ}
-use Rattle.plane.proofs.Solver.{num, ◌⊕◌, ◌⊖◌, ◌⊗◌, ⊝, ring_in_from, ring_over_from}
-use Rattle.plane.proofs.IntegerOrder.{mul-pos_ℤ, mul-nonneg_ℤ, mul-neg_of_pos_neg_ℤ}
-use Rattle.plane.proofs.IntegerOrder.{mul-pos_of_neg_ℤ, square-nonneg_ℤ, lt_or_ge_ℤ, zero-mul_ℤ}
-use Rattle.plane_theorems.proofs.Delaunay.Points.Bracket.{fraction, bracketᵖ, bracket}
-use Rattle.plane_theorems.proofs.Delaunay.Points.Bracket.{bracket-turned}
-use Rattle.plane_theorems.proofs.Delaunay.Points.Bracket.{bracket-swapped, bracket-first}
-use Rattle.plane_theorems.proofs.Delaunay.Points.Bracket.{bracket-second}
-use Rattle.plane_theorems.proofs.Delaunay.Points.Bracket.{meeting, meeting-x, meeting-y, meeting-w}
-use Rattle.plane_theorems.proofs.Delaunay.Points.Bracket.{cramer}
-use Rattle.plane_theorems.proofs.Delaunay.Tilings.Faces.{Tiling, Between, between-swapped}
-use Rattle.plane_theorems.proofs.Delaunay.Tilings.Faces.{turned-above}
-use Rattle.plane_theorems.proofs.Delaunay.Tilings.Meets.{edge-swapped}
-use Rattle.plane_theorems.proofs.Delaunay.Segments.Joining.{Crosses, Before, by_right, by_left}
-use Rattle.plane_theorems.proofs.Delaunay.Segments.Joining.{from_start}
-use Rattle.plane_theorems.proofs.Delaunay.Segments.Joining.{before_crossing}
-use Rattle.plane.specs.Fraction.{Fraction}
+use Rattle.{plane.specs.Fraction, plane_theorems.proofs.Delaunay.Tilings.Faces.turned-above}
+use Rattle.plane.proofs.{◌⊕◌, ◌⊖◌, ◌⊗◌, bracketᵖ, left_not_zero, lt_or_ge_ℤ, mul-neg_of_pos_neg_ℤ}
+use Rattle.plane.proofs.{mul-neg_ℤ, mul-nonneg_ℤ, mul-pos_of_neg_ℤ, mul-pos_ℤ, neg-mul_ℤ}
+use Rattle.plane.proofs.{no_difference, not_left_strict, not_right_strict, num, product_zero_left}
+use Rattle.plane.proofs.{right_not_zero, ring_in_from, ring_over_from, square-nonneg_ℤ}
+use Rattle.plane.proofs.{sum_not_negative_of, times_one, weak, weak_right, zero-mul_ℤ, zero_weak}
+use Rattle.plane.proofs.{Signs.zero_of_square, zero_weak_left, ⊝}
 use Rattle.plane_theorems.proofs.Delaunay.Floods.Flood.{swapped_above, swapped_below}
-use Rattle.plane.proofs.Signs.{zero_of_square, times_one, sum_not_negative_of}
+use Rattle.plane_theorems.proofs.Delaunay.Points.Bracket.{bracket, bracket-first, bracket-second}
+use Rattle.plane_theorems.proofs.Delaunay.Points.Bracket.{bracket-swapped, bracket-turned, cramer}
+use Rattle.plane_theorems.proofs.Delaunay.Points.Bracket.{fraction, meeting, meeting-w, meeting-x}
+use Rattle.plane_theorems.proofs.Delaunay.Points.Bracket.{meeting-y}
+use Rattle.plane_theorems.proofs.Delaunay.Segments.Joining.{Before, before_crossing, by_left}
+use Rattle.plane_theorems.proofs.Delaunay.Segments.Joining.{by_right, Crosses, from_start}
+use Rattle.plane_theorems.proofs.Delaunay.Tilings.Faces.{Between, between-swapped, Tiling}
+use Rattle.plane_theorems.proofs.Delaunay.Tilings.Meets.{edge-swapped}
 
 turned_first : (a b s : Fraction) → pos 0 <ℤ bracket a b s → pos 0 <ℤ bracket s a b
 turned_first a b s h = turned-above b s a (turned-above a b s h)

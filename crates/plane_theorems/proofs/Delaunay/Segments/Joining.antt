@@ -9,17 +9,15 @@ use mathlib.Core.Logic.{◌⊎◌, inl, inr}
 use mathlib.Core.List.{[], ◌∷◌}
 use native.Mathlib.Omega.{arith}
 use borrow.Author.Differences.{ints}
-use Rattle.plane.proofs.Steps.{weak, left_not_zero, right_not_zero}
-use Rattle.plane.proofs.IntegerLaws.{neg-mul_ℤ}
-use Rattle.plane.proofs.Solver.{num, ◌⊕◌, ◌⊖◌, ◌⊗◌, ⊝, ring_in_from}
-use Rattle.plane.proofs.IntegerOrder.{mul-pos_ℤ, mul-nonneg_ℤ, mul-neg_of_pos_neg_ℤ}
-use Rattle.plane.proofs.IntegerOrder.{mul-pos_of_neg_ℤ, neg_of_mul-neg_ℤ, lt_or_ge_ℤ, Sign, sign}
-use Rattle.plane.proofs.IntegerOrder.{below, none, above, neg-pos_ℤ, zero-mul_ℤ}
-use Rattle.plane_theorems.proofs.Delaunay.Points.Bracket.{bracket, bracket-turned, bracket-first}
-use Rattle.plane_theorems.proofs.Delaunay.Points.Bracket.{bracket-second, meeting, cramer}
-use Rattle.plane_theorems.proofs.Delaunay.Tilings.Faces.{Tiling, Between}
-use Rattle.plane_theorems.proofs.Delaunay.Tilings.Meets.{IsEdge}
+use Rattle.plane.proofs.{◌⊕◌, ◌⊖◌, ◌⊗◌, above, below, left_not_zero, lt_or_ge_ℤ}
+use Rattle.plane.proofs.{mul-neg_of_pos_neg_ℤ, mul-nonneg_ℤ, mul-pos_of_neg_ℤ, mul-pos_ℤ, neg-mul_ℤ}
+use Rattle.plane.proofs.{neg-pos_ℤ, neg_of_mul-neg_ℤ, none, num, right_not_zero, ring_in_from, Sign}
+use Rattle.plane.proofs.{sign, weak, zero-mul_ℤ, ⊝}
 use Rattle.plane_theorems.proofs.Delaunay.Floods.Flood.{swapped_above, swapped_below}
+use Rattle.plane_theorems.proofs.Delaunay.Points.Bracket.{bracket, bracket-first, bracket-second}
+use Rattle.plane_theorems.proofs.Delaunay.Points.Bracket.{bracket-turned, cramer, meeting}
+use Rattle.plane_theorems.proofs.Delaunay.Tilings.Faces.{Between, Tiling}
+use Rattle.plane_theorems.proofs.Delaunay.Tilings.Meets.{IsEdge}
 
 first_above : (d o a f b g c h : ℤ) → d *ℤ o ≡ a *ℤ f +ℤ b *ℤ g +ℤ c *ℤ h → o ≡ pos 0 → f <ℤ pos 0
     → pos 0 ≤ℤ b → pos 0 <ℤ g → pos 0 <ℤ c → pos 0 <ℤ h → pos 0 <ℤ a

@@ -7,40 +7,29 @@ use Rattle.std.proofs.Common.{◌≡◌, ℕ, arith, ap, sym, ◌∙◌, subst, 
 use mathlib.Core.Logic.{◌⊎◌, inl, inr}
 use Rattle.std.specs.Prelude.{ℤ, pos, ◌<ℤ◌, ◌-ℤ◌, ◌*ℤ◌}
 use Rattle.std.proofs.lemmas.Int.{ints}
-use Rattle.plane.proofs.IntegerOrder.{trichotomy_ℤ}
-use Rattle.plane.proofs.Lines.{side_line}
-use Rattle.plane.proofs.Sides.{side_swapped}
-use Rattle.plane.proofs.Steps.{weak, no_difference}
-use Rattle.plane.proofs.Means.{two_weights, mean_of_two}
-use Rattle.plane.proofs.Segments.{same-refl, same-sym, same-trans, start_on_segment}
-use Rattle.plane.proofs.Segments.{on_segment-same, within_segment-same, on_of_within, only_point}
-use Rattle.plane.proofs.Segments.{reach}
-use Rattle.plane.proofs.Nearer.{nothing_nearer, same_not_nearer}
-use Rattle.plane.proofs.Decisions.{Decision, decide_on_segment}
-use Rattle.plane_theorems.proofs.Delaunay.Points.Bracket.{bracket}
-use Rattle.plane_theorems.proofs.Delaunay.Tilings.Faces.{Between, between-swapped, none_within}
-use Rattle.plane_theorems.proofs.Delaunay.Tilings.Meets.{IsAt, Shared, same, reversed, at_vertex}
-use Rattle.plane_theorems.proofs.Delaunay.Tilings.Meets.{edges_meet}
-use Rattle.plane_theorems.proofs.Delaunay.Tilings.Generic.{same_bracket, swapped_weights}
-use Rattle.plane_theorems.proofs.Delaunay.Tilings.Ground.{tiling}
-use Rattle.plane_theorems.proofs.Delaunay.Tilings.Where.{vertices_apart}
+use Rattle.plane.specs.{BeginsAt, Fraction, IsBefore, IsNotNegative, IsPositive, IsSame, IsVertex}
+use Rattle.plane.specs.{Item, left, Meets, on, OnSegment, opposite, OverlapAlong, right, side}
+use Rattle.plane.specs.{TilesHull, Triangulation, TurnsLeft, vertex, WithinSegment}
+use Rattle.plane.proofs.{decide_on_segment, Decision, differences_both_positive, mean_of_two}
+use Rattle.plane.proofs.{no_difference, nothing_nearer, on_of_within, on_segment-same, only_point}
+use Rattle.plane.proofs.{reach, same-refl, same-sym, same-trans, same_not_nearer, side_swapped}
+use Rattle.plane.proofs.{start_on_segment, trichotomy_ℤ, two_weights, weak, within_segment-same}
+use Rattle.plane.proofs.{Lines.side_line, Signs.same_plus_no_part}
 use Rattle.plane_theorems.proofs.Delaunay.Circles.EmptyCircles.{weights_along}
-use Rattle.plane_theorems.proofs.Delaunay.Floods.Flooded.{side_of_segment, segment_from, edge_of}
-use Rattle.plane_theorems.proofs.Delaunay.Points.AlongSegment.{Placed, sooner, as_soon, later}
-use Rattle.plane_theorems.proofs.Delaunay.Points.AlongSegment.{placed}
-use Rattle.plane_theorems.proofs.Delaunay.Points.AlongSegment.{first_on, none_sooner, before}
-use Rattle.plane_theorems.proofs.Delaunay.Points.AlongSegment.{on_line}
-use Rattle.plane_theorems.proofs.Delaunay.Points.AlongSegment.{on_line_last, within_on_line}
-use Rattle.plane_theorems.proofs.Delaunay.Points.AlongSegment.{same_on_line}
-use Rattle.plane_theorems.proofs.Delaunay.Points.AlongSegment.{not_from_end}
-use Rattle.plane.specs.Fraction.{Fraction, IsSame, IsNotNegative, IsPositive, OnSegment}
-use Rattle.plane.specs.Fraction.{WithinSegment}
-use Rattle.plane.specs.Side.{side, left, right, on, TurnsLeft, opposite}
-use Rattle.plane.specs.Tiling.{Triangulation, IsVertex, vertex, TilesHull}
+use Rattle.plane_theorems.proofs.Delaunay.Floods.Flooded.{edge_of, segment_from, side_of_segment}
+use Rattle.plane_theorems.proofs.Delaunay.Points.AlongSegment.{as_soon, before, first_on, later}
+use Rattle.plane_theorems.proofs.Delaunay.Points.AlongSegment.{none_sooner, not_from_end, on_line}
+use Rattle.plane_theorems.proofs.Delaunay.Points.AlongSegment.{on_line_last, order_along}
+use Rattle.plane_theorems.proofs.Delaunay.Points.AlongSegment.{OrderAlong, same_on_line, sooner}
+use Rattle.plane_theorems.proofs.Delaunay.Points.AlongSegment.{within_on_line}
+use Rattle.plane_theorems.proofs.{Delaunay.Points.Bracket.bracket, Delaunay.Tilings.Ground.tiling}
+use Rattle.plane_theorems.proofs.Delaunay.Tilings.Faces.{Between, between-swapped, none_within}
+use Rattle.plane_theorems.proofs.Delaunay.Tilings.Generic.{same_bracket, swapped_weights}
+use Rattle.plane_theorems.proofs.Delaunay.Tilings.Meets.{at_vertex, edges_meet, IsAt, reversed}
+use Rattle.plane_theorems.proofs.Delaunay.Tilings.Meets.{same, Shared}
+use Rattle.plane_theorems.proofs.Delaunay.Tilings.Where.{vertices_apart}
 use Rattle.plane.specs.Tiling as D
-use Rattle.plane.specs.Line.{Item, Meets, BeginsAt, IsBefore, OverlapAlong}
 use Rattle.plane.specs.Line as L
-use Rattle.plane.proofs.Signs.{differences_both_positive, same_plus_no_part}
 
 -- a point strictly within a segment is strictly between its ends, for each linear form
 pub between_of : (a b x : Fraction) → WithinSegment a b x → Between a b x
@@ -368,9 +357,9 @@ module _ (t : Triangulation) (c₀ : Meeting t) (p q : Fraction) (apart : ¬ IsS
   line_items_are_ordered m n hm hn = go (begins t p q m hm) (begins t p q n hn)
     where
       go : Begins t p q m → Begins t p q n → (m ≡ n) ⊎ (IsBefore t p q m n ⊎ IsBefore t p q n m)
-      go x y = pick (placed p q apart x.at y.at x.begins.shared y.begins.shared)
+      go x y = pick (order_along p q apart x.at y.at x.begins.shared y.begins.shared)
         where
-          pick : Placed p x.at y.at → (m ≡ n) ⊎ (IsBefore t p q m n ⊎ IsBefore t p q n m)
+          pick : OrderAlong p x.at y.at → (m ≡ n) ⊎ (IsBefore t p q m n ⊎ IsBefore t p q n m)
           pick (sooner k) = inr (inl (record {
             first = x.at;
             second = y.at;

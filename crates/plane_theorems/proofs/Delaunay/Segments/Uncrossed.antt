@@ -7,19 +7,14 @@ use mathlib.Core.Path.{◌≡◌, sym, subst}
 use mathlib.Core.Logic.{◌⊎◌, inl, inr}
 use native.Mathlib.Omega.{arith}
 use borrow.Author.Differences.{ints}
-use Rattle.plane.proofs.Steps.{weak, zero_weak_left, right_not_above}
-use Rattle.plane.proofs.Steps.{product_zero_left}
-use Rattle.plane.proofs.IntegerLaws.{neg-mul_ℤ}
-use Rattle.plane.proofs.IntegerOrder.{mul-pos_ℤ, Sign, sign, below, none, above, neg-pos_ℤ}
+use Rattle.plane.proofs.{above, below, mul-pos_ℤ, neg-mul_ℤ, neg-pos_ℤ, none, product_zero_left}
+use Rattle.plane.proofs.{right_not_above, Sign, sign, times_one, weak, zero_weak_left}
 use Rattle.plane_theorems.proofs.Delaunay.Points.Bracket.{bracket, bracket-turned, cramer, cramer-w}
-use Rattle.plane_theorems.proofs.Delaunay.Tilings.Faces.{Tiling, Between, none_within, turned-above}
-use Rattle.plane_theorems.proofs.Delaunay.Tilings.Faces.{corner_2}
-use Rattle.plane_theorems.proofs.Delaunay.Tilings.Across.{inner_between}
-use Rattle.plane_theorems.proofs.Delaunay.Tilings.Meets.{IsEdge}
-use Rattle.plane_theorems.proofs.Delaunay.Tilings.Cones.{cone}
-use Rattle.plane_theorems.proofs.Delaunay.Segments.Joining.{Crosses}
 use Rattle.plane_theorems.proofs.Delaunay.Segments.FlipExists.{swap_below}
-use Rattle.plane.proofs.Signs.{times_one}
+use Rattle.plane_theorems.proofs.{Delaunay.Segments.Joining.Crosses, Delaunay.Tilings.Meets.IsEdge}
+use Rattle.plane_theorems.proofs.Delaunay.Tilings.Across.{inner_between}
+use Rattle.plane_theorems.proofs.{Delaunay.Tilings.Cones.cone, Delaunay.Tilings.Faces.turned-above}
+use Rattle.plane_theorems.proofs.Delaunay.Tilings.Faces.{Between, corner_2, none_within, Tiling}
 
 -- d x = p u + r w + m q, where m is 0
 solved_without_third : (d x p u r w m q : ℤ) → d *ℤ x ≡ p *ℤ u +ℤ r *ℤ w +ℤ m *ℤ q → m ≡ pos 0

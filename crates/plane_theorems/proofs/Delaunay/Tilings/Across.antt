@@ -7,26 +7,20 @@ use mathlib.Core.Path.{◌≡◌, sym, ◌∙◌, ap, subst}
 use mathlib.Core.Logic.{◌⊎◌, inl, inr}
 use native.Mathlib.Omega.{arith}
 use borrow.Author.Differences.{ints}
-use Rattle.plane.proofs.Steps.{weak, zero_weak_left, left_not_zero, negated_left, negated_right}
-use Rattle.plane.proofs.Steps.{product_zero_left, sum_first_two}
-use Rattle.plane.proofs.IntegerLaws.{neg-mul_ℤ}
-use Rattle.plane.proofs.IntegerOrder.{mul-pos_ℤ, mul-nonneg_ℤ, pos_of_mul-pos_ℤ, zero_of_mul-zero_ℤ}
-use Rattle.plane.proofs.IntegerOrder.{pos-ne-zero_ℤ, mul-neg_of_pos_neg_ℤ}
-use Rattle.plane.proofs.IntegerOrder.{mul-nonpos_of_nonneg_nonpos_ℤ, lt_or_ge_ℤ, sign, below, none}
-use Rattle.plane.proofs.IntegerOrder.{above, neg-pos_ℤ, zero-mul_ℤ}
-use Rattle.plane_theorems.proofs.Delaunay.Points.Bracket.{bracket, bracket-turned, bracket-swapped}
-use Rattle.plane_theorems.proofs.Delaunay.Points.Bracket.{bracket-first, bracket-second, meeting}
-use Rattle.plane_theorems.proofs.Delaunay.Points.Bracket.{meeting-w}
-use Rattle.plane_theorems.proofs.Delaunay.Points.Bracket.{cramer}
-use Rattle.plane_theorems.proofs.Delaunay.Points.Nudges.{size, nudge, bracket-nudge, nudge-above}
-use Rattle.plane_theorems.proofs.Delaunay.Points.Nudges.{nudge-on}
-use Rattle.plane_theorems.proofs.Delaunay.Tilings.Faces.{Tiling, Between, between-swapped}
-use Rattle.plane_theorems.proofs.Delaunay.Tilings.Faces.{between-on}
-use Rattle.plane_theorems.proofs.Delaunay.Tilings.Faces.{between-second, between-third}
-use Rattle.plane_theorems.proofs.Delaunay.Tilings.Faces.{side_not_inside}
-use Rattle.plane_theorems.proofs.Delaunay.Tilings.Faces.{none_within, turns_2, corner_2}
-use Rattle.plane.specs.Fraction.{Fraction}
-use Rattle.plane.proofs.Signs.{times_one, swapped_sum}
+use Rattle.{plane.specs.Fraction, plane_theorems.proofs.Delaunay.Tilings.Faces.turns_2}
+use Rattle.plane.proofs.{above, below, left_not_zero, lt_or_ge_ℤ, mul-neg_of_pos_neg_ℤ}
+use Rattle.plane.proofs.{mul-nonneg_ℤ, mul-nonpos_of_nonneg_nonpos_ℤ, mul-pos_ℤ, neg-mul_ℤ}
+use Rattle.plane.proofs.{neg-pos_ℤ, negated_left, negated_right, none, pos-ne-zero_ℤ}
+use Rattle.plane.proofs.{pos_of_mul-pos_ℤ, product_zero_left, sign, sum_first_two, swapped_sum}
+use Rattle.plane.proofs.{times_one, weak, zero-mul_ℤ, zero_of_mul-zero_ℤ, zero_weak_left}
+use Rattle.plane_theorems.proofs.Delaunay.Points.Bracket.{bracket, bracket-first, bracket-second}
+use Rattle.plane_theorems.proofs.Delaunay.Points.Bracket.{bracket-swapped, bracket-turned, cramer}
+use Rattle.plane_theorems.proofs.Delaunay.Points.Bracket.{meeting, meeting-w}
+use Rattle.plane_theorems.proofs.Delaunay.Points.Nudges.{bracket-nudge, nudge, nudge-above}
+use Rattle.plane_theorems.proofs.Delaunay.Points.Nudges.{nudge-on, size}
+use Rattle.plane_theorems.proofs.Delaunay.Tilings.Faces.{Between, between-on, between-second}
+use Rattle.plane_theorems.proofs.Delaunay.Tilings.Faces.{between-swapped, between-third, corner_2}
+use Rattle.plane_theorems.proofs.Delaunay.Tilings.Faces.{none_within, side_not_inside, Tiling}
 
 -- ---- numbers
 

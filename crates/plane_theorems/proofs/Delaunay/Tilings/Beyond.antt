@@ -9,21 +9,18 @@ use mathlib.Core.Logic.{◌⊎◌, inl, inr}
 use mathlib.Core.List.{[], ◌∷◌}
 use native.Mathlib.Omega.{arith}
 use borrow.Author.Differences.{ints}
-use Rattle.plane.proofs.Steps.{weak, weak_right, left_not_zero, right_not_above, product_zero_left}
-use Rattle.plane.proofs.Steps.{not_right_strict}
-use Rattle.plane.proofs.IntegerLaws.{neg-mul_ℤ, mul-neg_ℤ}
-use Rattle.plane.proofs.Solver.{num, ◌⊕◌, ◌⊖◌, ◌⊗◌, ⊝, ring_in, ring_in_from}
-use Rattle.plane.proofs.IntegerOrder.{mul-pos_ℤ, mul-nonneg_ℤ, lt_or_ge_ℤ, sign, below, none, above}
+use Rattle.plane.specs.{Fraction}
+use Rattle.plane.proofs.{◌⊕◌, ◌⊖◌, ◌⊗◌, above, below, left_not_zero, lt_or_ge_ℤ, mul-neg_ℤ}
+use Rattle.plane.proofs.{mul-nonneg_ℤ, mul-pos_ℤ, neg-mul_ℤ, none, not_positive_or_positive}
+use Rattle.plane.proofs.{not_right_strict, num, product_zero_left, right_not_above, ring_in}
+use Rattle.plane.proofs.{ring_in_from, sign, times_one, weak, weak_right, ⊝}
 use Rattle.plane_theorems.proofs.Delaunay.Points.Bracket.{bracket, cramer, cramer-w}
-use Rattle.plane_theorems.proofs.Delaunay.Points.Nudges.{nudge, bracket-nudge, Closed}
-use Rattle.plane_theorems.proofs.Delaunay.Tilings.Faces.{Tiling, Between, between-on}
-use Rattle.plane_theorems.proofs.Delaunay.Tilings.Faces.{between-closed}
-use Rattle.plane_theorems.proofs.Delaunay.Tilings.Faces.{side_not_inside, none_within, StartsFrom}
-use Rattle.plane_theorems.proofs.Delaunay.Tilings.Faces.{Germ}
-use Rattle.plane_theorems.proofs.Delaunay.Tilings.Faces.{germ, germ-turned, germ-closed, corner_2}
+use Rattle.plane_theorems.proofs.Delaunay.Points.Nudges.{bracket-nudge, Closed, nudge}
 use Rattle.plane_theorems.proofs.Delaunay.Tilings.Across.{IsClear, sides_same}
-use Rattle.plane.specs.Fraction.{Fraction}
-use Rattle.plane.proofs.Signs.{not_positive_or_positive, times_one}
+use Rattle.plane_theorems.proofs.Delaunay.Tilings.Faces.{Between, between-closed, between-on}
+use Rattle.plane_theorems.proofs.Delaunay.Tilings.Faces.{corner_2, Germ, germ, germ-closed}
+use Rattle.plane_theorems.proofs.Delaunay.Tilings.Faces.{germ-turned, none_within, side_not_inside}
+use Rattle.plane_theorems.proofs.Delaunay.Tilings.Faces.{StartsFrom, Tiling}
 
 -- ---- numbers
 corner_sum : (d x p u r v q w n k a l b : ℤ) → d *ℤ x ≡ p *ℤ u +ℤ r *ℤ v +ℤ q *ℤ w

@@ -3,15 +3,13 @@
 use Rattle.std.proofs.Common.{◌≡◌, ℕ, ap, sym, ◌∙◌, subst}
 use mathlib.Core.Logic.{◌⊎◌, inl, inr}
 use Rattle.std.specs.Prelude.{◌≢◌, pos, ◌<ℤ◌, ◌≤ℤ◌, map}
-use Rattle.plane.proofs.Steps.{left_not_zero}
-use Rattle.plane.proofs.Sides.{not_right_if}
+use Rattle.plane.specs.{Fraction, InHull, IsFace, IsVertex, right, side, TilesHull, Triangulation}
+use Rattle.plane.specs.{vertex, whole}
+use Rattle.plane.proofs.{left_not_zero, Sides.not_right_if}
 use Rattle.plane_theorems.proofs.Delaunay.Points.Bracket.{bracket, bracket-first, bracket-second}
-use Rattle.plane_theorems.proofs.Delaunay.Tilings.Faces.{Tiling, Germ, StartsFrom}
-use Rattle.plane_theorems.proofs.Delaunay.Tilings.Faces.{germ, germ-turned, germ-closed}
+use Rattle.plane_theorems.proofs.Delaunay.Tilings.Faces.{Germ, germ, germ-closed, germ-turned}
+use Rattle.plane_theorems.proofs.Delaunay.Tilings.Faces.{StartsFrom, Tiling}
 use Rattle.plane_theorems.proofs.Delaunay.Tilings.Ground.{tiling}
-use Rattle.plane.specs.Fraction.{Fraction, whole, InHull}
-use Rattle.plane.specs.Side.{side, right}
-use Rattle.plane.specs.Tiling.{Triangulation, IsVertex, vertex, IsFace, TilesHull}
 
 module _ (T : Tiling) where
   open T use {at, IsVertex, IsFace, InHull}

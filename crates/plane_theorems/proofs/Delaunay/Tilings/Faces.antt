@@ -1,8 +1,14 @@
 -- Faces that tile a hull: what the global theorems use of a tiling, and how a point and a face lie.
--- Notions: Tiling, AreWeights, Between, StartsFrom, Germ; middle, turned-above, middle-inside,
--- both_inside, between-swapped, between-on, between-second, between-third, between-closed,
--- turns_2, corner_2, side_left, side_not_inside, none_within, germ-turned, starts-least,
--- germ-closed, germ.
+-- Tiling: vertices, faces and a hull, with what the theorems use of them, by brackets
+-- Between a b x: x is strictly between a and b
+-- between-swapped, between-on: so it is between b and a; and on their line
+-- middle a b c, middle-inside: the sum of three corners; it is strictly inside where they turn left
+-- turned-above: a bracket that is positive is so in the next rotation
+-- corner_2: the second corner of a face is a vertex
+-- Germ y z i j k: the segment from y to z begins in the face i j k
+-- germ, germ-closed: each segment in the hull begins in some face; its start is in that closed face
+-- side_not_inside: a point of a closed side is strictly inside no face
+-- none_within: no vertex is strictly within a side
 use Prim.Native.Nat.{ℕ, suc}
 use lib.IntN.{ℤ, pos, ◌+ℤ◌, ◌*ℤ◌}
 use lib.Signed.{◌<ℤ◌, ◌≤ℤ◌}
@@ -12,18 +18,13 @@ use mathlib.Core.List.{List}
 use native.Mathlib.Omega.{arith}
 use borrow.Author.Differences.{ints}
 use Rattle.std.specs.Prelude.{sum_by}
-use Rattle.plane_theorems.proofs.Delaunay.Points.Numbers.{sum_none}
-use Rattle.plane.proofs.Steps.{weak, left_not_zero}
-use Rattle.plane.proofs.IntegerOrder.{mul-pos_ℤ, pos_of_mul-pos_ℤ}
-use Rattle.plane_theorems.proofs.Delaunay.Points.Bracket.{bracket, bracket-turned, bracket-first}
-use Rattle.plane_theorems.proofs.Delaunay.Points.Bracket.{bracket-second}
+use Rattle.{plane.specs.Fraction, plane_theorems.proofs.Delaunay.Points.Bracket.bracket-turned}
+use Rattle.plane.proofs.{IsTurned, left_not_zero, mul-pos_ℤ, pos_of_mul-pos_ℤ, swapped_sum, weak}
+use Rattle.plane_theorems.proofs.Delaunay.Points.Bracket.{bracket, bracket-first, bracket-second}
 use Rattle.plane_theorems.proofs.Delaunay.Points.Members.{Member, member-le-sum_by}
-use Rattle.plane_theorems.proofs.Delaunay.Points.Nudges.{size, nudge, bracket-nudge, nudge-least}
-use Rattle.plane_theorems.proofs.Delaunay.Points.Nudges.{germ_sign}
-use Rattle.plane_theorems.proofs.Delaunay.Points.Nudges.{Closed, InOpen, room, inside-nudge}
-use Rattle.plane.specs.Fraction.{Fraction}
-use Rattle.plane.proofs.Signs.{swapped_sum}
-use Rattle.plane.proofs.Indexes.{IsTurned}
+use Rattle.plane_theorems.proofs.Delaunay.Points.Nudges.{bracket-nudge, Closed, germ_sign, InOpen}
+use Rattle.plane_theorems.proofs.Delaunay.Points.Nudges.{inside-nudge, nudge, nudge-least, room}
+use Rattle.plane_theorems.proofs.{Delaunay.Points.Nudges.size, Delaunay.Points.Numbers.sum_none}
 
 -- vertices, faces and a hull with what the global theorems use of them, by brackets
 pub record Tiling : Type 1 where

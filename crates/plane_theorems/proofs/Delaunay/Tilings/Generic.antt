@@ -11,30 +11,22 @@ use native.Mathlib.Omega.{arith}
 use borrow.Author.Differences.{ints}
 use Rattle.std.specs.Prelude.{sum_by}
 use Rattle.std.proofs.lemmas.List.Sums.{sum_by-cons}
-use Rattle.plane_theorems.proofs.Delaunay.Points.Numbers.{mix_positive}
-use Rattle.plane.proofs.Steps.{weak, weak_right, zero_weak_left, zero_weak, left_not_zero}
-use Rattle.plane.proofs.Steps.{right_not_zero}
-use Rattle.plane.proofs.IntegerLaws.{neg-mul_ℤ}
-use Rattle.plane.proofs.Solver.{◌⊖◌, ◌⊗◌, ring_over_from}
-use Rattle.plane.proofs.IntegerOrder.{mul-nonneg_ℤ, zero_of_mul-zero_ℤ, pos-ne-zero_ℤ, lt_or_ge_ℤ}
-use Rattle.plane.proofs.IntegerOrder.{Sign, sign, below, none, above, neg-pos_ℤ, zero-mul_ℤ}
-use Rattle.plane_theorems.proofs.Delaunay.Points.Bracket.{fraction, bracket, bracketᵖ, mixed}
-use Rattle.plane_theorems.proofs.Delaunay.Points.Bracket.{bracket-mixed}
-use Rattle.plane_theorems.proofs.Delaunay.Points.Bracket.{bracket-turned, bracket-swapped}
-use Rattle.plane_theorems.proofs.Delaunay.Points.Bracket.{meeting-x}
-use Rattle.plane_theorems.proofs.Delaunay.Points.Bracket.{meeting-y, meeting-w, cramer}
-use Rattle.plane_theorems.proofs.Delaunay.Points.Members.{Member}
-use Rattle.plane_theorems.proofs.Delaunay.Points.Nudges.{size, nudge, nudge-above, nudge-on, InOpen}
-use Rattle.plane_theorems.proofs.Delaunay.Points.Nudges.{room}
-use Rattle.plane_theorems.proofs.Delaunay.Points.Nudges.{inside-nudge}
-use Rattle.plane_theorems.proofs.Delaunay.Tilings.Across.{none_of_sum}
-use Rattle.plane_theorems.proofs.Delaunay.Tilings.Walk.{IsOff}
-use Rattle.plane.proofs.Means.{TwoWeights}
-use Rattle.plane.specs.Fraction.{Fraction, IsSame, IsNotNegative}
-use Rattle.plane.proofs.Signs.{negated_not_negative, one_times_sum, swapped_sum}
+use Rattle.plane.specs.{Fraction, IsNotNegative, IsSame}
+use Rattle.plane.proofs.{◌⊖◌, ◌⊗◌, above, balanced, below, bracketᵖ, left_not_zero, lt_or_ge_ℤ}
+use Rattle.plane.proofs.{mul-nonneg_ℤ, neg-mul_ℤ, neg-pos_ℤ, negated_not_negative, none}
+use Rattle.plane.proofs.{one_times_sum, pos-ne-zero_ℤ, right_not_zero, ring_over_from, Sign, sign}
+use Rattle.plane.proofs.{swapped_sum, TwoWeights, weak, weak_right, zero-mul_ℤ, zero_of_mul-zero_ℤ}
+use Rattle.plane.proofs.{zero_weak, zero_weak_left}
 use Rattle.plane_theorems.proofs.Delaunay.Floods.Flood.{swapped_above, swapped_below}
+use Rattle.plane_theorems.proofs.Delaunay.Points.Bracket.{bracket, bracket-mixed, bracket-swapped}
+use Rattle.plane_theorems.proofs.Delaunay.Points.Bracket.{bracket-turned, cramer, fraction}
+use Rattle.plane_theorems.proofs.Delaunay.Points.Bracket.{meeting-w, meeting-x, meeting-y, mixed}
+use Rattle.plane_theorems.proofs.Delaunay.Points.Members.{Member}
+use Rattle.plane_theorems.proofs.Delaunay.Points.Nudges.{InOpen, inside-nudge, nudge, nudge-above}
+use Rattle.plane_theorems.proofs.Delaunay.Points.Nudges.{nudge-on, room, size}
+use Rattle.plane_theorems.proofs.{Delaunay.Points.Numbers.mix_positive, Delaunay.Tilings.Walk.IsOff}
+use Rattle.plane_theorems.proofs.Delaunay.Tilings.Across.{none_of_sum}
 use Rattle.plane_theorems.proofs.Delaunay.Tilings.Faces.{turned-above}
-use Rattle.plane.proofs.Lines.{balanced}
 
 abbrev AllLeft : List (Fraction × Fraction) → Fraction → Type 0
 AllLeft [] q = Unit {0}

@@ -1,28 +1,30 @@
--- What the global theorems use of a tiling, from its definition, and the theorems in the
--- definitions' words.
--- Notions: sides_of, origin; inside_of, triangle_of_inside, closed_of, triangle_of_closed,
--- face_of_side, faces_same, side_listed, in_map, face_in_hull, tiling.
+-- What the global theorems use of a tiling, from its definition; and the theorems in the words of
+-- the definitions.
+-- tiling: a triangulation that tiles its hull, as a `Tiling`
+-- inside_of, triangle_of_inside: `InsideTriangle` gives `InOpen` for a left-turning triple; and
+--   back
+-- closed_of, triangle_of_closed: `InTriangle` gives `Closed` for such a triple; and back
+-- sides_of faces: the directed sides of all faces
+-- side_listed, face_of_side: a side of a face is listed there; what is listed there has a face
+-- faces_same: two faces with a common point inside are one
+-- face_in_hull: a point of a closed face is in the hull
 use Rattle.std.proofs.Common.{◌≡◌, ◌<◌, [], ◌∷◌, ◌∙◌}
 use Rattle.std.proofs.Common.{ℕ, List, length, map, refl, arith, ap, sym, subst}
 use mathlib.Core.Logic.{◌⊎◌, inl, inr}
 use native.Mathlib.Decide.{dec_lt}
 use Rattle.std.specs.Prelude.{pos, ◌<ℤ◌, Contains, slice_index_or}
 use Rattle.std.proofs.lemmas.List.{get_or_default, get_or-map, length-map}
-use Rattle.plane_theorems.proofs.Delaunay.Points.Bracket.{bracket, above_if_left}
-use Rattle.plane.proofs.Means.{three_weights}
-use Rattle.plane.proofs.Sides.{if_left}
-use Rattle.plane.proofs.Triangles.{turned_face, in_is_brackets, inside_is_brackets}
-use Rattle.plane_theorems.proofs.Delaunay.Points.Members.{Member, member, contained}
-use Rattle.plane_theorems.proofs.Delaunay.Points.Nudges.{Closed, InOpen}
-use Rattle.plane_theorems.proofs.Delaunay.Tilings.Faces.{Tiling}
-use Rattle.plane.proofs.Indexes.{IsTurned, turns_of_one}
+use Rattle.plane.specs.{AreApart, Face, face, Fraction, InHull, InsideCorners, InsideTriangle}
+use Rattle.plane.specs.{InTriangle, IsFace, IsNotNegative, IsVertex, Point, TilesHull}
+use Rattle.plane.specs.{Triangulation, TurnsLeft, vertex, whole}
+use Rattle.plane.proofs.{if_left, inside_is_brackets, IsTurned, three_weights, turned_face}
+use Rattle.plane.proofs.{Triangles.in_is_brackets, turns_of_one}
+use Rattle.plane_theorems.proofs.Delaunay.Points.Bracket.{above_if_left, bracket}
 use Rattle.plane_theorems.proofs.Delaunay.Points.Hull.{corner_in_hull, nudge_in_hull}
 use Rattle.plane_theorems.proofs.Delaunay.Points.Hull.{triangle_in_hull}
-use Rattle.plane.specs.Fraction.{Point, Fraction, whole, IsNotNegative, InTriangle, InsideTriangle}
-use Rattle.plane.specs.Fraction.{InHull}
-use Rattle.plane.specs.Side.{TurnsLeft}
-use Rattle.plane.specs.Tiling.{Triangulation, Face, face, IsVertex, vertex, IsFace, TilesHull}
-use Rattle.plane.specs.Tiling.{AreApart, InsideCorners}
+use Rattle.plane_theorems.proofs.Delaunay.Points.Members.{contained, Member, member}
+use Rattle.plane_theorems.proofs.Delaunay.Points.Nudges.{Closed, InOpen}
+use Rattle.plane_theorems.proofs.Delaunay.Tilings.Faces.{Tiling}
 
 -- ---- triangles by brackets
 -- inside of a left-turning triangle is on the left of its sides

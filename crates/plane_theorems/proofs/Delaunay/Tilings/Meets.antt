@@ -8,22 +8,18 @@ use mathlib.Core.Path.{◌≡◌, refl, sym, ◌∙◌, ap, subst}
 use mathlib.Core.Logic.{◌⊎◌, inl, inr}
 use native.Mathlib.Omega.{arith}
 use borrow.Author.Differences.{ints}
-use Rattle.plane_theorems.proofs.Delaunay.Points.Numbers.{sum_least, sum_none}
-use Rattle.plane.proofs.Steps.{weak, zero_weak_left, left_not_zero, right_not_above}
-use Rattle.plane.proofs.Steps.{product_zero_left, not_right_strict}
-use Rattle.plane.proofs.IntegerOrder.{mul-pos_ℤ, mul-nonneg_ℤ, nonneg_of_mul-nonneg_ℤ}
-use Rattle.plane.proofs.IntegerOrder.{zero_of_mul-zero_ℤ, pos-ne-zero_ℤ, Sign, sign, below, none}
-use Rattle.plane.proofs.IntegerOrder.{above, zero-mul_ℤ}
+use Rattle.plane.proofs.{above, below, left_not_zero, mul-nonneg_ℤ, mul-pos_ℤ, none}
+use Rattle.plane.proofs.{nonneg_of_mul-nonneg_ℤ, not_right_strict, pos-ne-zero_ℤ, product_zero_left}
+use Rattle.plane.proofs.{right_not_above, Sign, sign, swapped_sum, weak, zero-mul_ℤ}
+use Rattle.{plane.proofs.zero_of_mul-zero_ℤ, plane.proofs.zero_weak_left, plane.specs.Fraction}
 use Rattle.plane_theorems.proofs.Delaunay.Points.Bracket.{bracket, bracket-first, bracket-second}
-use Rattle.plane_theorems.proofs.Delaunay.Points.Bracket.{cramer}
-use Rattle.plane_theorems.proofs.Delaunay.Points.Bracket.{cramer-w}
+use Rattle.plane_theorems.proofs.Delaunay.Points.Bracket.{cramer, cramer-w}
 use Rattle.plane_theorems.proofs.Delaunay.Points.Nudges.{Closed, InOpen}
-use Rattle.plane_theorems.proofs.Delaunay.Tilings.Faces.{Tiling, AreWeights, Between, none_within}
-use Rattle.plane_theorems.proofs.Delaunay.Tilings.Faces.{side_not_inside, turned-above, corner_2}
+use Rattle.plane_theorems.proofs.Delaunay.Points.Numbers.{sum_least, sum_none}
 use Rattle.plane_theorems.proofs.Delaunay.Tilings.Across.{sides_same}
 use Rattle.plane_theorems.proofs.Delaunay.Tilings.Beyond.{not_second}
-use Rattle.plane.specs.Fraction.{Fraction}
-use Rattle.plane.proofs.Signs.{swapped_sum}
+use Rattle.plane_theorems.proofs.Delaunay.Tilings.Faces.{AreWeights, Between, corner_2, none_within}
+use Rattle.plane_theorems.proofs.Delaunay.Tilings.Faces.{side_not_inside, Tiling, turned-above}
 
 -- x is on the closed segment of a and b, for each linear form
 pub record OnSide (a b x : Fraction) : Type 0 where

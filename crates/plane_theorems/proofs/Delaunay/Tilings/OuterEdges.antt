@@ -5,18 +5,15 @@
 use Rattle.std.proofs.Common.{ℕ}
 use mathlib.Core.Logic.{◌⊎◌, inl, inr}
 use Rattle.std.specs.Prelude.{map}
-use Rattle.plane.proofs.Steps.{negated_left}
-use Rattle.plane_theorems.proofs.Delaunay.Points.Bracket.{bracket-swapped, above_if_left}
+use Rattle.plane.specs.{Fraction, HasFace, InCorners, InHull, IsEdge, IsFace, IsOuter, IsVertex}
+use Rattle.plane.specs.{TilesHull, Triangulation, TurnsLeft, vertex, whole}
+use Rattle.plane.proofs.{negated_left, Signs.negative_of_opposite}
+use Rattle.plane_theorems.proofs.Delaunay.Points.Bracket.{above_if_left, bracket-swapped}
 use Rattle.plane_theorems.proofs.Delaunay.Points.Bracket.{left_if_above}
-use Rattle.plane_theorems.proofs.Delaunay.Tilings.Ground.{tiling, closed_of, triangle_of_closed}
-use Rattle.plane_theorems.proofs.Delaunay.Tilings.Where.{IsBeyond, IsCovered, covered_or_beyond}
-use Rattle.plane_theorems.proofs.Delaunay.Tilings.Where.{corner_of_face, not_covered_and_beyond}
-use Rattle.plane.specs.Fraction.{Fraction, whole, InHull}
-use Rattle.plane.specs.Side.{TurnsLeft}
-use Rattle.plane.specs.Tiling.{Triangulation, IsVertex, IsEdge, vertex, IsFace, HasFace, InCorners}
-use Rattle.plane.specs.Tiling.{TilesHull}
-use Rattle.plane.specs.Location.{IsOuter}
-use Rattle.plane.proofs.Signs.{negative_of_opposite}
+use Rattle.plane_theorems.proofs.Delaunay.Tilings.Ground.{closed_of, tiling, triangle_of_closed}
+use Rattle.plane_theorems.proofs.Delaunay.Tilings.Where.{corner_of_face, covered_or_beyond}
+use Rattle.plane_theorems.proofs.Delaunay.Tilings.Where.{IsBeyond, IsCovered}
+use Rattle.plane_theorems.proofs.Delaunay.Tilings.Where.{not_covered_and_beyond}
 
 -- each vertex has an edge
 abbrev pub EachHasEdge : Triangulation → Type 0

@@ -10,26 +10,19 @@ use mathlib.Core.List.{[], ◌∷◌}
 use native.Mathlib.Omega.{arith}
 use borrow.Author.Differences.{ints}
 use Rattle.std.specs.Prelude.{sum_by}
-use Rattle.plane_theorems.proofs.Delaunay.Points.Numbers.{mix_positive}
-use Rattle.plane.proofs.Steps.{weak, weak_right, zero_weak_left, zero_weak, right_not_zero}
-use Rattle.plane.proofs.Steps.{negated_left}
-use Rattle.plane.proofs.IntegerLaws.{neg-mul_ℤ}
-use Rattle.plane.proofs.Solver.{num, ◌⊕◌, ◌⊖◌, ◌⊗◌, ⊝, ring_in, ring_in_from}
-use Rattle.plane.proofs.IntegerOrder.{mul-pos_ℤ, pos_of_mul-pos_ℤ, mul-neg_of_pos_neg_ℤ, sign}
-use Rattle.plane.proofs.IntegerOrder.{below, none, above, neg-pos_ℤ, zero-mul_ℤ, neg_of_mul-neg_ℤ}
-use Rattle.plane_theorems.proofs.Delaunay.Points.Bracket.{bracket, mixed, bracket-mixed}
-use Rattle.plane_theorems.proofs.Delaunay.Points.Bracket.{bracket-turned}
-use Rattle.plane_theorems.proofs.Delaunay.Points.Bracket.{bracket-swapped, bracket-first}
-use Rattle.plane_theorems.proofs.Delaunay.Points.Bracket.{bracket-second}
-use Rattle.plane_theorems.proofs.Delaunay.Points.Bracket.{meeting}
-use Rattle.plane_theorems.proofs.Delaunay.Points.Members.{sum_by-lt}
-use Rattle.plane_theorems.proofs.Delaunay.Points.Nudges.{size, nudged, Closed, InOpen}
-use Rattle.plane_theorems.proofs.Delaunay.Tilings.Faces.{Tiling}
-use Rattle.plane_theorems.proofs.Delaunay.Tilings.Beyond.{Exit, stays, by_first, by_second}
-use Rattle.plane_theorems.proofs.Delaunay.Tilings.Beyond.{by_third, exit}
-use Rattle.plane.specs.Fraction.{Fraction}
+use Rattle.{plane.specs.Fraction, plane_theorems.proofs.Delaunay.Points.Numbers.mix_positive}
+use Rattle.plane.proofs.{◌⊕◌, ◌⊖◌, ◌⊗◌, above, balanced, below, mul-neg_of_pos_neg_ℤ, mul-pos_ℤ}
+use Rattle.plane.proofs.{neg-mul_ℤ, neg-pos_ℤ, neg_of_mul-neg_ℤ, negated_left, none, num}
+use Rattle.plane.proofs.{pos_of_mul-pos_ℤ, right_not_zero, ring_in, ring_in_from, sign, weak}
+use Rattle.plane.proofs.{weak_right, zero-mul_ℤ, zero_weak, zero_weak_left, ⊝}
 use Rattle.plane.proofs.Signs.{negative_and_not}
-use Rattle.plane.proofs.Lines.{balanced}
+use Rattle.plane_theorems.proofs.Delaunay.Points.Bracket.{bracket, bracket-first, bracket-mixed}
+use Rattle.plane_theorems.proofs.Delaunay.Points.Bracket.{bracket-second, bracket-swapped}
+use Rattle.plane_theorems.proofs.Delaunay.Points.Bracket.{bracket-turned, meeting, mixed}
+use Rattle.plane_theorems.proofs.{Delaunay.Points.Members.sum_by-lt, Delaunay.Tilings.Beyond.stays}
+use Rattle.plane_theorems.proofs.Delaunay.Points.Nudges.{Closed, InOpen, nudged, size}
+use Rattle.plane_theorems.proofs.Delaunay.Tilings.Beyond.{by_first, by_second, by_third, Exit, exit}
+use Rattle.plane_theorems.proofs.Delaunay.Tilings.Faces.{Tiling}
 
 -- the way from y, a point of a triangle, to z leaves it through the side a b
 pub record Leaves (y z a b c : Fraction) : Type 0 where

@@ -7,27 +7,22 @@ use mathlib.Core.Logic.{◌⊎◌, inl, inr}
 use native.Mathlib.Decide.{ℕ_discrete}
 use Rattle.std.specs.Prelude.{ℤ, pos, ◌<ℤ◌, ◌≤ℤ◌, ◌+ℤ◌, ◌*ℤ◌}
 use Rattle.std.proofs.lemmas.Int.{ints}
-use Rattle.plane.proofs.Steps.{weak, zero_weak_left, left_not_zero, right_not_above}
-use Rattle.plane.proofs.IntegerOrder.{mul-nonneg_ℤ, nonneg_of_mul-nonneg_ℤ, lt_or_ge_ℤ}
-use Rattle.plane_theorems.proofs.Delaunay.Points.Bracket.{bracket, cramer, bracket-first}
-use Rattle.plane_theorems.proofs.Delaunay.Points.Bracket.{bracket-second}
-use Rattle.plane_theorems.proofs.Delaunay.Points.Members.{Member}
-use Rattle.plane_theorems.proofs.Delaunay.Points.Numbers.{less_again}
-use Rattle.plane_theorems.proofs.Delaunay.Points.Nudges.{Closed, InOpen, inside-turned}
-use Rattle.plane_theorems.proofs.Delaunay.Points.Nudges.{closed_of_inside}
-use Rattle.plane_theorems.proofs.Delaunay.Tilings.Faces.{Tiling, side_not_inside, turned-above}
-use Rattle.plane_theorems.proofs.Delaunay.Tilings.Faces.{middle}
-use Rattle.plane_theorems.proofs.Delaunay.Tilings.Faces.{middle-inside}
-use Rattle.plane_theorems.proofs.Delaunay.Tilings.Beyond.{face_across}
-use Rattle.plane_theorems.proofs.Delaunay.Tilings.Walk.{IsOff, OnWay, Leaves, Step, reached}
-use Rattle.plane_theorems.proofs.Delaunay.Tilings.Walk.{leaves_first}
-use Rattle.plane_theorems.proofs.Delaunay.Tilings.Walk.{leaves_second, leaves_third, step}
-use Rattle.plane_theorems.proofs.Delaunay.Tilings.Walk.{passes_between}
-use Rattle.plane_theorems.proofs.Delaunay.Tilings.Walk.{separation, beyond}
-use Rattle.plane_theorems.proofs.Delaunay.Tilings.Generic.{generic_point}
-use Rattle.plane_theorems.proofs.Delaunay.Circles.Global.{rays, rays-off, off-on_way}
-use Rattle.plane.specs.Fraction.{Fraction}
 use Rattle.std.proofs.Math.Nat.{lt-suc_self}
+use Rattle.{plane.specs.Fraction, plane_theorems.proofs.Delaunay.Tilings.Generic.generic_point}
+use Rattle.plane.proofs.{left_not_zero, lt_or_ge_ℤ, mul-nonneg_ℤ, nonneg_of_mul-nonneg_ℤ}
+use Rattle.plane.proofs.{right_not_above, weak, zero_weak_left}
+use Rattle.plane_theorems.proofs.Delaunay.Circles.Global.{off-on_way, rays, rays-off}
+use Rattle.plane_theorems.proofs.Delaunay.Points.Bracket.{bracket, bracket-first, bracket-second}
+use Rattle.plane_theorems.proofs.{Delaunay.Points.Bracket.cramer, Delaunay.Points.Members.Member}
+use Rattle.plane_theorems.proofs.Delaunay.Points.Nudges.{Closed, closed_of_inside, InOpen}
+use Rattle.plane_theorems.proofs.{Delaunay.Points.Nudges.inside-turned, Delaunay.Tilings.Walk.step}
+use Rattle.plane_theorems.proofs.Delaunay.Points.Numbers.{less_again}
+use Rattle.plane_theorems.proofs.Delaunay.Tilings.Beyond.{face_across}
+use Rattle.plane_theorems.proofs.Delaunay.Tilings.Faces.{middle, middle-inside, side_not_inside}
+use Rattle.plane_theorems.proofs.Delaunay.Tilings.Faces.{Tiling, turned-above}
+use Rattle.plane_theorems.proofs.Delaunay.Tilings.Walk.{beyond, IsOff, Leaves, leaves_first}
+use Rattle.plane_theorems.proofs.Delaunay.Tilings.Walk.{leaves_second, leaves_third, OnWay}
+use Rattle.plane_theorems.proofs.Delaunay.Tilings.Walk.{passes_between, reached, separation, Step}
 
 -- a pair is in a list, or not
 pub listed_or_not : (i j : ℕ) (ss : List (ℕ × ℕ)) → Member (i, j) ss ⊎ (¬ Member (i, j) ss)

@@ -6,25 +6,20 @@ use Rattle.std.proofs.Common.{arith}
 use mathlib.Core.Logic.{inl, inr, ◌≢◌}
 use Rattle.std.specs.Prelude.{ℤ, pos, ◌+ℤ◌, ◌≤ℤ◌, ◌<ℤ◌, Contains}
 use Rattle.std.proofs.lemmas.Int.{ints}
-use Rattle.plane.proofs.Signs.{at_most_if_not_less}
-use Rattle.plane.specs.Fraction.{Point, whole, WithinSegment}
-use Rattle.plane.specs.Tiling.{Face, face}
-use Rattle.plane_theorems.specs.Tiling.Local.{total, around, along, IsAntisymmetric}
-use Rattle.plane.proofs.Steps.{negated_below, left_not_below}
-use Rattle.plane_theorems.proofs.Tiling.Totals.{Contains-later, Contains-cases, Contains-none}
-use Rattle.plane.proofs.Bracket.{bracket}
-use Rattle.plane.proofs.BracketIdentities.{bracket-turn, bracket-swap}
+use Rattle.plane.specs.{Face, face, Point, whole, WithinSegment}
+use Rattle.plane.proofs.{at_most_if_not_less, bracket, bracket-swap, bracket-turn, IsFresh}
+use Rattle.plane.proofs.{left_not_below, negated_below}
+use Rattle.plane_theorems.specs.{along, around, FacesChange, fan, IsAntisymmetric, last_of}
+use Rattle.plane_theorems.specs.{OuterChange, steps, total}
+use Rattle.plane_theorems.proofs.Edits.LocalMesh.Additions.{added, IsWithinNone, LivesUpTo}
+use Rattle.plane_theorems.proofs.Edits.LocalMesh.Additions.{new_edges, new_edges_owe, within_outer}
+use Rattle.plane_theorems.proofs.Edits.LocalMesh.Changes.{AreAmong, Each, IsOnce, once_cons}
+use Rattle.plane_theorems.proofs.Edits.LocalMesh.Changes.{once_none, to_each, to_once}
+use Rattle.plane_theorems.proofs.Edits.LocalMesh.Exchange.{AreTurning}
 use Rattle.plane_theorems.proofs.Tiling.Counting.{at, SignMesh, within_turned}
-use Rattle.plane.proofs.Generic.{IsFresh}
+use Rattle.plane_theorems.proofs.Tiling.Totals.{Contains-cases, Contains-later, Contains-none}
 use Rattle.plane_theorems.proofs.Tiling.Edges as E
 use Rattle.plane_theorems.proofs.Tiling.Places as P
-use Rattle.plane_theorems.specs.Edits.Change.{FacesChange, OuterChange}
-use Rattle.plane_theorems.specs.Edits.Extension.{fan, steps, last_of}
-use Rattle.plane_theorems.proofs.Edits.LocalMesh.Changes.{Each, to_each, to_once, AreAmong, IsOnce}
-use Rattle.plane_theorems.proofs.Edits.LocalMesh.Changes.{once_none, once_cons}
-use Rattle.plane_theorems.proofs.Edits.LocalMesh.Exchange.{AreTurning}
-use Rattle.plane_theorems.proofs.Edits.LocalMesh.Additions.{LivesUpTo, IsWithinNone, within_outer}
-use Rattle.plane_theorems.proofs.Edits.LocalMesh.Additions.{new_edges, new_edges_owe, added}
 use Rattle.plane_theorems.proofs.Edits.Insertion.Hull as H
 pub use Rattle.plane_theorems.proofs.Edits.Insertion.Hull.{IsRun}
 

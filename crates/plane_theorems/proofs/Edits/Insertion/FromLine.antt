@@ -6,46 +6,35 @@ use Rattle.std.proofs.Common.{arith}
 use mathlib.Core.Logic.{inl, inr}
 use Rattle.std.specs.Prelude.{ℤ, pos, ◌+ℤ◌, ◌-ℤ◌, ◌*ℤ◌, ◌≤ℤ◌, ◌<ℤ◌, neg_ℤ, Contains}
 use Rattle.std.proofs.lemmas.Int.{ints}
-use Rattle.plane.specs.Fraction.{Point, whole, IsPositive, WithinSegment}
-use Rattle.plane.specs.Tiling.{Face, face}
-use Rattle.plane_theorems.specs.Tiling.Local.{total, along, IsAntisymmetric}
-use Rattle.plane.proofs.IntegerOrder.{mul-pos_ℤ, zero-mul_ℤ, lt_or_ge_ℤ, pos_of_mul-pos_ℤ}
-use Rattle.plane.proofs.IntegerOrder.{nonneg_of_mul-nonneg_ℤ, mul-nonneg_ℤ}
-use Rattle.plane.proofs.Steps.{product_zero_left, weak, left_not_zero, left_not_below, zero_weak}
-use Rattle.plane.proofs.Solver.{Poly, num, ◌⊕◌, ◌⊖◌, ◌⊗◌, ring_over}
-use Rattle.plane.proofs.Bracket.{bracket, bracketᵖ, lift, Pointᵖ, points, liftᵖ}
-use Rattle.plane.proofs.BracketIdentities.{bracket-turn, bracket-swap}
-use Rattle.plane.proofs.Means.{two_weights}
-use Rattle.plane.proofs.Collinear.{place_on, place_of_end}
-use Rattle.plane_theorems.proofs.Tiling.Totals.{Contains-later, Contains-cases, Contains-none}
-use Rattle.plane_theorems.proofs.Tiling.Counting.{at, SignMesh, same_place, within_turned}
-use Rattle.plane_theorems.proofs.Tiling.Edges as E
-use Rattle.plane_theorems.proofs.Tiling.Flows.{no_turn}
-use Rattle.plane_theorems.proofs.Tiling.Line.{Adjoin, SignLine, back_way}
-use Rattle.plane_theorems.proofs.Tiling.LinePlaces.{nearest_below, ArePlaces, none_between_places}
-use Rattle.plane_theorems.proofs.Tiling.LinePlaces.{next_below}
-use Rattle.plane.proofs.Generic.{IsFresh, LieOnLine, distinct_with_next}
-use Rattle.plane.proofs.LineOrder.{IsBetween, place_within, within_places}
-use Rattle.plane_theorems.specs.Edits.Change.{FacesChange, OuterChange}
-use Rattle.plane_theorems.specs.Edits.Extension.{fan, steps, last_of}
-use Rattle.plane_theorems.proofs.Edits.LocalMesh.Changes.{face_from, to_each, to_once, IsOnce}
-use Rattle.plane_theorems.proofs.Edits.LocalMesh.Changes.{same_total, mapped, from_map, total_map}
-use Rattle.plane_theorems.proofs.Edits.LocalMesh.Changes.{once_under_map}
-use Rattle.plane_theorems.proofs.Edits.LocalMesh.Exchange.{IsUsed, IsTouched, IsBorder, all_turn}
-use Rattle.plane_theorems.proofs.Edits.LocalMesh.Exchange.{exchanged}
-use Rattle.plane_theorems.proofs.Edits.LocalMesh.Exchange.{to_signs, some_made}
-use Rattle.plane_theorems.proofs.Edits.LocalMesh.Additions.{LivesUpTo, lives_below, SupportsOld}
-use Rattle.plane_theorems.proofs.Edits.LocalMesh.Additions.{IsBareOfOld}
-use Rattle.plane_theorems.proofs.Edits.LocalMesh.Additions.{new_edges, new_edges_owe}
-use Rattle.plane_theorems.proofs.Edits.Insertion.Extension.{IsRun, AreOpen, AreSeen, steps_once}
+use Rattle.plane.specs.{Face, face, IsPositive, Point, whole, WithinSegment}
+use Rattle.plane.proofs.{◌⊕◌, ◌⊖◌, ◌⊗◌, at_most_both_ways, at_most_itself, below_or_last, bracket}
+use Rattle.plane.proofs.{bracket-swap, bracket-turn, bracketᵖ, difference_is_positive}
+use Rattle.plane.proofs.{difference_not_negative, distinct_with_next, IsBetween, IsFresh}
+use Rattle.plane.proofs.{left_not_below, left_not_zero, less_by_difference, LieOnLine, lift, liftᵖ}
+use Rattle.plane.proofs.{lt_or_ge_ℤ, mul-nonneg_ℤ, mul-pos_ℤ, nonneg_of_mul-nonneg_ℤ, num}
+use Rattle.plane.proofs.{place_of_end, place_on, place_within, points, Pointᵖ, Poly}
+use Rattle.plane.proofs.{pos_of_mul-pos_ℤ, product_zero_left, ring_over, sum_of_zeros, two_weights}
+use Rattle.plane.proofs.{weak, within_places, zero-mul_ℤ, zero_weak}
+use Rattle.plane.proofs.Signs.{opposite_not_positive}
+use Rattle.plane_theorems.specs.{along, FacesChange, fan, IsAntisymmetric, last_of, OuterChange}
+use Rattle.plane_theorems.specs.{steps, total}
+use Rattle.plane_theorems.proofs.Edits.Insertion.Extension.{AreOpen, AreSeen, fan_total, fan_turns}
+use Rattle.plane_theorems.proofs.Edits.Insertion.Extension.{last_step, run_up_to, steps_once}
 use Rattle.plane_theorems.proofs.Edits.Insertion.Extension.{unseen}
-use Rattle.plane_theorems.proofs.Edits.Insertion.Extension.{run_up_to, fan_turns, fan_total}
-use Rattle.plane_theorems.proofs.Edits.Insertion.Extension.{last_step}
-use Rattle.plane.proofs.Signs.{difference_is_positive, difference_not_negative, less_by_difference}
-use Rattle.plane.proofs.Signs.{sum_of_zeros, opposite_not_positive, at_most_both_ways}
-use Rattle.plane.proofs.Signs.{at_most_itself}
-use Rattle.plane_theorems.proofs.Edits.Insertion.Hull.{factor_left}
-use Rattle.plane.proofs.Indexes.{below_or_last}
+use Rattle.plane_theorems.proofs.Edits.Insertion.Hull.{factor_left, IsRun}
+use Rattle.plane_theorems.proofs.Edits.LocalMesh.Additions.{IsBareOfOld, lives_below, LivesUpTo}
+use Rattle.plane_theorems.proofs.Edits.LocalMesh.Additions.{new_edges, new_edges_owe, SupportsOld}
+use Rattle.plane_theorems.proofs.Edits.LocalMesh.Changes.{face_from, from_map, IsOnce, mapped}
+use Rattle.plane_theorems.proofs.Edits.LocalMesh.Changes.{once_under_map, same_total, to_each}
+use Rattle.plane_theorems.proofs.Edits.LocalMesh.Changes.{to_once, total_map}
+use Rattle.plane_theorems.proofs.Edits.LocalMesh.Exchange.{all_turn, exchanged, IsBorder, IsTouched}
+use Rattle.plane_theorems.proofs.Edits.LocalMesh.Exchange.{IsUsed, some_made, to_signs}
+use Rattle.plane_theorems.proofs.Tiling.Counting.{at, same_place, SignMesh, within_turned}
+use Rattle.plane_theorems.proofs.{Tiling.Flows.no_turn, Tiling.LinePlaces.none_between_places}
+use Rattle.plane_theorems.proofs.Tiling.Line.{Adjoin, back_way, SignLine}
+use Rattle.plane_theorems.proofs.Tiling.LinePlaces.{ArePlaces, nearest_below, next_below}
+use Rattle.plane_theorems.proofs.Tiling.Totals.{Contains-cases, Contains-later, Contains-none}
+use Rattle.plane_theorems.proofs.Tiling.Edges as E
 
 -- ---- turns towards q, by places on the line of a and b
 abbrev placeᵖ : Pointᵖ → Pointᵖ → Pointᵖ → Poly

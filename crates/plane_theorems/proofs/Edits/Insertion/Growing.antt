@@ -8,33 +8,23 @@ use Rattle.std.specs.Prelude.{ℤ, pos, ◌+ℤ◌, ◌≤ℤ◌, ◌<ℤ◌, Co
 use Rattle.std.proofs.lemmas.Int.{ints}
 use Rattle.std.proofs.lemmas.List.Elements.{Contains-append_left, Contains-append_right}
 use Rattle.std.proofs.lemmas.List.Elements.{Contains-append_cases}
-use Rattle.plane.specs.Fraction.{Point}
-use Rattle.plane.specs.Side.{TurnsLeft}
-use Rattle.plane.specs.Pairs.{place}
-use Rattle.plane.specs.Tiling.{Face, face}
-use Rattle.plane_theorems.specs.Tiling.Local.{total, LocalMesh}
-use Rattle.plane.proofs.Steps.{left_not_zero}
-use Rattle.plane.proofs.Sides.{if_left}
-use Rattle.plane.proofs.Bracket.{bracket}
-use Rattle.plane.proofs.BracketIdentities.{bracket-same, bracket-outer, bracket-last}
-use Rattle.plane_theorems.proofs.Tiling.Totals.{Contains-later, Contains-cases, Contains-none}
+use Rattle.plane.specs.{Face, face, place, Point, TurnsLeft}
+use Rattle.plane.proofs.{bracket, bracket-last, bracket-outer, bracket-same, if_left, left_not_zero}
+use Rattle.plane_theorems.specs.{FacesChange, fan, IsExtending, IsSeenRun, last_of, LocalMesh}
+use Rattle.plane_theorems.specs.{Edits.Laws.ExtensionGoesOn, OuterChange, steps, total}
+use Rattle.plane_theorems.specs.Edits.Laws.{ExtensionBegins, ExtensionEnds, ExtensionGoesBack}
+use Rattle.plane_theorems.proofs.Edits.Insertion.Extension.{extended, fan_snoc, last_of_snoc}
+use Rattle.plane_theorems.proofs.Edits.Insertion.Extension.{steps_snoc}
+use Rattle.plane_theorems.proofs.Edits.Insertion.Hull.{IsRun, run_is_open}
+use Rattle.plane_theorems.proofs.Edits.LocalMesh.Additions.{new_edges}
+use Rattle.plane_theorems.proofs.Edits.LocalMesh.Changes.{change_after, face_kept, IsOnce, of_each}
+use Rattle.plane_theorems.proofs.Edits.LocalMesh.Changes.{total_append}
+use Rattle.plane_theorems.proofs.{Edits.LocalMesh.Exchange.outer_totals, Tiling.Rising.total_ones}
+use Rattle.plane_theorems.proofs.Edits.LocalMesh.Kept.{from_last, with_last}
 use Rattle.plane_theorems.proofs.Tiling.Counting.{at, SignMesh}
 use Rattle.plane_theorems.proofs.Tiling.Flows.{IsTurnOf, no_turn}
-use Rattle.plane_theorems.proofs.Tiling.Tiles.{point_at, bracket_not_left}
-use Rattle.plane_theorems.specs.Edits.Change.{FacesChange, OuterChange}
-use Rattle.plane_theorems.specs.Edits.Extension.{fan, steps, last_of, IsSeenRun, IsExtending}
-use Rattle.plane_theorems.specs.Edits.Laws.{ExtensionBegins, ExtensionGoesOn, ExtensionGoesBack}
-use Rattle.plane_theorems.specs.Edits.Laws.{ExtensionEnds}
-use Rattle.plane_theorems.proofs.Edits.LocalMesh.Changes.{face_kept, of_each, change_after, IsOnce}
-use Rattle.plane_theorems.proofs.Edits.LocalMesh.Changes.{total_append}
-use Rattle.plane_theorems.proofs.Edits.LocalMesh.Additions.{new_edges}
-use Rattle.plane_theorems.proofs.Edits.LocalMesh.Exchange.{outer_totals}
-use Rattle.plane_theorems.proofs.Edits.Insertion.Extension.{steps_snoc, fan_snoc, last_of_snoc}
-use Rattle.plane_theorems.proofs.Edits.Insertion.Extension.{IsRun}
-use Rattle.plane_theorems.proofs.Edits.Insertion.Extension.{extended}
-use Rattle.plane_theorems.proofs.Edits.Insertion.Hull.{run_is_open}
-use Rattle.plane_theorems.proofs.Edits.LocalMesh.Kept.{with_last, from_last}
-use Rattle.plane_theorems.proofs.Tiling.Rising.{total_ones}
+use Rattle.plane_theorems.proofs.Tiling.Tiles.{bracket_not_left, point_at}
+use Rattle.plane_theorems.proofs.Tiling.Totals.{Contains-cases, Contains-later, Contains-none}
 
 -- two outer edges go and one comes
 pub one_less : (old new : List (ℕ × ℕ)) (d e f : ℕ × ℕ) → OuterChange old new (d ∷ e ∷ []) (f ∷ [])

@@ -10,31 +10,23 @@ use Rattle.std.specs.Prelude.{ℤ, pos, ◌+ℤ◌, ◌-ℤ◌, ◌*ℤ◌, ◌�
 use Rattle.std.proofs.lemmas.Int.{ints}
 use lib.IntN.{*ℤ_comm}
 use Rattle.std.proofs.lemmas.Bool.{cases_eq}
-use Rattle.plane.specs.Fraction.{Point, whole, IsPositive, WithinSegment}
-use Rattle.plane.specs.Tiling.{Face}
-use Rattle.plane.proofs.IntegerOrder.{mul-pos_ℤ, mul-nonpos_of_nonneg_nonpos_ℤ, mul-nonneg_ℤ}
-use Rattle.plane.proofs.IntegerOrder.{zero_of_mul-zero_ℤ, pos-ne-zero_ℤ, zero-mul_ℤ, trichotomy_ℤ}
-use Rattle.plane.proofs.IntegerOrder.{lt_or_ge_ℤ, pos_of_mul-pos_ℤ, nonneg_of_mul-nonneg_ℤ}
-use Rattle.plane.proofs.IntegerOrder.{neg-pos_ℤ}
-use Rattle.plane.proofs.Steps.{left_not_zero, weak, left_not_below, between_zero}
-use Rattle.plane.proofs.Steps.{not_left_of_product, negated_below, zero_or_left, product_zero_left}
-use Rattle.plane.proofs.Steps.{drop_zero, drop_zero_last}
-use Rattle.plane.proofs.Solver.{num, ◌⊕◌, ◌⊖◌, ◌⊗◌, ring_over}
-use Rattle.plane.proofs.Bracket.{Vec3, bracket, bracketᵖ, vec3, lift}
-use Rattle.plane.proofs.BracketIdentities.{bracket-turn, bracket-swap, bracket-sum, bracket-outer}
-use Rattle.plane.proofs.BracketIdentities.{pluecker, bracket-last, cramer, cramer_x, cramer_y}
-use Rattle.plane.proofs.BracketIdentities.{cramer_w}
-use Rattle.plane.proofs.Means.{two_weights, mean_of_two}
-use Rattle.plane.proofs.Collinear.{place_on, place_of_start, place_of_end, within_by_places}
-use Rattle.plane.proofs.Collinear.{same_by_places}
-use Rattle.plane.proofs.Generic.{not_on_line}
+use Rattle.plane.specs.{Face, IsPositive, Point, whole, WithinSegment}
+use Rattle.plane.proofs.{◌⊕◌, ◌⊖◌, ◌⊗◌, at_most_if_not_less, between_zero, bracket, bracket-last}
+use Rattle.plane.proofs.{bracket-outer, bracket-sum, bracket-swap, bracket-turn, bracketᵖ, cramer}
+use Rattle.plane.proofs.{cramer_w, cramer_x, cramer_y, drop_zero, drop_zero_last, left_not_below}
+use Rattle.plane.proofs.{left_not_zero, less_if_not_same, lift, lt_or_ge_ℤ, mean_of_two}
+use Rattle.plane.proofs.{mul-nonneg_ℤ, mul-nonpos_of_nonneg_nonpos_ℤ, mul-pos_ℤ, neg-pos_ℤ}
+use Rattle.plane.proofs.{negated_below, nonneg_of_mul-nonneg_ℤ, not_left_of_product, not_on_line}
+use Rattle.plane.proofs.{num, place_of_end, place_of_start, place_on, pluecker, pos-ne-zero_ℤ}
+use Rattle.plane.proofs.{pos_of_mul-pos_ℤ, product_zero_left, ring_over, same_by_places}
+use Rattle.plane.proofs.{trichotomy_ℤ, two_weights, Vec3, vec3, weak, within_by_places, zero-mul_ℤ}
+use Rattle.plane.proofs.{zero_of_mul-zero_ℤ, zero_or_left}
+use Rattle.plane.proofs.Signs.{last_of_three, opposite_not_positive}
+use Rattle.plane_theorems.specs.{last_of, steps}
 use Rattle.plane_theorems.proofs.Tiling.Counting.{at, SignMesh, within_turned}
 use Rattle.plane_theorems.proofs.Tiling.Totals.{Contains-later}
-use Rattle.plane_theorems.specs.Edits.Extension.{steps, last_of}
 use Rattle.plane_theorems.proofs.Tiling.Covering as C
 use Rattle.plane_theorems.proofs.Tiling.Edges as E
-use Rattle.plane.proofs.Signs.{last_of_three, opposite_not_positive, at_most_if_not_less}
-use Rattle.plane.proofs.Signs.{less_if_not_same}
 
 -- Plücker's relation, by signs
 first_not_left : (a b c d e f : ℤ) → a *ℤ b -ℤ c *ℤ d +ℤ e *ℤ f ≡ pos 0 → (c *ℤ d) ≤ℤ pos 0

@@ -5,29 +5,21 @@ use Rattle.std.proofs.Common.{◌≡◌, ◌<◌, [], ◌∷◌, ℕ, suc, List,
 use mathlib.Core.Logic.{inl, inr}
 use Rattle.std.specs.Prelude.{ℤ, pos, ◌+ℤ◌, ◌*ℤ◌, ◌<ℤ◌, Contains}
 use Rattle.std.proofs.lemmas.Int.{ints}
-use Rattle.plane.specs.Fraction.{Point, whole, IsPositive, WithinSegment}
-use Rattle.plane.specs.Tiling.{Face, face}
-use Rattle.plane.proofs.IntegerOrder.{mul-pos_ℤ}
-use Rattle.plane.proofs.Steps.{left_not_below}
-use Rattle.plane.proofs.Solver.{◌⊕◌, ◌⊗◌, ring_in_from}
-use Rattle.plane.proofs.Bracket.{bracket}
-use Rattle.plane.proofs.BracketIdentities.{bracket-turn}
-use Rattle.plane.proofs.Means.{two_weights, mean_of_two}
-use Rattle.plane.proofs.Generic.{Inside, IsFresh}
+use Rattle.plane.specs.{Face, face, IsPositive, Point, whole, WithinSegment}
+use Rattle.plane.proofs.{◌⊕◌, ◌⊗◌, at_most_if_not_less, bracket, bracket-turn, Inside, IsFresh}
+use Rattle.plane.proofs.{left_not_below, mean_of_two, mul-pos_ℤ, ring_in_from, sum_is_positive}
+use Rattle.plane.proofs.{two_weights}
+use Rattle.plane_theorems.specs.{FacesChange, OuterChange}
+use Rattle.plane_theorems.proofs.{Edits.Insertion.Hull.halves, Tiling.Flows.IsTurnOf}
+use Rattle.plane_theorems.proofs.Edits.LocalMesh.Additions.{added, IsBareOfOld, IsWithinNone}
+use Rattle.plane_theorems.proofs.Edits.LocalMesh.Additions.{LivesUpTo, new_edges, new_edges_owe}
+use Rattle.plane_theorems.proofs.Edits.LocalMesh.Additions.{not_left, SupportsOld, within_outer}
+use Rattle.plane_theorems.proofs.Edits.LocalMesh.Exchange.{all_stay, IsUsed}
 use Rattle.plane_theorems.proofs.Tiling.Counting.{at, SignMesh, within_turned}
-use Rattle.plane_theorems.proofs.Tiling.Flows.{IsTurnOf}
 use Rattle.plane_theorems.proofs.Tiling.Covering as C
 use Rattle.plane_theorems.proofs.Tiling.Places as P
-use Rattle.plane_theorems.proofs.Edits.Insertion.Hull.{halves}
 use Rattle.plane_theorems.proofs.Tiling.Edges as E
 use Rattle.plane_theorems.proofs.Tiling.Loops as L
-use Rattle.plane_theorems.specs.Edits.Change.{FacesChange, OuterChange}
-use Rattle.plane_theorems.proofs.Edits.LocalMesh.Exchange.{IsUsed, all_stay}
-use Rattle.plane_theorems.proofs.Edits.LocalMesh.Additions.{LivesUpTo, IsWithinNone, SupportsOld}
-use Rattle.plane_theorems.proofs.Edits.LocalMesh.Additions.{not_left}
-use Rattle.plane_theorems.proofs.Edits.LocalMesh.Additions.{within_outer, IsBareOfOld, new_edges}
-use Rattle.plane_theorems.proofs.Edits.LocalMesh.Additions.{new_edges_owe, added}
-use Rattle.plane.proofs.Signs.{sum_is_positive, at_most_if_not_less}
 
 -- a point within the first part of a segment is within the segment
 part_within : (a b c d : Point) → WithinSegment (whole a) (whole b) (whole c)

@@ -4,26 +4,17 @@
 use Rattle.std.proofs.Common.{◌⊎◌, ℕ, List, [], ◌∷◌, ◌++◌, length, sym, refl, arith}
 use mathlib.Core.Logic.{inl, inr}
 use Rattle.std.specs.Prelude.{Contains}
-use Rattle.plane.specs.Fraction.{Point}
-use Rattle.plane.specs.Pairs.{place, IsSamePair}
-use Rattle.plane.specs.Tiling.{Face}
-use Rattle.plane_theorems.specs.Tiling.Local.{LineMesh}
-use Rattle.plane.proofs.Sides.{if_left}
-use Rattle.plane_theorems.proofs.Tiling.Totals.{Contains-none}
-use Rattle.plane_theorems.proofs.Tiling.Counting.{at}
-use Rattle.plane_theorems.proofs.Tiling.Line.{SignLine}
-use Rattle.plane_theorems.proofs.Tiling.LineMeshes.{line_by_signs, same_line, line_extended}
-use Rattle.plane_theorems.proofs.Tiling.LineMeshes.{line_split}
-use Rattle.plane_theorems.proofs.Tiling.Tiles.{point_at, bracket_not_left}
-use Rattle.plane_theorems.proofs.Tiling.Appended.{kept_point}
-use Rattle.plane_theorems.specs.Edits.Extension.{IsExtending}
-use Rattle.plane_theorems.specs.Edits.Laws.{ExtensionOverLineEnds, InsertionPastEndKeeps}
-use Rattle.plane_theorems.specs.Edits.Laws.{InsertionBetweenKeeps}
-use Rattle.plane_theorems.proofs.Edits.Insertion.Extension.{IsRun}
-use Rattle.plane_theorems.proofs.Edits.Insertion.FromLine.{before_is_left, after_is_left, raised}
-use Rattle.plane_theorems.proofs.Edits.Insertion.Growing.{run_signs}
-use Rattle.plane_theorems.proofs.Edits.LocalMesh.Changes.{of_each}
-use Rattle.plane_theorems.proofs.Edits.LocalMesh.Kept.{from_last}
+use Rattle.plane.specs.{Face, IsSamePair, place, Point}
+use Rattle.{plane.proofs.if_left, plane_theorems.proofs.Tiling.Counting.at}
+use Rattle.plane_theorems.specs.{Edits.Laws.InsertionPastEndKeeps, IsExtending, LineMesh}
+use Rattle.plane_theorems.specs.Edits.Laws.{ExtensionOverLineEnds, InsertionBetweenKeeps}
+use Rattle.plane_theorems.proofs.Edits.Insertion.FromLine.{after_is_left, before_is_left, raised}
+use Rattle.plane_theorems.proofs.{Edits.Insertion.Growing.run_signs, Edits.LocalMesh.Kept.from_last}
+use Rattle.plane_theorems.proofs.{Edits.Insertion.Hull.IsRun, Tiling.Totals.Contains-none}
+use Rattle.plane_theorems.proofs.{Edits.LocalMesh.Changes.of_each, Tiling.LineMeshes.same_line}
+use Rattle.plane_theorems.proofs.{Tiling.Appended.kept_point, Tiling.Line.SignLine}
+use Rattle.plane_theorems.proofs.Tiling.LineMeshes.{line_by_signs, line_extended, line_split}
+use Rattle.plane_theorems.proofs.Tiling.Tiles.{bracket_not_left, point_at}
 
 module _ (points : List Point) (new : List Face) (outer now : List (ℕ × ℕ)) (q : Point) (u w : ℕ)
     (m : LineMesh points outer) (g : IsExtending points q [] new outer now u w) where

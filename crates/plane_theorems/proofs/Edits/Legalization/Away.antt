@@ -10,42 +10,31 @@ use Rattle.std.proofs.lemmas.Int.{ints}
 use Rattle.std.proofs.lemmas.Bool.{cases_eq}
 use Rattle.std.proofs.lemmas.List.{length-append}
 use Rattle.std.proofs.lemmas.List.Elements.{Contains-append_left, Contains-append_right}
-use Rattle.plane.specs.Fraction.{Point, Fraction, whole, IsPositive, WithinSegment}
-use Rattle.plane.specs.Tiling.{Face, face}
-use Rattle.plane.proofs.IntegerOrder.{mul-pos_ℤ, mul-nonneg_ℤ, lt_or_ge_ℤ}
-use Rattle.plane.proofs.Steps.{weak}
-use Rattle.plane.proofs.Means.{mean_of_two}
-use Rattle.plane.proofs.Solver.{Poly, num, ◌⊕◌, ◌⊖◌, ◌⊗◌, ring_over, ring_in}
-use Rattle.plane.proofs.Bracket.{Vec3, bracket, Vec3ᵖ, bracketᵖ, vec3}
-use Rattle.plane.proofs.BracketIdentities.{bracket-turn, bracket-swap, mix, cramer_x, cramer_y}
-use Rattle.plane.proofs.BracketIdentities.{cramer_w}
-use Rattle.plane.proofs.Circles.{height, heightᵖ, incircle, incircleᵖ}
-use Rattle.plane_theorems.proofs.Tiling.Counting.{at, SignMesh, corners_differ}
+use lib.IntN.{+ℤ_comm}
+use Rattle.plane.specs.{Face, face, Fraction, InsideCircle, IsPositive, Joins, place, Point, whole}
+use Rattle.plane.specs.{WithinSegment}
+use Rattle.plane.proofs.{◌⊕◌, ◌⊖◌, ◌⊗◌, bracket, bracket-swap, bracket-turn, bracketᵖ, cramer_w}
+use Rattle.plane.proofs.{cramer_x, cramer_y, difference_is_positive, difference_not_negative}
+use Rattle.plane.proofs.{heightᵖ, incircle, incircleᵖ, less_or_more, lt_or_ge_ℤ, mean_of_two}
+use Rattle.plane.proofs.{mul-nonneg_ℤ, mul-pos_ℤ, neg-mul_ℤ, num, Poly, ring_in, ring_over}
+use Rattle.plane.proofs.{same_is_not_less, Vec3, vec3, Vec3ᵖ, weak}
+use Rattle.plane.proofs.{BracketIdentities.mix, IntegerLaws.one-*ℤ, Signs.less_by_named_difference}
+use Rattle.{plane.proofs.Circles.height, plane_theorems.specs.Edits.Away.IsAway}
+use Rattle.plane_theorems.specs.{AreAway, FacesChange, IsFaceOf, LocalMesh}
+use Rattle.plane_theorems.specs.Edits.LegalLaws.{AwayIsBounded, AwayIsNoEdge, FlipGoesAway}
+use Rattle.plane_theorems.proofs.Edits.Legalization.Heights.{carried, carried-turn, carriedᵖ}
+use Rattle.plane_theorems.proofs.Edits.Legalization.Heights.{lower_abd_abc, lower_abd_acd}
+use Rattle.plane_theorems.proofs.Edits.Legalization.Heights.{lower_bcd_abc, lower_bcd_acd}
+use Rattle.plane_theorems.proofs.Edits.Legalization.Legal.{convex_at_first, convex_at_third, halved}
+use Rattle.plane_theorems.proofs.Edits.LocalMesh.Changes.{face_kept, of_each, once_cons}
+use Rattle.plane_theorems.proofs.Edits.LocalMesh.Changes.{once_length, turn_of_all}
+use Rattle.plane_theorems.proofs.Tiling.Counting.{at, corners_differ, SignMesh}
 use Rattle.plane_theorems.proofs.Tiling.Flows.{HasSide, turned}
+use Rattle.plane_theorems.proofs.Tiling.Tiles.{by_signs, point_at}
+use Rattle.plane_theorems.proofs.Tiling.Totals.{Contains-cases, Contains-later}
 use Rattle.plane_theorems.proofs.Tiling.Covering as C
 use Rattle.plane_theorems.proofs.Tiling.Places as P
-use Rattle.plane.specs.Circle.{InsideCircle}
-use Rattle.plane.specs.Pairs.{place, Joins}
-use Rattle.plane_theorems.specs.Tiling.Local.{LocalMesh}
-use Rattle.plane_theorems.proofs.Tiling.Totals.{Contains-later, Contains-cases}
-use Rattle.plane_theorems.proofs.Tiling.Tiles.{point_at, by_signs}
-use Rattle.plane_theorems.specs.Edits.Change.{IsFaceOf, FacesChange}
-use Rattle.plane_theorems.specs.Edits.Away.{IsAway, AreAway}
-use Rattle.plane_theorems.specs.Edits.LegalLaws.{AwayIsNoEdge, FlipGoesAway, AwayIsBounded}
-use Rattle.plane_theorems.proofs.Edits.LocalMesh.Changes.{face_kept, of_each, turn_of_all}
-use Rattle.plane_theorems.proofs.Edits.LocalMesh.Changes.{once_cons}
-use Rattle.plane_theorems.proofs.Edits.LocalMesh.Changes.{once_length}
-use Rattle.plane_theorems.proofs.Edits.Legalization.Heights.{carried, carriedᵖ, carried-turn}
-use Rattle.plane_theorems.proofs.Edits.Legalization.Heights.{lower_abd_abc}
-use Rattle.plane_theorems.proofs.Edits.Legalization.Heights.{lower_abd_acd, lower_bcd_abc}
-use Rattle.plane_theorems.proofs.Edits.Legalization.Heights.{lower_bcd_acd}
-use Rattle.plane_theorems.proofs.Edits.Legalization.Legal.{halved, convex_at_first, convex_at_third}
 use Rattle.plane_theorems.proofs.Edits.Legalization.Flipping as F
-use Rattle.plane.proofs.Signs.{difference_is_positive, difference_not_negative}
-use Rattle.plane.proofs.Signs.{less_by_named_difference, same_is_not_less}
-use lib.IntN.{+ℤ_comm}
-use Rattle.plane.proofs.Indexes.{less_or_more}
-use Rattle.plane.proofs.IntegerLaws.{one-*ℤ, neg-mul_ℤ}
 
 carried-mix : (a b c : Vec3) (k : ℤ) (u : Vec3) (l : ℤ) (v : Vec3)
     → carried a b c (mix k u l v) ≡ k *ℤ carried a b c u +ℤ l *ℤ carried a b c v

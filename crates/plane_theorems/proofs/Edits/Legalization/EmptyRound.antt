@@ -5,29 +5,16 @@ use Rattle.std.proofs.Common.{◌≡◌, ◌⊎◌, ◌<◌, [], ◌∷◌, ◌�
 use mathlib.Core.Logic.{◌≢◌}
 use Rattle.std.specs.Prelude.{pos, ◌+ℤ◌, ◌*ℤ◌, ◌<ℤ◌}
 use Rattle.std.proofs.lemmas.Bool.{cases_eq}
-use Rattle.plane.specs.Fraction.{Point, Fraction, whole}
-use Rattle.plane.specs.Side.{TurnsLeft}
-use Rattle.plane.specs.Circle.{InsideCircle}
-use Rattle.plane.specs.Pairs.{place, Joins}
-use Rattle.plane.specs.Tiling.{Face, face}
-use Rattle.plane_theorems.specs.Tiling.Local.{LocalMesh, IsMesh}
-use Rattle.plane.proofs.IntegerOrder.{mul-pos_ℤ, pos_of_mul-pos_ℤ}
-use Rattle.plane.proofs.Signs.{sum_is_positive}
-use Rattle.plane.proofs.Sides.{if_left, left_if}
-use Rattle.plane.proofs.Solver.{◌⊕◌, ◌⊗◌, ring_over}
-use Rattle.plane.proofs.Bracket.{Vec3, bracket, bracketᵖ, vec3}
-use Rattle.plane.proofs.BracketIdentities.{bracket-turn}
-use Rattle.plane.proofs.Centre.{circle_turned}
-use Rattle.plane.proofs.Circles.{incircle, incircleᵖ, inside_is_incircle}
-use Rattle.plane_theorems.proofs.Tiling.Counting.{corners_differ}
-use Rattle.plane_theorems.proofs.Tiling.Flows.{turned, no_turn}
-use Rattle.plane_theorems.proofs.Tiling.Tiles.{point_at}
-use Rattle.plane_theorems.specs.Edits.Change.{IsFaceOf, FacesChange}
-use Rattle.plane_theorems.specs.Edits.Legal.{Pass, AllPassBut}
-use Rattle.plane_theorems.specs.Edits.EmptyRound.{IsEmptyRound}
-use Rattle.plane_theorems.proofs.Edits.LocalMesh.Changes.{face_from, corner_of_each}
-use Rattle.plane_theorems.proofs.Edits.LocalMesh.Kept.{turning_of, index_of}
-use Rattle.plane_theorems.proofs.Edits.Legalization.Flipping.{one_question, failing_is_convex}
+use Rattle.plane.specs.{Face, face, Fraction, InsideCircle, Joins, place, Point, TurnsLeft, whole}
+use Rattle.plane.proofs.{◌⊕◌, ◌⊗◌, bracket, bracket-turn, bracketᵖ, circle_turned, if_left}
+use Rattle.plane.proofs.{incircle, incircleᵖ, left_if, mul-pos_ℤ, pos_of_mul-pos_ℤ, ring_over}
+use Rattle.plane.proofs.{Circles.inside_is_incircle, sum_is_positive, Vec3, vec3}
+use Rattle.plane_theorems.specs.{AllPassBut, FacesChange, IsEmptyRound, IsFaceOf, IsMesh, LocalMesh}
+use Rattle.plane_theorems.proofs.Edits.Legalization.Flipping.{failing_is_convex, one_question}
+use Rattle.plane_theorems.proofs.Edits.LocalMesh.Changes.{corner_of_each, face_from}
+use Rattle.plane_theorems.proofs.Edits.LocalMesh.Kept.{index_of, turning_of}
+use Rattle.{plane_theorems.proofs.Tiling.Counting.corners_differ, plane_theorems.specs.Pass}
+use Rattle.plane_theorems.proofs.{Tiling.Flows.no_turn, Tiling.Flows.turned, Tiling.Tiles.point_at}
 
 -- ---- two circles
 -- the circles of a b o and of a b v, compared at n

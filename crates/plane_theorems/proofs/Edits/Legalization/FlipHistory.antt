@@ -3,27 +3,20 @@
 use Rattle.std.proofs.Common.{◌≡◌, ◌⊎◌, ◌≤◌, ◌+◌, ◌*◌, ◌-◌, [], ◌∷◌, ◌∙◌, ℕ, suc, List, length}
 use Rattle.std.proofs.Common.{refl, ap, subst, arith}
 use mathlib.Core.Logic.{inl, inr}
-use Rattle.plane.specs.Fraction.{Point}
-use Rattle.plane.specs.Pairs.{Joins, IsSamePair}
-use Rattle.plane.specs.Tiling.{Face, face}
-use Rattle.plane_theorems.specs.Tiling.Local.{LocalMesh}
-use Rattle.plane_theorems.proofs.Tiling.Flows.{turned}
-use Rattle.plane_theorems.proofs.Tiling.Totals.{Contains-none}
-use Rattle.plane_theorems.specs.Edits.Change.{IsFaceOf, FacesChange}
-use Rattle.plane_theorems.specs.Edits.Away.{AreAway}
-use Rattle.plane_theorems.specs.Edits.Legal.{IsSideOfOne}
-use Rattle.plane_theorems.specs.Edits.FlipHistory.{IsFailingFlip, ByFailingFlips, no_flip, one_more}
-use Rattle.plane_theorems.specs.Edits.FlipHistory.{FlipTouchesOneEdge, FlippedStaysAway}
-use Rattle.plane_theorems.specs.Edits.FlipHistory.{WhatStandsWasNotTouched, FlipsAreBounded}
-use Rattle.plane_theorems.proofs.Edits.LocalMesh.Changes.{Each, face_from, face_kept}
-use Rattle.plane_theorems.proofs.Edits.LocalMesh.Changes.{corner_of_each}
-use Rattle.plane_theorems.proofs.Edits.LocalMesh.Changes.{once_none}
-use Rattle.plane_theorems.proofs.Edits.LocalMesh.Kept.{turning_of, same_outer, flip_kept}
+use Rattle.plane.specs.{Face, face, IsSamePair, Joins, Point}
+use Rattle.plane.proofs.{next_sum, pair_turned, same_joined}
+use Rattle.plane_theorems.specs.{AreAway, FacesChange, IsFaceOf, IsSideOfOne, LocalMesh}
+use Rattle.plane_theorems.specs.Edits.FlipHistory.{ByFailingFlips, FlippedStaysAway}
+use Rattle.plane_theorems.specs.Edits.FlipHistory.{FlipsAreBounded, FlipTouchesOneEdge}
+use Rattle.plane_theorems.specs.Edits.FlipHistory.{IsFailingFlip, no_flip, one_more}
+use Rattle.plane_theorems.specs.Edits.FlipHistory.{WhatStandsWasNotTouched}
+use Rattle.plane_theorems.proofs.Edits.Legalization.Away.{away_back, away_is_bounded}
+use Rattle.plane_theorems.proofs.Edits.Legalization.Away.{away_is_no_edge, flip_goes_away}
 use Rattle.plane_theorems.proofs.Edits.Legalization.Flipping.{failing_is_convex}
-use Rattle.plane_theorems.proofs.Edits.Legalization.Away.{away_back, away_is_no_edge}
-use Rattle.plane_theorems.proofs.Edits.Legalization.Away.{flip_goes_away}
-use Rattle.plane_theorems.proofs.Edits.Legalization.Away.{away_is_bounded}
-use Rattle.plane.proofs.Indexes.{same_joined, next_sum, pair_turned}
+use Rattle.plane_theorems.proofs.Edits.LocalMesh.Changes.{corner_of_each, Each, face_from}
+use Rattle.plane_theorems.proofs.Edits.LocalMesh.Changes.{face_kept, once_none}
+use Rattle.plane_theorems.proofs.Edits.LocalMesh.Kept.{flip_kept, same_outer, turning_of}
+use Rattle.plane_theorems.proofs.{Tiling.Flows.turned, Tiling.Totals.Contains-none}
 
 -- ---- one flip
 -- i and j are corners of a face, or are u and v

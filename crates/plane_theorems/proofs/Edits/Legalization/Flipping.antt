@@ -6,44 +6,31 @@ use Rattle.std.proofs.Common.{◌≡◌, ◌⊎◌, ℕ, ◌<◌, List, [], ◌�
 use mathlib.Core.Logic.{inl, inr, ◌≢◌}
 use Rattle.std.specs.Prelude.{ℤ, pos, ◌+ℤ◌, ◌-ℤ◌, ◌*ℤ◌, ◌≤ℤ◌, ◌<ℤ◌, neg_ℤ, Contains}
 use Rattle.std.proofs.lemmas.Int.{ints}
-use Rattle.plane.specs.Fraction.{Point, whole}
-use Rattle.plane.specs.Side.{TurnsLeft}
-use Rattle.plane.specs.Circle.{InsideCircle}
-use Rattle.plane.specs.Pairs.{place, Joins, IsSamePair}
-use Rattle.plane.specs.Tiling.{Face, face}
-use Rattle.plane.specs.Laws.{turn_at}
-use Rattle.plane_theorems.specs.Tiling.Local.{total, LocalMesh}
-use Rattle.plane.proofs.IntegerOrder.{mul-nonneg_ℤ, square-nonneg_ℤ}
-use Rattle.plane.proofs.Steps.{weak}
-use Rattle.plane.proofs.Sides.{if_left, left_if}
-use Rattle.plane.proofs.Nudges.{moved}
-use Rattle.plane.proofs.Generic.{near}
-use Rattle.plane.proofs.Solver.{Poly, ◌⊕◌, ◌⊖◌, ◌⊗◌, ring_over}
-use Rattle.plane.proofs.Bracket.{bracket, lift, Pointᵖ, points as points_shape, liftᵖ}
-use Rattle.plane.proofs.BracketIdentities.{bracket-turn, bracket-affine}
-use Rattle.plane.proofs.Circles.{incircle, incircleᵖ, incircle-turn, incircle-exchange}
-use Rattle.plane.proofs.Circles.{inside_is_incircle, incircle-flipped}
+use Rattle.plane.specs.{Face, face, InsideCircle, IsSamePair, Joins, place, Point, turn_at}
+use Rattle.plane.proofs.{◌⊕◌, ◌⊖◌, ◌⊗◌, bracket, bracket-affine, bracket-turn, if_left, incircle}
+use Rattle.plane.proofs.{incircleᵖ, left_if, lift, liftᵖ, lower_magnitude, moved, mul-nonneg_ℤ}
+use Rattle.plane.proofs.{near, pair_turned, points as points_shape, Pointᵖ, Poly, ring_over}
+use Rattle.plane.proofs.{square-nonneg_ℤ, sum_not_negative, sum_of_three_not_negative, turned_join}
+use Rattle.{plane.proofs.weak, plane_theorems.proofs.Edits.LocalMesh.Changes.has_pair_or_not}
+use Rattle.plane.proofs.Circles.{incircle-exchange, incircle-flipped, incircle-turn}
+use Rattle.{plane.proofs.Circles.inside_is_incircle, plane.specs.TurnsLeft, plane.specs.whole}
+use Rattle.plane_theorems.specs.{AllPassBut, FacesChange, IsFaceOf, IsSideOfOne, IsTurnFree}
+use Rattle.plane_theorems.specs.{lifted_volume, LocalMesh, Pass, total}
+use Rattle.plane_theorems.specs.Edits.Legal.{IsRoundSide, lifted_area, squared_length}
+use Rattle.plane_theorems.specs.Edits.LegalLaws.{ChangeLeavesSides, FailingIsConvex}
+use Rattle.plane_theorems.specs.Edits.LegalLaws.{FlipLeavesSides, FlipLowers}
+use Rattle.plane_theorems.specs.Edits.LegalLaws.{NoneLeftIsLocallyDelaunay, OneQuestionForBoth}
+use Rattle.plane_theorems.specs.Edits.LegalLaws.{PassingIsDropped}
+use Rattle.plane_theorems.proofs.Edits.Legalization.Legal.{convex_at_first, convex_at_third}
+use Rattle.plane_theorems.proofs.Edits.LocalMesh.Changes.{corner_of_each, face_from}
+use Rattle.plane_theorems.proofs.Edits.LocalMesh.Exchange.{side_gone}
+use Rattle.plane_theorems.proofs.Edits.LocalMesh.Kept.{flip_kept, same_outer, turning_of}
+use Rattle.plane_theorems.proofs.Tiling.Counting.{at, corners_differ, SignMesh}
+use Rattle.plane_theorems.proofs.Tiling.Flows.{HasSide, IsTurnOf, turned}
+use Rattle.plane_theorems.proofs.Tiling.Tiles.{by_signs, point_at}
 use Rattle.plane_theorems.proofs.Tiling.Totals.{Contains-none, total_nonneg}
-use Rattle.plane_theorems.proofs.Tiling.Counting.{SignMesh, at, corners_differ}
-use Rattle.plane_theorems.proofs.Tiling.Flows.{IsTurnOf, HasSide, turned}
 use Rattle.plane_theorems.proofs.Tiling.Covering as C
 use Rattle.plane_theorems.proofs.Tiling.Loops as L
-use Rattle.plane_theorems.proofs.Tiling.Tiles.{point_at, by_signs}
-use Rattle.plane_theorems.specs.Edits.Change.{IsFaceOf, IsTurnFree, FacesChange}
-use Rattle.plane_theorems.specs.Edits.Legal.{Pass, AllPassBut, IsRoundSide, IsSideOfOne}
-use Rattle.plane_theorems.specs.Edits.Legal.{squared_length}
-use Rattle.plane_theorems.specs.Edits.Legal.{lifted_area, lifted_volume}
-use Rattle.plane_theorems.specs.Edits.LegalLaws.{OneQuestionForBoth, FailingIsConvex, FlipLowers}
-use Rattle.plane_theorems.specs.Edits.LegalLaws.{FlipLeavesSides, PassingIsDropped}
-use Rattle.plane_theorems.specs.Edits.LegalLaws.{ChangeLeavesSides}
-use Rattle.plane_theorems.specs.Edits.LegalLaws.{NoneLeftIsLocallyDelaunay}
-use Rattle.plane_theorems.proofs.Edits.LocalMesh.Changes.{face_from, corner_of_each}
-use Rattle.plane_theorems.proofs.Edits.LocalMesh.Changes.{has_pair_or_not}
-use Rattle.plane_theorems.proofs.Edits.Legalization.Legal.{convex_at_first, convex_at_third}
-use Rattle.plane_theorems.proofs.Edits.LocalMesh.Kept.{turning_of, same_outer, flip_kept}
-use Rattle.plane_theorems.proofs.Edits.LocalMesh.Exchange.{side_gone}
-use Rattle.plane.proofs.Signs.{sum_not_negative, sum_of_three_not_negative, lower_magnitude}
-use Rattle.plane.proofs.Indexes.{pair_turned, turned_join}
 
 -- ---- the test
 -- from both sides of an edge the circle test has one answer

@@ -5,16 +5,13 @@ use Rattle.std.proofs.Common.{ℕ, ◌<◌, List, [], ◌∷◌, refl, arith}
 use mathlib.Core.Logic.{inl, inr}
 use Rattle.std.specs.Prelude.{pos, ◌<ℤ◌}
 use Rattle.std.proofs.lemmas.Int.{ints}
-use Rattle.plane.specs.Fraction.{Point}
-use Rattle.plane.specs.Tiling.{Face, face}
-use Rattle.plane.proofs.Bracket.{bracket}
+use Rattle.{plane.proofs.bracket, plane.specs.Face, plane.specs.face, plane.specs.Point}
+use Rattle.plane_theorems.specs.{FacesChange, OuterChange}
+use Rattle.plane_theorems.proofs.Edits.LocalMesh.Exchange.{all_stay, border_of, edited, IsTouched}
+use Rattle.plane_theorems.proofs.Edits.LocalMesh.Exchange.{some_made, to_signs}
 use Rattle.plane_theorems.proofs.Tiling.Counting.{at, SignMesh}
 use Rattle.plane_theorems.proofs.Tiling.Flows.{IsTurnOf}
 use Rattle.plane_theorems.proofs.Tiling.Covering as C
-use Rattle.plane_theorems.specs.Edits.Change.{FacesChange, OuterChange}
-use Rattle.plane_theorems.proofs.Edits.LocalMesh.Exchange.{IsTouched, all_stay, edited, to_signs}
-use Rattle.plane_theorems.proofs.Edits.LocalMesh.Exchange.{border_of}
-use Rattle.plane_theorems.proofs.Edits.LocalMesh.Exchange.{some_made}
 
 module _ (n : ℕ) (p : ℕ → Point) (old new : List Face) (outer outer' : List (ℕ × ℕ))
     (m : SignMesh n p old outer) (outer_change : OuterChange outer outer' [] []) (a b c d : ℕ)

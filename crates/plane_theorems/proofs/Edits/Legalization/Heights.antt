@@ -5,10 +5,9 @@
 use Rattle.std.proofs.Common.{◌≡◌, [], ◌∷◌, arith}
 use Rattle.std.specs.Prelude.{ℤ, pos, ◌+ℤ◌, ◌-ℤ◌, ◌*ℤ◌, ◌≤ℤ◌, neg_ℤ}
 use Rattle.std.proofs.lemmas.Int.{ints}
-use Rattle.plane.proofs.IntegerOrder.{mul-nonneg_ℤ}
-use Rattle.plane.proofs.Solver.{Poly, ◌⊕◌, ◌⊖◌, ◌⊗◌, ⊝, ring_over}
-use Rattle.plane.proofs.Bracket.{Vec3, bracket, Vec3ᵖ, bracketᵖ, vec3}
-use Rattle.plane.proofs.Circles.{height, heightᵖ, incircle, incircleᵖ}
+use Rattle.plane.proofs.{◌⊕◌, ◌⊖◌, ◌⊗◌, bracket, bracketᵖ, heightᵖ, incircle, incircleᵖ}
+use Rattle.plane.proofs.{mul-nonneg_ℤ, Poly, ring_over, Vec3, vec3, Vec3ᵖ, ⊝}
+use Rattle.plane.proofs.Circles.{height}
 
 -- the height over z of the plane through the lifted corners a b c, times their bracket
 unfoldable pub carried : Vec3 → Vec3 → Vec3 → Vec3 → ℤ

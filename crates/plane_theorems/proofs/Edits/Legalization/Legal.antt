@@ -5,29 +5,25 @@ use Rattle.std.proofs.Common.{◌≡◌, ◌⊎◌, [], ◌∷◌, ap, sym, ◌�
 use mathlib.Core.Logic.{inl, inr}
 use Rattle.std.specs.Prelude.{ℤ, pos, ◌+ℤ◌, ◌-ℤ◌, ◌*ℤ◌, neg_ℤ, ◌<ℤ◌, ◌≤ℤ◌}
 use Rattle.std.proofs.lemmas.Int.{ints}
-use Rattle.plane.specs.Fraction.{Point}
-use Rattle.plane.specs.Laws.{squared_way}
-use Rattle.plane.proofs.IntegerOrder.{mul-nonneg_ℤ, mul-nonpos_of_nonneg_nonpos_ℤ}
-use Rattle.plane.proofs.IntegerOrder.{nonneg_of_mul-nonneg_ℤ, square-nonneg_ℤ, lt_or_ge_ℤ}
-use Rattle.plane.proofs.IntegerOrder.{zero-mul_ℤ}
-use Rattle.plane.proofs.Steps.{weak, negated_below, weak_right, zero_weak_left}
-use Rattle.plane.proofs.Solver.{num, ◌⊕◌, ◌⊖◌, ◌⊗◌, ⊝, ring_in_from}
-use Rattle.plane.proofs.Bracket.{Vec3, bracket, lift}
-use Rattle.plane.proofs.BracketIdentities.{bracket-turn, bracket-swap, cramer, bracket-outer}
-use Rattle.plane.proofs.BracketIdentities.{bracket-last}
-use Rattle.plane.proofs.Circles.{incircle, incircle-opposite, incircle-from_first}
-use Rattle.plane.proofs.Signs.{sum_not_negative}
+use Rattle.plane.specs.{Point, squared_vector}
+use Rattle.plane.proofs.{◌⊕◌, ◌⊖◌, ◌⊗◌, bracket, bracket-last, bracket-outer, bracket-swap}
+use Rattle.plane.proofs.{bracket-turn, cramer, incircle, lift, lt_or_ge_ℤ, mul-nonneg_ℤ}
+use Rattle.plane.proofs.{mul-nonpos_of_nonneg_nonpos_ℤ, negated_below, nonneg_of_mul-nonneg_ℤ, num}
+use Rattle.plane.proofs.{ring_in_from, square-nonneg_ℤ, sum_not_negative, Vec3, weak, weak_right}
+use Rattle.plane.proofs.{zero-mul_ℤ, zero_weak_left, ⊝}
+use Rattle.plane.proofs.Circles.{incircle-from_first, incircle-opposite}
 
 -- the failing test, from a
-incircle_from_first : (a b c d : Point) → squared_way a c *ℤ bracket (lift a) (lift b) (lift d)
-    ≡ incircle (lift a) (lift b) (lift c) (lift d) +ℤ (squared_way a b *ℤ bracket (lift a) (lift c)
-    (lift d) +ℤ squared_way a d *ℤ bracket (lift a) (lift b) (lift c))
+incircle_from_first : (a b c d : Point) → squared_vector a c *ℤ bracket (lift a) (lift b) (lift d)
+    ≡ incircle (lift a) (lift b) (lift c) (lift d) +ℤ (squared_vector a b *ℤ bracket (lift a)
+    (lift c)
+    (lift d) +ℤ squared_vector a d *ℤ bracket (lift a) (lift b) (lift c))
 incircle_from_first a b c d =
     let swapped = bracket-turn _ _ _ ∙ bracket-swap _ _ _
     ∙ ap neg_ℤ (sym (bracket-turn _ _ _)) in
-    ring_in_from (squared_way a c ∷ bracket (lift a) (lift b) (lift d) ∷ incircle _ _
-    _ _ ∷ squared_way a b ∷ bracket (lift a) (lift c) (lift d) ∷ bracket (lift a)
-    (lift d) (lift c) ∷ squared_way a d ∷ bracket (lift a) (lift b) (lift c) ∷ [])
+    ring_in_from (squared_vector a c ∷ bracket (lift a) (lift b) (lift d) ∷ incircle _ _
+    _ _ ∷ squared_vector a b ∷ bracket (lift a) (lift c) (lift d) ∷ bracket (lift a)
+    (lift d) (lift c) ∷ squared_vector a d ∷ bracket (lift a) (lift b) (lift c) ∷ [])
     (λ ac abd o ab acd adc ad abc. ac ⊗ abd)
     (λ ac abd o ab acd adc ad abc. o ⊕ (ab ⊗ acd ⊕ ad ⊗ abc))
     (λ ac abd o ab acd adc ad abc. (⊝ (num 1), o, adc ⊗ ab ⊕ abd ⊗ ac ⊖ abc ⊗ ad)
@@ -45,7 +41,7 @@ other_positive k x h p = elim (lt_or_ge_ℤ (pos 0) x)
     clash z a b = absurd (omega (arith, ints))
 
 -- a squared distance is not negative
-pub squared_way_nonneg : (q p : Point) → pos 0 ≤ℤ squared_way q p
+pub squared_way_nonneg : (q p : Point) → pos 0 ≤ℤ squared_vector q p
 squared_way_nonneg q p = sum_not_negative ((p.x -ℤ q.x) *ℤ (p.x -ℤ q.x))
     ((p.y -ℤ q.y) *ℤ (p.y -ℤ q.y)) (square-nonneg_ℤ _) (square-nonneg_ℤ _)
 

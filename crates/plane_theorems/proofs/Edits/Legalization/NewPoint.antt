@@ -5,37 +5,23 @@ use Rattle.std.proofs.Common.{arith}
 use mathlib.Core.Logic.{inl, inr, ◌≢◌}
 use Rattle.std.specs.Prelude.{ℤ, pos, ◌+ℤ◌, ◌-ℤ◌, ◌*ℤ◌, ◌≤ℤ◌, ◌<ℤ◌, Contains}
 use Rattle.std.proofs.lemmas.Int.{ints}
-use Rattle.plane.specs.Fraction.{Point, Fraction, whole, InTriangle}
-use Rattle.plane.specs.Side.{side, on, TurnsLeft}
-use Rattle.plane.specs.Circle.{InsideCircle}
-use Rattle.plane.specs.Laws.{squared_way, turn_at}
-use Rattle.plane.specs.Pairs.{place}
-use Rattle.plane.specs.Tiling.{Face, face}
-use Rattle.plane.proofs.IntegerOrder.{mul-nonneg_ℤ}
-use Rattle.plane.proofs.Steps.{zero_or_left, one_number}
-use Rattle.plane.proofs.Signs.{squares_vanish, zero_is_not_above}
-use Rattle.plane.proofs.Indexes.{below_or_last}
-use Rattle.plane.proofs.Solver.{num, ◌⊖◌, ◌⊗◌, ring_in}
-use Rattle.plane.proofs.Bracket.{bracket, lift}
-use Rattle.plane.proofs.BracketIdentities.{bracket-turn, bracket-affine, bracket-sum}
-use Rattle.plane.proofs.Sides.{if_left, if_on}
-use Rattle.plane.proofs.Centre.{circle_turned}
-use Rattle.plane.proofs.Circles.{inside_is_determinant}
-use Rattle.plane_theorems.specs.Tiling.Local.{IsMesh, LocalMesh}
-use Rattle.plane_theorems.proofs.Tiling.Appended.{length_appended, kept_point, last_point}
-use Rattle.plane_theorems.proofs.Tiling.Flows.{turned}
-use Rattle.plane_theorems.proofs.Tiling.Tiles.{point_at, by_signs, in_signs}
-use Rattle.plane_theorems.proofs.Tiling.Totals.{Contains-none}
-use Rattle.plane_theorems.specs.Edits.Change.{IsFaceOf}
-use Rattle.plane_theorems.specs.Edits.EmptyRound.{IsEmptyRound}
-use Rattle.plane_theorems.proofs.Edits.LocalMesh.Kept.{turning_of, index_of}
-use Rattle.plane_theorems.proofs.Edits.Legalization.EmptyRound.{deeper}
+use Rattle.plane.specs.{Face, face, Fraction, InsideCircle, InTriangle, on, place, Point, side}
+use Rattle.plane.specs.{squared_vector, turn_at, TurnsLeft, whole}
+use Rattle.plane.proofs.{◌⊖◌, ◌⊗◌, below_or_last, bracket, bracket-affine, bracket-sum}
+use Rattle.plane.proofs.{bracket-turn, circle_turned, if_left, if_on, inside_is_determinant, lift}
+use Rattle.plane.proofs.{mul-nonneg_ℤ, num, ring_in, squares_vanish, zero_is_not_above}
+use Rattle.{plane.proofs.Steps.one_number, plane.proofs.zero_or_left}
+use Rattle.plane_theorems.specs.{IsEmptyRound, IsFaceOf, IsMesh, LocalMesh}
+use Rattle.plane_theorems.proofs.{Edits.Legalization.EmptyRound.deeper, Tiling.Totals.Contains-none}
 use Rattle.plane_theorems.proofs.Edits.Legalization.Flipping.{third_unique}
-use Rattle.plane_theorems.proofs.Edits.Legalization.Legal.{squared_way_nonneg}
+use Rattle.plane_theorems.proofs.{Edits.Legalization.Legal.squared_way_nonneg, Tiling.Flows.turned}
+use Rattle.plane_theorems.proofs.Edits.LocalMesh.Kept.{index_of, turning_of}
+use Rattle.plane_theorems.proofs.Tiling.Appended.{kept_point, last_point, length_appended}
+use Rattle.plane_theorems.proofs.Tiling.Tiles.{by_signs, in_signs, point_at}
 
 -- ---- a closed triangle and its circle
 -- different points are some way apart
-pub way_positive : (q p : Point) → ¬ (q ≡ p) → pos 0 <ℤ squared_way q p
+pub way_positive : (q p : Point) → ¬ (q ≡ p) → pos 0 <ℤ squared_vector q p
 way_positive q p apart = elim (zero_or_left (squared_way_nonneg q p)) [
   | inl e ↦ (let b = squares_vanish _ _ e in
       absurd (apart (λ i. record { x = one_number q.x p.x b.0 i; y = one_number q.y p.y b.1 i })))

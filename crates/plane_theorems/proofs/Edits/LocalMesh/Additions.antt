@@ -4,23 +4,17 @@
 use Rattle.std.proofs.Common.{◌≡◌, ◌⊎◌, ℕ, suc, ◌<◌, List, [], ◌∷◌, refl, sym, ap, subst, arith}
 use mathlib.Core.Logic.{inl, inr}
 use Rattle.std.specs.Prelude.{pos, ◌≤ℤ◌, ◌<ℤ◌, Contains}
-use Rattle.plane.proofs.Signs.{at_most_if_not_less}
-use Rattle.plane.proofs.Bracket.{bracket, lift}
-use Rattle.plane.proofs.BracketIdentities.{bracket-turn, bracket-outer, bracket-last}
-use Rattle.plane.proofs.Steps.{left_not_zero, zero_weak}
-use Rattle.plane_theorems.proofs.Tiling.Edges as E
-use Rattle.plane.proofs.Generic.{IsFresh, distinct_with_next}
-use Rattle.plane.proofs.Indexes.{below_or_last}
-use Rattle.plane.specs.Fraction.{Point, whole, WithinSegment}
-use Rattle.plane.specs.Tiling.{Face}
+use Rattle.plane.specs.{Face, Point, whole, WithinSegment}
+use Rattle.plane.proofs.{at_most_if_not_less, below_or_last, bracket, bracket-last, bracket-outer}
+use Rattle.plane.proofs.{bracket-turn, distinct_with_next, IsFresh, left_not_zero, lift, zero_weak}
+use Rattle.plane_theorems.specs.{FacesChange, OuterChange}
+use Rattle.plane_theorems.proofs.Edits.LocalMesh.Changes.{Each, of_each, Once, to_each}
+use Rattle.plane_theorems.proofs.Edits.LocalMesh.Exchange.{AreTurning, EdgesOwe, edited, IsUsed}
+use Rattle.plane_theorems.proofs.Edits.LocalMesh.Exchange.{KeepBalance, some_made, to_signs}
 use Rattle.plane_theorems.proofs.Tiling.Counting.{at, SignMesh, within_turned}
+use Rattle.plane_theorems.proofs.Tiling.Edges as E
 use Rattle.plane_theorems.proofs.Tiling.Covering as C
 use Rattle.plane_theorems.proofs.Tiling.Places as P
-use Rattle.plane_theorems.specs.Edits.Change.{FacesChange, OuterChange}
-use Rattle.plane_theorems.proofs.Edits.LocalMesh.Changes.{Each, of_each, to_each, Once}
-use Rattle.plane_theorems.proofs.Edits.LocalMesh.Exchange.{IsUsed, AreTurning, EdgesOwe}
-use Rattle.plane_theorems.proofs.Edits.LocalMesh.Exchange.{KeepBalance, edited}
-use Rattle.plane_theorems.proofs.Edits.LocalMesh.Exchange.{to_signs, some_made}
 pub use Rattle.plane_theorems.proofs.Edits.LocalMesh.Exchange.{around_turn_free}
 
 -- the indexes below n, and n

@@ -1,8 +1,12 @@
 -- What follows from a change of faces and from a change of outer edges: where each face and edge
 -- comes from, and totals.
--- Notions: face_from, face_kept; Each, of_each, to_each (a property of each entry, as a tuple for a
--- list that is written out), turn_of_all, corner_of_each; IsOnce, Once (no entry twice),
--- changed_total; mapped, from_map (lists renamed); change_after (two changes as one).
+-- face_from, face_kept: each new face was there or was made; each old face stays or is gone
+-- IsOnce, Once: no entry is listed twice; the same as a tuple, for a list that is written out
+-- once_none, once_cons: the empty list repeats no entry; nor does a list with a new first entry
+-- Each, of_each, to_each: a property of each entry as a tuple; read by entries, and written by them
+-- turn_of_all, corner_of_each: a property of the faces, read from each of their rotations
+-- has_pair_or_not: a pair is in a list or is not
+-- total_append: the sum over two lists is the sum of both sums
 use Rattle.std.proofs.Common.{◌≡◌, ◌⊎◌, ◌<◌, ◌≤◌, [], ◌∷◌, ◌++◌, ◌∙◌, ℕ, zero, suc, List, length}
 use Rattle.std.proofs.Common.{get_or, map, refl, sym, ap, subst, arith}
 use mathlib.Core.Logic.{inl, inr, ◌≢◌}
@@ -17,16 +21,13 @@ use Rattle.std.proofs.lemmas.List.Elements.{Contains-append_cases}
 use Rattle.std.proofs.lemmas.List.{length-map, get_or-map}
 use Rattle.std.proofs.lemmas.List.Edits.{length-remove}
 use Rattle.std.proofs.lemmas.List.Quantifiers.{all_pairs_remove}
-use Rattle.plane.specs.Tiling.{Face, face}
-use Rattle.plane_theorems.specs.Tiling.Local.{total}
-use Rattle.plane_theorems.proofs.Tiling.Totals.{Contains-head, Contains-later, Contains-cases}
-use Rattle.plane_theorems.proofs.Tiling.Totals.{Contains-none}
-use Rattle.plane_theorems.proofs.Tiling.Totals.{get_or_any, total_nonneg, total_at_least}
-use Rattle.plane_theorems.proofs.Tiling.Totals.{total_positive}
-use Rattle.plane_theorems.proofs.Tiling.Flows.{IsTurnOf, either, one_of_three, bit_nonneg}
-use Rattle.plane_theorems.specs.Edits.Change.{IsTurnFree, FacesChange, OuterChange}
-use Rattle.plane.proofs.Signs.{at_least_one_through}
-use Rattle.plane.proofs.Crossings.{is_true}
+use Rattle.plane.specs.{Face, face}
+use Rattle.plane.proofs.{at_least_one_through, is_true}
+use Rattle.plane_theorems.specs.{FacesChange, IsTurnFree, OuterChange, total}
+use Rattle.plane_theorems.proofs.Tiling.Flows.{bit_nonneg, either, IsTurnOf, one_of_three}
+use Rattle.plane_theorems.proofs.Tiling.Totals.{Contains-cases, Contains-head, Contains-later}
+use Rattle.plane_theorems.proofs.Tiling.Totals.{Contains-none, get_or_any, total_at_least}
+use Rattle.plane_theorems.proofs.Tiling.Totals.{total_nonneg, total_positive}
 
 -- ---- a face of a list, counted
 abbrev bit : Bool → ℤ

@@ -5,20 +5,14 @@ use Rattle.std.proofs.Common.{[], ℕ, List, sym, subst}
 use mathlib.Core.Logic.{inl, inr, ◌≢◌}
 use Rattle.std.specs.Prelude.{Contains}
 use Rattle.std.proofs.lemmas.Bool.{cases_eq}
-use Rattle.plane.proofs.Sides.{if_left, left_if}
-use Rattle.plane.proofs.Steps.{left_not_below}
-use Rattle.plane.specs.Fraction.{Point}
-use Rattle.plane.specs.Tiling.{Face}
-use Rattle.plane_theorems.specs.Tiling.Local.{LocalMesh}
-use Rattle.plane_theorems.proofs.Tiling.Flows.{IsTurnOf}
-use Rattle.plane_theorems.proofs.Tiling.Tiles.{point_at, by_signs}
-use Rattle.plane_theorems.specs.Edits.Change.{FacesChange, OuterChange}
-use Rattle.plane_theorems.specs.Edits.Removal.{LocalMeshWithout, IsOther}
-use Rattle.plane_theorems.proofs.Edits.LocalMesh.Changes.{Each, to_each, of_each}
-use Rattle.plane_theorems.proofs.Edits.LocalMesh.Exchange.{IsTouched, AreTurning, EdgesOwe}
-use Rattle.plane_theorems.proofs.Edits.LocalMesh.Exchange.{KeepBalance}
-use Rattle.plane_theorems.proofs.Edits.LocalMesh.Exchange.{MeshOver, touched_in_words, edited}
-use Rattle.plane_theorems.proofs.Edits.LocalMesh.Exchange.{border_of}
+use Rattle.plane.specs.{Face, Point}
+use Rattle.plane.proofs.{if_left, left_if, left_not_below}
+use Rattle.plane_theorems.specs.{FacesChange, IsOther, LocalMesh, LocalMeshWithout, OuterChange}
+use Rattle.plane_theorems.proofs.Edits.LocalMesh.Changes.{Each, of_each, to_each}
+use Rattle.plane_theorems.proofs.Edits.LocalMesh.Exchange.{AreTurning, border_of, EdgesOwe, edited}
+use Rattle.plane_theorems.proofs.Edits.LocalMesh.Exchange.{IsTouched, KeepBalance, MeshOver}
+use Rattle.plane_theorems.proofs.{Edits.LocalMesh.Exchange.touched_in_words, Tiling.Flows.IsTurnOf}
+use Rattle.plane_theorems.proofs.Tiling.Tiles.{by_signs, point_at}
 
 -- a mesh of the vertices but v, in the words of specs/
 but_in_words : (v : ℕ) (points : List Point) (faces : List Face) (outer : List (ℕ × ℕ)) → MeshOver

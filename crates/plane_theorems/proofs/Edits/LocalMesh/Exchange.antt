@@ -9,25 +9,20 @@ use Rattle.std.proofs.Common.{◌≡◌, ◌⊎◌, ◌<◌, [], ◌∷◌, ℕ,
 use mathlib.Core.Logic.{inl, inr, ◌≢◌}
 use Rattle.std.specs.Prelude.{ℤ, pos, ◌+ℤ◌, ◌≤ℤ◌, ◌<ℤ◌, Contains}
 use Rattle.std.proofs.lemmas.Int.{ints}
-use Rattle.plane.specs.Fraction.{Point, whole, WithinSegment}
-use Rattle.plane.specs.Tiling.{Face, face}
-use Rattle.plane_theorems.specs.Tiling.Local.{total, around, along, IsAntisymmetric, IsCorner}
-use Rattle.plane_theorems.specs.Tiling.Local.{AreBalanced}
-use Rattle.plane.proofs.Signs.{at_most_if_not_less}
-use Rattle.plane.proofs.Bracket.{bracket}
-use Rattle.plane.proofs.BracketIdentities.{bracket-turn}
-use Rattle.plane_theorems.proofs.Tiling.Totals.{total_nonneg, total_positive}
+use Rattle.plane.specs.{Face, face, Point, whole, WithinSegment}
+use Rattle.plane.proofs.{at_most_if_not_less, bracket, bracket-turn}
+use Rattle.plane_theorems.specs.{along, AreBalanced, around, FacesChange, IsAntisymmetric, IsCorner}
+use Rattle.plane_theorems.specs.{IsTurnFree, OuterChange, total}
+use Rattle.plane_theorems.proofs.Edits.LocalMesh.Changes.{changed_total, corner_of_each, Each}
+use Rattle.plane_theorems.proofs.Edits.LocalMesh.Changes.{face_from, face_kept, has_pair_or_not}
+use Rattle.plane_theorems.proofs.Edits.LocalMesh.Changes.{IsOnce, of_each, of_once, Once}
+use Rattle.plane_theorems.proofs.Edits.LocalMesh.Changes.{turn_of_all}
 use Rattle.plane_theorems.proofs.Tiling.Counting.{at, SignMesh}
-use Rattle.plane_theorems.proofs.Tiling.Flows.{IsTurnOf, HasSide, turned, no_turn, is_pair}
-use Rattle.plane_theorems.proofs.Tiling.Flows.{is_pair_nonneg}
-use Rattle.plane_theorems.proofs.Tiling.Flows.{side_counts, side_found}
+use Rattle.plane_theorems.proofs.Tiling.Flows.{HasSide, is_pair, is_pair_nonneg, IsTurnOf, no_turn}
+use Rattle.plane_theorems.proofs.Tiling.Flows.{side_counts, side_found, turned}
+use Rattle.plane_theorems.proofs.Tiling.Totals.{total_nonneg, total_positive}
 use Rattle.plane_theorems.proofs.Tiling.Covering as C
 use Rattle.plane_theorems.proofs.Tiling.Loops as L
-use Rattle.plane_theorems.specs.Edits.Change.{IsTurnFree, FacesChange, OuterChange}
-use Rattle.plane_theorems.proofs.Edits.LocalMesh.Changes.{Each, of_each, face_from, face_kept}
-use Rattle.plane_theorems.proofs.Edits.LocalMesh.Changes.{turn_of_all}
-use Rattle.plane_theorems.proofs.Edits.LocalMesh.Changes.{corner_of_each, Once, of_once, IsOnce}
-use Rattle.plane_theorems.proofs.Edits.LocalMesh.Changes.{changed_total, has_pair_or_not}
 
 -- ---- corners and ends
 -- k is a corner of one of the faces

@@ -4,27 +4,20 @@
 use Rattle.std.proofs.Common.{◌⊎◌, ℕ, suc, ◌<◌, List, [], ◌∷◌, ◌++◌, length, sym, subst}
 use mathlib.Core.Logic.{inl, inr}
 use Rattle.std.specs.Prelude.{pos, ◌<ℤ◌}
-use Rattle.plane.specs.Fraction.{Point, Fraction, whole, WithinSegment, InTriangle}
-use Rattle.plane.specs.Side.{TurnsLeft}
-use Rattle.plane.specs.Pairs.{place}
-use Rattle.plane.specs.Tiling.{Face}
-use Rattle.plane_theorems.specs.Tiling.Local.{LocalMesh}
-use Rattle.plane.proofs.Sides.{if_left, left_if}
-use Rattle.plane.proofs.Bracket.{bracket, vec}
-use Rattle.plane.proofs.BracketIdentities.{bracket-turn}
+use Rattle.plane.specs.{Face, Fraction, InTriangle, place, Point, TurnsLeft, whole, WithinSegment}
+use Rattle.plane.proofs.{bracket, bracket-turn, if_left, left_if, vec}
+use Rattle.plane_theorems.specs.{IsFaceOf, LocalMesh, OuterChange}
+use Rattle.plane_theorems.specs.Edits.Laws.{FlipCovers, FlipKeeps, InsertionInsideKeeps}
+use Rattle.plane_theorems.specs.Edits.Laws.{InsertionWithinOuterKeeps, InsertionWithinSideKeeps}
+use Rattle.plane_theorems.proofs.{Edits.Legalization.Legal.halved, Edits.LocalMesh.Changes.IsOnce}
+use Rattle.plane_theorems.proofs.Tiling.Appended.{kept_point, last_point, length_appended}
 use Rattle.plane_theorems.proofs.Tiling.Counting.{at, SignMesh}
-use Rattle.plane_theorems.proofs.Tiling.Covering as C
-use Rattle.plane_theorems.proofs.Tiling.Tiles.{point_at, by_signs, inside_signs, in_signs, signs_in}
-use Rattle.plane_theorems.proofs.Tiling.Appended.{length_appended, kept_point, last_point}
 use Rattle.plane_theorems.proofs.Tiling.Readings.{by_words, same_points}
-use Rattle.plane_theorems.specs.Edits.Change.{IsFaceOf, OuterChange}
-use Rattle.plane_theorems.specs.Edits.Laws.{InsertionInsideKeeps, InsertionWithinSideKeeps}
-use Rattle.plane_theorems.specs.Edits.Laws.{InsertionWithinOuterKeeps, FlipKeeps, FlipCovers}
+use Rattle.plane_theorems.proofs.Tiling.Tiles.{by_signs, in_signs, inside_signs, point_at, signs_in}
 use Rattle.plane_theorems.proofs.Tiling.Totals.{Contains-none}
-use Rattle.plane_theorems.proofs.Edits.LocalMesh.Changes.{IsOnce}
+use Rattle.plane_theorems.proofs.Tiling.Covering as C
 use Rattle.plane_theorems.proofs.Edits.Insertion.Insertions as I
 use Rattle.plane_theorems.proofs.Edits.Legalization.Flips as F
-use Rattle.plane_theorems.proofs.Edits.Legalization.Legal.{halved}
 
 -- ---- one more point
 -- the mesh, read with the new point

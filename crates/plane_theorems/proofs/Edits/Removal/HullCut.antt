@@ -8,31 +8,24 @@ use mathlib.Core.Logic.{inl, inr, ◌≢◌}
 use Rattle.std.specs.Prelude.{ℤ, pos, ◌+ℤ◌, ◌<ℤ◌, ◌≤ℤ◌, Contains}
 use Rattle.std.proofs.lemmas.Int.{ints}
 use Rattle.std.proofs.lemmas.Bool.{cases_eq}
-use Rattle.plane.specs.Fraction.{Point, whole, WithinSegment}
-use Rattle.plane.specs.Tiling.{Face, face}
-use Rattle.plane_theorems.specs.Tiling.Local.{LocalMesh, total, around, along, IsAntisymmetric}
-use Rattle.plane.proofs.Steps.{weak, left_not_zero, negated_below}
-use Rattle.plane.proofs.Bracket.{bracket}
-use Rattle.plane.proofs.IntegerOrder.{lt_or_ge_ℤ}
-use Rattle.plane.proofs.BracketIdentities.{bracket-turn, bracket-swap, bracket-sum, bracket-outer}
-use Rattle.plane.proofs.BracketIdentities.{bracket-last}
-use Rattle.plane_theorems.proofs.Tiling.Totals.{Contains-later}
-use Rattle.plane_theorems.proofs.Tiling.Flows.{IsTurnOf, HasSide, turned}
-use Rattle.plane_theorems.proofs.Tiling.Counting.{at, SignMesh, corners_differ, within_turned}
-use Rattle.plane_theorems.proofs.Tiling.Tiles.{point_at, by_signs}
+use Rattle.plane.specs.{Face, face, Point, whole, WithinSegment}
+use Rattle.plane.proofs.{bracket, bracket-last, bracket-outer, bracket-sum, bracket-swap}
+use Rattle.plane.proofs.{bracket-turn, left_not_zero, lt_or_ge_ℤ, negated_below, weak}
+use Rattle.plane.proofs.Signs.{sum_with_zero_is_positive}
+use Rattle.plane_theorems.specs.{along, around, chain, FacesChange, IsAntisymmetric, IsHullStar}
+use Rattle.plane_theorems.specs.{IsOther, LocalMesh, LocalMeshWithout, OuterChange, strip, total}
+use Rattle.plane_theorems.proofs.{Edits.Insertion.Hull.next_unique, Tiling.Totals.Contains-later}
+use Rattle.plane_theorems.proofs.Edits.LocalMesh.Changes.{Each, Once}
+use Rattle.plane_theorems.proofs.Edits.LocalMesh.Cuts.{cut}
+use Rattle.plane_theorems.proofs.Edits.LocalMesh.Exchange.{IsBorder, IsTouched, some_made}
+use Rattle.plane_theorems.proofs.Edits.Removal.StarFlips.{neighbours_differ}
+use Rattle.plane_theorems.proofs.Tiling.Counting.{at, corners_differ, SignMesh, within_turned}
+use Rattle.plane_theorems.proofs.Tiling.Flows.{HasSide, IsTurnOf, turned}
+use Rattle.plane_theorems.proofs.Tiling.Tiles.{by_signs, point_at}
 use Rattle.plane_theorems.proofs.Tiling.Covering as C
 use Rattle.plane_theorems.proofs.Tiling.Edges as E
 use Rattle.plane_theorems.proofs.Tiling.Loops as L
-use Rattle.plane_theorems.specs.Edits.Change.{FacesChange, OuterChange}
-use Rattle.plane_theorems.specs.Edits.Removal.{LocalMeshWithout, IsOther}
-use Rattle.plane_theorems.specs.Edits.RemovalHull.{IsHullStar, strip, chain}
-use Rattle.plane_theorems.proofs.Edits.LocalMesh.Changes.{Each, Once}
-use Rattle.plane_theorems.proofs.Edits.LocalMesh.Exchange.{IsTouched, IsBorder, some_made}
-use Rattle.plane_theorems.proofs.Edits.LocalMesh.Cuts.{cut}
-use Rattle.plane_theorems.proofs.Edits.Insertion.Hull.{next_unique}
 use Rattle.plane_theorems.proofs.Edits.Removal.HullStar as H
-use Rattle.plane_theorems.proofs.Edits.Removal.StarFlips.{neighbours_differ}
-use Rattle.plane.proofs.Signs.{sum_with_zero_is_positive}
 
 -- neighbours 0 to k are other vertices than v
 abbrev pub AreOthers : List Point → ℕ → ℕ → (ℕ → ℕ) → Type 0

@@ -6,29 +6,22 @@ use Rattle.std.proofs.Common.{subst, arith}
 use mathlib.Core.Logic.{inl, inr, ◌≢◌}
 use Rattle.std.specs.Prelude.{ℤ, pos, ◌<ℤ◌, ◌≤ℤ◌, Contains}
 use Rattle.std.proofs.lemmas.Bool.{cases_eq, cases_lt}
-use Rattle.plane.specs.Fraction.{Point, whole, WithinSegment}
-use Rattle.plane.specs.Pairs.{place}
-use Rattle.plane.specs.Tiling.{Face}
-use Rattle.plane_theorems.specs.Tiling.Local.{LocalMesh}
-use Rattle.plane.proofs.Sides.{on_if}
-use Rattle.plane.proofs.Steps.{left_not_zero, between_zero, negated_below}
-use Rattle.plane.proofs.Bracket.{bracket}
-use Rattle.plane.proofs.BracketIdentities.{bracket-turn, bracket-swap}
-use Rattle.plane_theorems.proofs.Tiling.Flows.{IsTurnOf, HasSide, no_turn}
+use Rattle.plane.specs.{Face, place, Point, whole, WithinSegment}
+use Rattle.plane.proofs.{between_zero, bracket, bracket-swap, bracket-turn, left_not_zero}
+use Rattle.plane.proofs.{negated_below, on_if}
+use Rattle.plane_theorems.specs.{AreNeighboursBut, chain, FacesChange, IsHullStar, IsOther}
+use Rattle.plane_theorems.specs.{LineMeshWithout, LocalMesh, OuterChange, strip}
+use Rattle.plane_theorems.proofs.Edits.Insertion.Hull.{on_side}
+use Rattle.plane_theorems.proofs.Edits.LocalMesh.Changes.{corner_of_each, face_kept, of_each}
+use Rattle.plane_theorems.proofs.Edits.Removal.StarFlips.{DifferUpTo, neighbours_differ}
 use Rattle.plane_theorems.proofs.Tiling.Counting.{at, SignMesh, within_turned}
-use Rattle.plane_theorems.proofs.Tiling.Tiles.{point_at, by_signs}
-use Rattle.plane_theorems.proofs.Tiling.Line.{flat}
+use Rattle.plane_theorems.proofs.Tiling.Flows.{HasSide, IsTurnOf, no_turn}
+use Rattle.plane_theorems.proofs.{Tiling.Line.flat, Tiling.Tiles.by_signs, Tiling.Tiles.point_at}
 use Rattle.plane_theorems.proofs.Tiling.Covering as C
 use Rattle.plane_theorems.proofs.Tiling.Edges as E
-use Rattle.plane_theorems.specs.Edits.Change.{FacesChange, OuterChange}
-use Rattle.plane_theorems.specs.Edits.Removal.{AreNeighboursBut, IsOther, LineMeshWithout}
-use Rattle.plane_theorems.specs.Edits.RemovalHull.{IsHullStar, strip, chain}
-use Rattle.plane_theorems.proofs.Edits.LocalMesh.Changes.{face_kept, of_each, corner_of_each}
-use Rattle.plane_theorems.proofs.Edits.Insertion.Hull.{on_side}
 use Rattle.plane_theorems.proofs.Edits.Removal.Opposite as O
 use Rattle.plane_theorems.proofs.Edits.Removal.HullStar as H
 use Rattle.plane_theorems.proofs.Edits.Removal.HullCut as T
-use Rattle.plane_theorems.proofs.Edits.Removal.StarFlips.{DifferUpTo, neighbours_differ}
 
 module _ (points : List Point) (old new : List Face) (outer outer' : List (ℕ × ℕ)) (m : LocalMesh
     points old outer) (v k : ℕ) (nb : ℕ → ℕ) (star : IsHullStar old outer v k nb) (corner : pos 0

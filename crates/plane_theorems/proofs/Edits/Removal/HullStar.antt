@@ -10,27 +10,21 @@ use Rattle.std.specs.Prelude.{ℤ, pos, ◌+ℤ◌, ◌-ℤ◌, ◌*ℤ◌, ◌�
 use lib.IntN.{*ℤ_comm}
 use Rattle.std.proofs.lemmas.Bool.{cases_eq, cases_lt}
 use Rattle.std.proofs.lemmas.Int.{ints}
-use Rattle.plane.specs.Fraction.{Point}
-use Rattle.plane.specs.Tiling.{Face}
-use Rattle.plane.proofs.IntegerOrder.{lt_or_ge_ℤ, mul-pos_ℤ, mul-nonneg_ℤ}
-use Rattle.plane.proofs.IntegerOrder.{mul-nonpos_of_nonneg_nonpos_ℤ, zero-mul_ℤ, pos_of_mul-pos_ℤ}
-use Rattle.plane.proofs.IntegerOrder.{nonneg_of_mul-nonneg_ℤ}
-use Rattle.plane.proofs.Steps.{weak, zero_weak, zero_weak_left, negated_below, zero_or_left}
-use Rattle.plane.proofs.Steps.{product_zero_left, left_not_zero, not_left_of_product, three_below}
-use Rattle.plane.proofs.Solver.{num, ◌⊕◌, ◌⊖◌, ◌⊗◌, ⊝, ring_in_from}
-use Rattle.plane.proofs.Bracket.{bracket}
-use Rattle.plane.proofs.BracketIdentities.{bracket-turn, bracket-swap, bracket-outer, bracket-last}
-use Rattle.plane.proofs.BracketIdentities.{cramer}
-use Rattle.plane_theorems.proofs.Tiling.Flows.{HasSide, turned}
+use Rattle.{plane.specs.Face, plane.specs.Point, plane_theorems.specs.IsHullStar}
+use Rattle.plane.proofs.{◌⊕◌, ◌⊖◌, ◌⊗◌, at_most_if_not_less, bracket, bracket-last, bracket-outer}
+use Rattle.plane.proofs.{bracket-swap, bracket-turn, cramer, left_not_zero, lt_or_ge_ℤ}
+use Rattle.plane.proofs.{mul-nonneg_ℤ, mul-nonpos_of_nonneg_nonpos_ℤ, mul-pos_ℤ, negated_below}
+use Rattle.plane.proofs.{nonneg_of_mul-nonneg_ℤ, not_left_of_product, num, one_more_than_last}
+use Rattle.plane.proofs.{pos_of_mul-pos_ℤ, product_zero_left, ring_in_from, weak, zero-mul_ℤ}
+use Rattle.plane.proofs.{zero_below_positive, zero_or_left, zero_weak, zero_weak_left, ⊝}
+use Rattle.plane.proofs.{Signs.difference_of_zeros, Steps.three_below}
+use Rattle.plane_theorems.proofs.Edits.Removal.Star.{IsInAngle, same_angle}
 use Rattle.plane_theorems.proofs.Tiling.Counting.{at, SignMesh}
+use Rattle.plane_theorems.proofs.Tiling.Flows.{HasSide, turned}
 use Rattle.plane_theorems.proofs.Tiling.Covering as C
 use Rattle.plane_theorems.proofs.Tiling.Loops as L
-use Rattle.plane_theorems.specs.Edits.RemovalHull.{IsHullStar}
-use Rattle.plane_theorems.proofs.Edits.Removal.Star.{IsInAngle, same_angle}
 use Rattle.plane_theorems.proofs.Edits.Removal.Opposite as O
 use Rattle.plane_theorems.proofs.Edits.Removal.Inner as I
-use Rattle.plane.proofs.Signs.{difference_of_zeros, zero_below_positive, at_most_if_not_less}
-use Rattle.plane.proofs.Indexes.{one_more_than_last}
 
 abbrev before : ℕ → ℕ
 before zero = zero

@@ -3,14 +3,12 @@
 -- corner_or_flat.
 use Rattle.std.proofs.Common.{ap, ◌∙◌, arith}
 use Prim.Native.Nat.{◌-◌}
-use Rattle.plane.proofs.Sides.{if_left, if_on, left_if, on_if}
 use Rattle.std.specs.Prelude.{neg_ℤ}
-use Rattle.plane.proofs.BracketIdentities.{bracket-swap}
 use mathlib.Core.Logic.{inl, inr}
-use Rattle.plane.proofs.Steps.{zero_or_left}
-use Rattle.plane_theorems.proofs.Tiling.Tiles.{by_signs, bracket_not_left}
+use Rattle.plane.proofs.{bracket-swap, if_left, if_on, left_if, on_if, zero_or_left}
 use Rattle.plane_theorems.specs.Edits.RemovalHull.{CornerGoes, CornerLeavesLine, CornerOrFlat}
 use Rattle.plane_theorems.specs.Edits.RemovalHull.{CornerStarFlips, FlatSideCloses, FlatStarFlips}
+use Rattle.plane_theorems.proofs.Tiling.Tiles.{bracket_not_left, by_signs}
 use Rattle.plane_theorems.proofs.Edits.Removal.HullStar as H
 use Rattle.plane_theorems.proofs.Edits.Removal.HullCut as T
 use Rattle.plane_theorems.proofs.Edits.Removal.HullLine as N

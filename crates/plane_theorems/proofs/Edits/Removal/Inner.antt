@@ -9,21 +9,16 @@ use mathlib.Core.Logic.{inl, inr, ◌≢◌}
 use Rattle.std.specs.Prelude.{ℤ, pos, ◌+ℤ◌, ◌-ℤ◌, ◌*ℤ◌, ◌≤ℤ◌, ◌<ℤ◌}
 use Rattle.std.proofs.lemmas.Int.{ints}
 use Rattle.std.proofs.lemmas.Bool.{cases_eq}
-use Rattle.plane.specs.Fraction.{Point, whole, WithinSegment}
-use Rattle.plane.specs.Tiling.{Face}
-use Rattle.plane.proofs.IntegerOrder.{lt_or_ge_ℤ, mul-pos_ℤ, mul-nonneg_ℤ, pos_of_mul-pos_ℤ}
-use Rattle.plane.proofs.Steps.{weak}
-use Rattle.plane.proofs.Solver.{◌⊕◌, ◌⊖◌, ◌⊗◌, ring_over}
-use Rattle.plane.proofs.Bracket.{bracket, bracketᵖ, lift, liftᵖ, points}
-use Rattle.plane.proofs.BracketIdentities.{bracket-turn, bracket-swap, bracket-outer}
-use Rattle.plane_theorems.proofs.Tiling.Flows.{IsTurnOf}
+use Rattle.plane.specs.{Face, Point, whole, WithinSegment}
+use Rattle.plane.proofs.{◌⊕◌, ◌⊖◌, ◌⊗◌, below_or_last, bracket, bracket-outer, bracket-swap}
+use Rattle.plane.proofs.{bracket-turn, bracketᵖ, difference_is_positive, difference_not_negative}
+use Rattle.plane.proofs.{lift, liftᵖ, lt_or_ge_ℤ, mul-nonneg_ℤ, mul-pos_ℤ, next_sum, points}
+use Rattle.plane.proofs.{pos_of_mul-pos_ℤ, positive_plus_not_negative, ring_over, weak}
+use Rattle.{plane.proofs.zero_below_positive, plane_theorems.proofs.Tiling.Flows.IsTurnOf}
+use Rattle.plane_theorems.proofs.Edits.Removal.Star.{apart_later, AreOneToOne, IsAgain}
 use Rattle.plane_theorems.proofs.Tiling.Counting.{at, SignMesh}
 use Rattle.plane_theorems.proofs.Tiling.Covering as C
-use Rattle.plane_theorems.proofs.Edits.Removal.Star.{IsAgain, AreOneToOne, apart_later}
 use Rattle.plane_theorems.proofs.Edits.Removal.Opposite as O
-use Rattle.plane.proofs.Signs.{zero_below_positive, positive_plus_not_negative}
-use Rattle.plane.proofs.Signs.{difference_is_positive, difference_not_negative}
-use Rattle.plane.proofs.Indexes.{below_or_last, next_sum}
 
 -- of the numbers below count, one has P, or all have Q
 search : (P Q : ℕ → Type 0) → ((i : ℕ) → P i ⊎ Q i) → (count : ℕ)

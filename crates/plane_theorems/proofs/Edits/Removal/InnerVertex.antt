@@ -3,9 +3,9 @@
 use Rattle.std.proofs.Common.{◌≡◌, ℕ, suc, ◌≤◌, length, ◌∙◌, subst, arith}
 use Prim.Native.Nat.{◌-◌}
 use mathlib.Core.Logic.{inl, inr}
-use Rattle.plane.proofs.Sides.{left_if}
-use Rattle.plane_theorems.proofs.Tiling.Tiles.{point_at, by_signs}
-use Rattle.plane_theorems.specs.Edits.RemovalLaws.{InnerStarFlips, ThreeFacesMerge, FourFacesMerge}
+use Rattle.plane.proofs.{left_if}
+use Rattle.plane_theorems.specs.Edits.RemovalLaws.{FourFacesMerge, InnerStarFlips, ThreeFacesMerge}
+use Rattle.plane_theorems.proofs.Tiling.Tiles.{by_signs, point_at}
 use Rattle.plane_theorems.proofs.Edits.Removal.Inner as I
 use Rattle.plane_theorems.proofs.Edits.Removal.Merge as M
 

@@ -8,21 +8,17 @@ use native.Mathlib.Nat.{add-suc}
 use mathlib.Core.Logic.{inl, inr, ◌≢◌}
 use Rattle.std.specs.Prelude.{pos, ◌<ℤ◌, Contains}
 use Rattle.std.proofs.lemmas.Int.{ints}
-use Rattle.plane.specs.Fraction.{Point, whole, WithinSegment}
-use Rattle.plane.specs.Tiling.{Face, face}
-use Rattle.plane.proofs.Bracket.{bracket}
-use Rattle.plane.proofs.BracketIdentities.{bracket-turn, bracket-swap, bracket-sum}
-use Rattle.plane_theorems.specs.Tiling.Local.{LocalMesh}
-use Rattle.plane_theorems.proofs.Tiling.Flows.{IsTurnOf, HasSide, turned}
-use Rattle.plane_theorems.proofs.Tiling.Counting.{at, SignMesh, corners_differ}
-use Rattle.plane_theorems.proofs.Tiling.Tiles.{point_at, by_signs}
+use Rattle.plane.specs.{Face, face, Point, whole, WithinSegment}
+use Rattle.plane.proofs.{bracket, bracket-sum, bracket-swap, bracket-turn}
+use Rattle.plane_theorems.specs.{FacesChange, IsOther, IsStar, LocalMesh, LocalMeshWithout}
+use Rattle.{plane_theorems.proofs.Edits.LocalMesh.Cuts.cut, plane_theorems.specs.OuterChange}
+use Rattle.plane_theorems.proofs.Edits.LocalMesh.Exchange.{all_stay, IsTouched, some_made}
+use Rattle.plane_theorems.proofs.Tiling.Counting.{at, corners_differ, SignMesh}
+use Rattle.plane_theorems.proofs.Tiling.Flows.{HasSide, IsTurnOf, turned}
+use Rattle.plane_theorems.proofs.Tiling.Tiles.{by_signs, point_at}
 use Rattle.plane_theorems.proofs.Tiling.Covering as C
 use Rattle.plane_theorems.proofs.Tiling.Edges as E
 use Rattle.plane_theorems.proofs.Tiling.Loops as L
-use Rattle.plane_theorems.specs.Edits.Change.{FacesChange, OuterChange}
-use Rattle.plane_theorems.specs.Edits.Removal.{IsStar, IsOther, LocalMeshWithout}
-use Rattle.plane_theorems.proofs.Edits.LocalMesh.Exchange.{IsTouched, all_stay, some_made}
-use Rattle.plane_theorems.proofs.Edits.LocalMesh.Cuts.{cut}
 
 module _ (points : List Point) (old new : List Face) (outer outer' : List (ℕ × ℕ))
     (m : LocalMesh points old outer) (outer_change : OuterChange outer outer' [] []) where

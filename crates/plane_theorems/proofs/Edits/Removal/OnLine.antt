@@ -5,24 +5,17 @@ use mathlib.Core.Logic.{inl, inr, ◌≢◌}
 use Rattle.std.specs.Prelude.{ℤ, ◌<ℤ◌, neg_ℤ, Contains}
 use Rattle.std.proofs.lemmas.Int.{ints}
 use Rattle.std.proofs.lemmas.Bool.{cases_eq}
-use Rattle.plane.specs.Fraction.{Point, whole, WithinSegment}
-use Rattle.plane.proofs.IntegerOrder.{lt_or_ge_ℤ}
-use Rattle.plane.proofs.BracketIdentities.{bracket-outer}
-use Rattle.plane_theorems.specs.Tiling.Local.{LineMesh}
-use Rattle.plane_theorems.proofs.Tiling.Totals.{Contains-none}
-use Rattle.plane_theorems.proofs.Tiling.Counting.{at, within_turned}
-use Rattle.plane_theorems.proofs.Tiling.Tiles.{point_at}
-use Rattle.plane_theorems.proofs.Tiling.Line.{SignLine, Adjoin, next_turned, back_way}
-use Rattle.plane_theorems.proofs.Tiling.LineMeshes.{line_by_signs}
-use Rattle.plane_theorems.proofs.Tiling.LinePlaces as O
-use Rattle.plane.specs.Pairs.{IsSamePair}
-use Rattle.plane_theorems.specs.Edits.Change.{OuterChange}
-use Rattle.plane_theorems.specs.Edits.Removal.{AreNeighboursBut, LineMeshWithout}
+use Rattle.plane.specs.{IsSamePair, Point, whole, WithinSegment}
+use Rattle.plane.proofs.{at_most_both_ways, below_and_not_below, bracket-outer, less_through}
+use Rattle.plane.proofs.{less_twice_is_not_same, lt_or_ge_ℤ, same_if_neither_less}
+use Rattle.plane_theorems.specs.{AreNeighboursBut, LineMesh, LineMeshWithout, OuterChange}
 use Rattle.plane_theorems.specs.Edits.RemovalLaws.{EndOfLineGoes, MiddleOfLineGoes}
-use Rattle.plane_theorems.proofs.Edits.Insertion.FromLine.{places_back}
-use Rattle.plane_theorems.proofs.Edits.LocalMesh.Changes.{of_each, IsOnce}
-use Rattle.plane.proofs.Signs.{at_most_both_ways, less_through, less_twice_is_not_same}
-use Rattle.plane.proofs.Signs.{below_and_not_below, same_if_neither_less}
+use Rattle.plane_theorems.proofs.{Edits.Insertion.FromLine.places_back, Tiling.Totals.Contains-none}
+use Rattle.plane_theorems.proofs.Edits.LocalMesh.Changes.{IsOnce, of_each}
+use Rattle.plane_theorems.proofs.Tiling.Counting.{at, within_turned}
+use Rattle.plane_theorems.proofs.Tiling.Line.{Adjoin, back_way, next_turned, SignLine}
+use Rattle.plane_theorems.proofs.{Tiling.LineMeshes.line_by_signs, Tiling.Tiles.point_at}
+use Rattle.plane_theorems.proofs.Tiling.LinePlaces as O
 
 -- with no vertex between but perhaps v, from the other end
 but_turned : (v : ℕ) (points : List Point) (i j : ℕ) → AreNeighboursBut v points i j

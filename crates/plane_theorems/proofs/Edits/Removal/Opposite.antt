@@ -5,22 +5,18 @@ use Rattle.std.proofs.Common.{◌≡◌, ◌⊎◌, ℕ, sym, ap, ◌∙◌, sub
 use mathlib.Core.Logic.{inl, inr, ◌≢◌}
 use Rattle.std.specs.Prelude.{List, ℤ, pos, ◌+ℤ◌, ◌-ℤ◌, ◌*ℤ◌, ◌≤ℤ◌, ◌<ℤ◌, neg_ℤ}
 use Rattle.std.proofs.lemmas.Int.{ints}
-use Rattle.plane.specs.Fraction.{Point, whole, WithinSegment}
-use Rattle.plane.specs.Tiling.{Face}
 use Rattle.std.proofs.lemmas.Bool.{cases_eq}
-use Rattle.plane.proofs.IntegerOrder.{lt_or_ge_ℤ, mul-pos_ℤ, nonneg_of_mul-nonneg_ℤ, zero-mul_ℤ}
-use Rattle.plane.proofs.IntegerOrder.{mul-nonneg_of_nonpos_ℤ, pos_of_mul-pos_ℤ, zero_of_mul-zero_ℤ}
-use Rattle.plane.proofs.Steps.{weak, weak_right, zero_weak, zero_weak_left, left_not_zero}
-use Rattle.plane.proofs.Steps.{left_not_below, right_not_zero, negated_left, product_zero_left}
-use Rattle.plane.proofs.Bracket.{bracket}
-use Rattle.plane.proofs.BracketIdentities.{bracket-turn, bracket-swap, bracket-last, pluecker}
-use Rattle.plane_theorems.proofs.Tiling.Flows.{IsTurnOf}
+use Rattle.plane.specs.{Face, Point, whole, WithinSegment}
+use Rattle.plane.proofs.{at_most_if_not_less, bracket, bracket-last, bracket-swap, bracket-turn}
+use Rattle.plane.proofs.{left_not_below, left_not_zero, less_if_not_same, lt_or_ge_ℤ}
+use Rattle.plane.proofs.{mul-nonneg_of_nonpos_ℤ, mul-pos_ℤ, negated_left, nonneg_of_mul-nonneg_ℤ}
+use Rattle.plane.proofs.{opposite_of_not_positive, pluecker, pos_of_mul-pos_ℤ, product_zero_left}
+use Rattle.plane.proofs.{right_not_zero, weak, weak_right, zero-mul_ℤ, zero_of_mul-zero_ℤ}
+use Rattle.plane.proofs.{Signs.neither_sign_is_zero, zero_weak, zero_weak_left}
+use Rattle.plane_theorems.proofs.{Edits.Insertion.Hull.on_side, Tiling.Flows.IsTurnOf}
+use Rattle.plane_theorems.proofs.Edits.Removal.Star.{IsInAngle, same_angle}
 use Rattle.plane_theorems.proofs.Tiling.Counting.{at, SignMesh}
 use Rattle.plane_theorems.proofs.Tiling.Covering as C
-use Rattle.plane_theorems.proofs.Edits.Insertion.Hull.{on_side}
-use Rattle.plane_theorems.proofs.Edits.Removal.Star.{IsInAngle, same_angle}
-use Rattle.plane.proofs.Signs.{neither_sign_is_zero, opposite_of_not_positive}
-use Rattle.plane.proofs.Signs.{at_most_if_not_less, less_if_not_same}
 
 -- the six turns between four ways have Pluecker's relation
 abbrev pub AgreeInFours : (ℕ → ℕ → ℤ) → Type 0

@@ -11,18 +11,15 @@ use Rattle.std.proofs.lemmas.Bool.{cases_eq}
 use Rattle.std.proofs.lemmas.Bool.Decides.{nat_tests}
 use Rattle.std.proofs.lemmas.List.{length-take, length-set, get_or-take}
 use Rattle.std.proofs.lemmas.List.{get_or-set_same, get_or-set_other}
-use Rattle.plane.specs.Fraction.{Point, Fraction, whole, WithinSegment}
-use Rattle.plane.specs.Side.{side, TurnsLeft}
-use Rattle.plane.specs.Pairs.{place, IsIndex}
-use Rattle.plane.specs.Tiling.{Face, AreNeighbours}
-use Rattle.plane_theorems.specs.Tiling.Local.{around, along, IsCorner, LocalMesh, LineMesh, alone}
-use Rattle.plane_theorems.proofs.Tiling.Totals.{Contains-none, get_or_any}
+use Rattle.plane.specs.{AreNeighbours, Face, Fraction, IsIndex, place, Point, side, TurnsLeft}
+use Rattle.plane.specs.{whole, WithinSegment}
+use Rattle.plane.proofs.{at_most_last, one_more_than_last}
+use Rattle.plane_theorems.specs.{alone, along, AreNeighboursBut, around, IsCorner, IsOther}
+use Rattle.plane_theorems.specs.{LineMesh, LineMeshWithout, LocalMesh, LocalMeshWithout, new_index}
+use Rattle.plane_theorems.specs.Edits.Removal.{renumbered, renumbered_pair}
 use Rattle.plane_theorems.specs.Edits.RemovalLaws.{LastTakesFreedIndex, LastTakesFreedIndexOnLine}
-use Rattle.plane_theorems.specs.Edits.Removal.{IsOther, LocalMeshWithout, LineMeshWithout}
-use Rattle.plane_theorems.specs.Edits.Removal.{AreNeighboursBut}
-use Rattle.plane_theorems.specs.Edits.Removal.{new_index, renumbered, renumbered_pair}
-use Rattle.plane.proofs.Indexes.{one_more_than_last, at_most_last}
-use Rattle.plane_theorems.proofs.Edits.LocalMesh.Changes.{mapped, total_map, once_under_map}
+use Rattle.plane_theorems.proofs.Edits.LocalMesh.Changes.{mapped, once_under_map, total_map}
+use Rattle.plane_theorems.proofs.Tiling.Totals.{Contains-none, get_or_any}
 pub use Rattle.plane_theorems.proofs.Edits.LocalMesh.Changes.{from_map}
 
 -- ---- the indexes

@@ -5,19 +5,14 @@ use Rattle.std.proofs.Common.{◌≡◌, ◌⊎◌, ◌<◌, suc, ℕ, List, ref
 use mathlib.Core.Logic.{inl, inr, ◌≢◌}
 use Rattle.std.specs.Prelude.{pos, ◌≤ℤ◌, ◌<ℤ◌, neg_ℤ}
 use Rattle.std.proofs.lemmas.Int.{ints}
-use Rattle.plane.specs.Fraction.{Point}
-use Rattle.plane.specs.Tiling.{Face}
-use Rattle.plane.proofs.IntegerOrder.{mul-pos_ℤ, pos_of_mul-pos_ℤ}
-use Rattle.plane.proofs.Steps.{both_signs, negated_right, zero_or_left, product_zero_left}
-use Rattle.plane.proofs.Nudges.{nudged_left}
 use Rattle.std.proofs.lemmas.Bool.{cases_eq}
 use Prim.Native.Nat.{◌+◌}
-use Rattle.plane.proofs.Bracket.{Vec3, bracket}
-use Rattle.plane.proofs.BracketIdentities.{bracket-turn, bracket-swap, pluecker}
-use Rattle.plane.proofs.BracketIdentities.{bracket-outer, bracket-last}
-use Rattle.plane.proofs.Generic.{Inside, near}
+use Rattle.plane.proofs.{both_signs, bracket, bracket-last, bracket-outer, bracket-swap}
+use Rattle.plane.proofs.{bracket-turn, Inside, mul-pos_ℤ, near, negated_right, pluecker}
+use Rattle.plane.proofs.{pos_of_mul-pos_ℤ, product_zero_left, Vec3, zero_or_left}
+use Rattle.{plane.proofs.Nudges.nudged_left, plane.specs.Face, plane.specs.Point}
+use Rattle.plane_theorems.proofs.Tiling.Counting.{at, corners_differ, SignMesh}
 use Rattle.plane_theorems.proofs.Tiling.Flows.{IsTurnOf, turned}
-use Rattle.plane_theorems.proofs.Tiling.Counting.{at, SignMesh, corners_differ}
 use Rattle.plane_theorems.proofs.Tiling.Covering as C
 
 -- ---- a round of neighbours that closes after k steps, and not before

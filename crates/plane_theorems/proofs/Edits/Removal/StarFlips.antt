@@ -8,28 +8,20 @@ use mathlib.Core.Logic.{inl, inr, ◌≢◌}
 use Rattle.std.specs.Prelude.{pos, ◌<ℤ◌, Contains, nat_eq, if◌then◌else◌}
 use Rattle.std.proofs.lemmas.Bool.{cases_eq}
 use Rattle.std.proofs.lemmas.Bool.Decides.{nat_tests}
-use Rattle.plane.specs.Fraction.{Point}
-use Rattle.plane.specs.Tiling.{Face, face}
-use Rattle.plane_theorems.specs.Tiling.Local.{LocalMesh}
-use Rattle.plane.proofs.BracketIdentities.{bracket-turn, bracket-last}
-use Rattle.plane.proofs.Steps.{zero_weak_left}
-use Rattle.plane_theorems.proofs.Tiling.Counting.{at, SignMesh, corners_differ}
-use Rattle.plane_theorems.proofs.Tiling.Flows.{IsTurnOf, HasSide, turned}
+use Rattle.plane.specs.{Face, face, Point}
+use Rattle.plane.proofs.{bracket-last, bracket-turn, less_or_more, next_sum, zero_weak_left}
+use Rattle.plane_theorems.specs.{FacesChange, IsFaceOf, IsHullStar, IsStar, IsStarFlip, LocalMesh}
+use Rattle.plane_theorems.specs.Edits.StarFlips.{HullStarsAgree, HullStarShrinks, InnerStarShrinks}
+use Rattle.plane_theorems.specs.Edits.StarFlips.{StarsAgree, without}
+use Rattle.plane_theorems.proofs.Edits.LocalMesh.Changes.{corner_of_each, Each, face_from}
+use Rattle.plane_theorems.proofs.{Edits.LocalMesh.Changes.face_kept, Edits.LocalMesh.Kept.flip_kept}
+use Rattle.plane_theorems.proofs.Edits.Removal.Star.{apart_later, IsInAngle, same_angle}
+use Rattle.plane_theorems.proofs.Tiling.Counting.{at, corners_differ, SignMesh}
+use Rattle.plane_theorems.proofs.Tiling.Flows.{HasSide, IsTurnOf, turned}
+use Rattle.plane_theorems.proofs.Tiling.Tiles.{by_signs, point_at}
+use Rattle.plane_theorems.proofs.Tiling.Totals.{Contains-none}
 use Rattle.plane_theorems.proofs.Tiling.Covering as C
 use Rattle.plane_theorems.proofs.Tiling.Loops as L
-use Rattle.plane_theorems.proofs.Tiling.Tiles.{point_at, by_signs}
-use Rattle.plane_theorems.proofs.Tiling.Totals.{Contains-none}
-use Rattle.plane_theorems.specs.Edits.Change.{IsFaceOf, FacesChange}
-use Rattle.plane_theorems.specs.Edits.Removal.{IsStar}
-use Rattle.plane_theorems.specs.Edits.RemovalHull.{IsHullStar}
-use Rattle.plane_theorems.specs.Edits.StarFlips.{IsStarFlip, InnerStarShrinks, without}
-use Rattle.plane_theorems.specs.Edits.StarFlips.{HullStarShrinks}
-use Rattle.plane_theorems.specs.Edits.StarFlips.{StarsAgree, HullStarsAgree}
-use Rattle.plane_theorems.proofs.Edits.LocalMesh.Changes.{Each, face_from, face_kept}
-use Rattle.plane_theorems.proofs.Edits.LocalMesh.Changes.{corner_of_each}
-use Rattle.plane_theorems.proofs.Edits.LocalMesh.Kept.{flip_kept}
-use Rattle.plane_theorems.proofs.Edits.Removal.Star.{IsInAngle, same_angle, apart_later}
-use Rattle.plane.proofs.Indexes.{less_or_more, next_sum}
 
 -- ---- one face on each side
 module _ (points : List Point) (faces : List Face) (outer : List (ℕ × ℕ))

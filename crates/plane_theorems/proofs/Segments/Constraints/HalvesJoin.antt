@@ -10,27 +10,20 @@ use Rattle.std.specs.Prelude.{pos, ◌↔◌, swap_remove, nat_eq, if◌then◌e
 use Rattle.std.proofs.lemmas.Bool.{cases_eq}
 use Rattle.std.proofs.lemmas.Bool.Decides.{nat_tests}
 use Rattle.std.proofs.lemmas.List.{length-map, take-map, map-set, get_or-map}
-use Rattle.plane.specs.Fraction.{Point, whole, WithinSegment}
-use Rattle.plane.specs.Crossing.{Cross}
-use Rattle.plane.specs.Pairs.{Joins, IsSamePair, place, IsIndex}
-use Rattle.plane.specs.Plain.{Plain, IsPlain, points_of, TakesOut, CanAdd, AreNeighboursOn}
-use Rattle.plane.specs.Tiling.{Face}
-use Rattle.plane.proofs.Segments.{only_point, same-refl, on_of_within, start_on_segment}
-use Rattle.plane.proofs.Segments.{end_on_segment}
-use Rattle.plane_theorems.specs.Tiling.Laws.{EdgesMeetAtVertices}
-use Rattle.plane_theorems.specs.Edits.Legal.{point_of}
-use Rattle.plane_theorems.specs.Edits.Removal.{new_index}
-use Rattle.plane_theorems.proofs.Edits.Removal.Renumbering.{old_index, old_below, new_below}
-use Rattle.plane_theorems.proofs.Edits.Removal.Renumbering.{new_of_old}
-use Rattle.plane_theorems.proofs.Edits.Removal.Renumbering.{old_of_new, new_apart, left_count}
-use Rattle.plane_theorems.proofs.Edits.Removal.Renumbering.{left_place}
-use Rattle.plane_theorems.specs.Segments.Constraints.{AreNextOn, ArePlacedApart}
+use Rattle.plane.specs.{AreNeighboursOn, CanAdd, Cross, Face, IsIndex, IsPlain, IsSamePair, Joins}
+use Rattle.plane.specs.{place, Plain, Point, points_of, TakesOut, whole, WithinSegment}
+use Rattle.plane.proofs.{at_most_last, end_on_segment, less_or_more, on_of_within}
+use Rattle.plane.proofs.{one_more_than_last, only_point, same-refl, start_on_segment}
+use Rattle.plane_theorems.specs.{AreNextOn, ArePlacedApart, EdgesMeetAtVertices, new_index}
+use Rattle.plane_theorems.specs.{point_of}
 use Rattle.plane_theorems.specs.Segments.PathSteps.{CanBeJoined, StraightHalvesJoinAfterRemoval}
-use Rattle.plane_theorems.proofs.Segments.Crossing.EitherWay.{one_point}
-use Rattle.plane_theorems.proofs.Segments.Constraints.Pieces.{path_goes_on, path_ends}
-use Rattle.plane_theorems.proofs.Segments.Constraints.Pieces.{next_is_neighbours}
+use Rattle.plane_theorems.proofs.Edits.Removal.Renumbering.{left_count, left_place, new_apart}
+use Rattle.plane_theorems.proofs.Edits.Removal.Renumbering.{new_below, new_of_old, old_below}
+use Rattle.plane_theorems.proofs.Edits.Removal.Renumbering.{old_index, old_of_new}
 use Rattle.plane_theorems.proofs.Segments.Constraints.Splits.{straight_halves_join}
-use Rattle.plane.proofs.Indexes.{at_most_last, one_more_than_last, less_or_more}
+use Rattle.plane_theorems.proofs.Segments.Constraints.Subconstraints.{next_is_neighbours, path_ends}
+use Rattle.plane_theorems.proofs.Segments.Constraints.Subconstraints.{path_goes_on}
+use Rattle.plane_theorems.proofs.Segments.Crossing.EitherWay.{one_point}
 
 -- ---- the points without v, of which the last has taken its index
 module _ (points left : List Point) (v last : ℕ) (v_index : v < suc last)
@@ -64,9 +57,9 @@ module _ (points left : List Point) (v last : ℕ) (v_index : v < suc last)
   module _ (a b : ℕ) (ha : IsIndex points a) (hb : IsIndex points b) (av : a ≢ v) (bv : b ≢ v)
       (ab : a ≢ b) (none : (k : ℕ) → IsIndex points k → k ≢ v
       → ¬ WithinSegment (place points a) (place points b) (place points k)) where
-    piece : AreNextOn left (new_index v last a) (new_index v last b) (new_index v last a)
+    subconstraint : AreNextOn left (new_index v last a) (new_index v last b) (new_index v last a)
         (new_index v last b)
-    piece = record {
+    subconstraint = record {
       apart = λ e. ab (new_apart v last a b av bv e);
       first_index = index_now a ha av;
       second_index = index_now b hb bv;
@@ -77,11 +70,11 @@ module _ (points left : List Point) (v last : ℕ) (v_index : v < suc last)
           (λ s t. WithinSegment s t (place left k)) (place_now a ha av) (place_now b hb bv) w));
     }
 
-    one_piece : (c d : ℕ) → AreNextOn left (new_index v last a) (new_index v last b) c d
+    one_subconstraint : (c d : ℕ) → AreNextOn left (new_index v last a) (new_index v last b) c d
         ↔ IsSamePair c d (new_index v last a) (new_index v last b)
-    one_piece c d = let g =
+    one_subconstraint c d = let g =
         path_goes_on left (new_index v last a) (new_index v last b) (new_index v last b) apart_now
-        (index_now b hb bv) (λ e. ab (new_apart v last a b av bv e)) piece c d in (
+        (index_now b hb bv) (λ e. ab (new_apart v last a b av bv e)) subconstraint c d in (
           (λ s. elim (g.0 s)
               [ inl e ↦ e | inr o ↦ absurd (path_ends left (new_index v last b) apart_now c d o) ]),
           (λ e. g.1 (inl e)),
@@ -302,7 +295,7 @@ module _ {V : Type 0} (position : V → Point) (old new : Plain V) (faces : List
   neighbours : (c d : ℕ) → AreNeighboursOn position Q a' b' c d ↔ IsSamePair c d a' b'
   neighbours c d =
       let n = next_is_neighbours position Q a' b' c d in
-      let o = one_piece P Q v last fit count_then (count_left position old new v r)
+      let o = one_subconstraint P Q v last fit count_then (count_left position old new v r)
       (place_left position old new v r) apart a b ha hb av bv ab none.0 c d in
       ((λ h. o.0 (n.0 h)), (λ h. n.1 (o.1 h)))
 
@@ -311,7 +304,7 @@ module _ {V : Type 0} (position : V → Point) (old new : Plain V) (faces : List
     ends = (below a ha av, below b hb bv);
     not_yet = not_yet;
     free = free;
-    one_piece = neighbours;
+    one_subconstraint = neighbours;
     joined = λ now vertices pairs. record {
       ends = (below a ha av, below b hb bv);
       free = free;

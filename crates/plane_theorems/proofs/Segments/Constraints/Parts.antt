@@ -4,19 +4,13 @@ use Rattle.std.proofs.Common.{◌≡◌, ◌⊎◌, [], ◌∷◌, subst, arith}
 use mathlib.Core.Logic.{inl, inr}
 use Rattle.std.specs.Prelude.{ℤ, pos, ◌+ℤ◌, ◌-ℤ◌, ◌*ℤ◌, ◌≤ℤ◌, ◌<ℤ◌, neg_ℤ}
 use Rattle.std.proofs.lemmas.Int.{ints}
-use Rattle.plane.specs.Fraction.{Point, Fraction, whole, IsSame, WithinSegment}
-use Rattle.plane.proofs.IntegerOrder.{trichotomy_ℤ, mul-pos_ℤ}
-use Rattle.plane.proofs.Solver.{◌⊕◌, ◌⊖◌, ◌⊗◌, ⊝, ring_in}
-use Rattle.plane.proofs.Bracket.{bracket, lift, vec}
-use Rattle.plane.proofs.BracketIdentities.{bracket-outer, bracket-last}
-use Rattle.plane.proofs.Segments.{same-refl, same-sym, same-trans, only_point, on_of_within}
-use Rattle.plane.proofs.Decisions.{Decision, decide_point}
-use Rattle.plane.proofs.Collinear.{place_on, place_of_start, place_of_end}
-use Rattle.plane.proofs.LineOrder.{ahead, AreOneSign, within_if_ahead, ahead_if_within}
-use Rattle.plane.proofs.LineOrder.{same_if_level}
+use Rattle.plane.specs.{Fraction, IsSame, Point, whole, WithinSegment}
+use Rattle.plane.proofs.{◌⊕◌, ◌⊖◌, ◌⊗◌, ahead, bracket, bracket-last, bracket-outer, decide_point}
+use Rattle.plane.proofs.{Decision, lift, mul-pos_ℤ, on_of_within, only_point, opposite_of_negative}
+use Rattle.plane.proofs.{place_of_end, place_of_start, place_on, ring_in, same-refl, same-sym}
+use Rattle.plane.proofs.{same-trans, same_if_level, trichotomy_ℤ, vec, weak_right, within_if_ahead}
+use Rattle.plane.proofs.{LineOrder.ahead_if_within, LineOrder.AreOneSign, zero_weak, ⊝}
 use Rattle.plane_theorems.proofs.Tiling.Edges.{within_on}
-use Rattle.plane.proofs.Signs.{opposite_of_negative}
-use Rattle.plane.proofs.Steps.{weak_right, zero_weak}
 
 ahead-swapped : (u v : Point) (a b : Fraction) → ahead u v b a ≡ neg_ℤ (ahead u v a b)
 unfolding ahead

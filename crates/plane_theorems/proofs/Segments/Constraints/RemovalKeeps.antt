@@ -4,22 +4,14 @@
 use Rattle.std.proofs.Common.{◌≡◌, ◌⊎◌, ℕ, List, length, sym, subst}
 use mathlib.Core.Logic.{inl, inr, ◌≢◌}
 use Rattle.std.specs.Prelude.{pos, ◌<ℤ◌, Contains}
-use Rattle.plane.specs.Fraction.{Point}
-use Rattle.plane.specs.Pairs.{Joins}
-use Rattle.plane.specs.Tiling.{Face}
-use Rattle.plane.proofs.Bracket.{bracket}
-use Rattle.plane.proofs.BracketIdentities.{bracket-swap}
-use Rattle.plane_theorems.specs.Tiling.Local.{LocalMesh, IsCorner}
-use Rattle.plane_theorems.proofs.Tiling.Counting.{at}
+use Rattle.plane.specs.{Face, Joins, Point}
+use Rattle.plane.proofs.{bracket, bracket-swap, Indexes.cases_turned, opposites_not_both_positive}
+use Rattle.plane_theorems.specs.{FacesChange, IsCorner, IsFaceOf, IsSideOfOne, LocalMesh}
+use Rattle.plane_theorems.specs.{OuterChange, Segments.PathSteps.RemovalKeepsConstraints}
+use Rattle.plane_theorems.proofs.Edits.LocalMesh.Changes.{face_kept, turn_of_all}
+use Rattle.plane_theorems.proofs.{Tiling.Counting.at, Tiling.Tiles.by_signs, Tiling.Tiles.point_at}
 use Rattle.plane_theorems.proofs.Tiling.Flows.{HasSide}
 use Rattle.plane_theorems.proofs.Tiling.Covering as C
-use Rattle.plane_theorems.proofs.Tiling.Tiles.{point_at, by_signs}
-use Rattle.plane_theorems.specs.Edits.Change.{IsFaceOf, FacesChange, OuterChange}
-use Rattle.plane_theorems.specs.Edits.Legal.{IsSideOfOne}
-use Rattle.plane_theorems.proofs.Edits.LocalMesh.Changes.{face_kept, turn_of_all}
-use Rattle.plane_theorems.specs.Segments.PathSteps.{RemovalKeepsConstraints}
-use Rattle.plane.proofs.Signs.{opposites_not_both_positive}
-use Rattle.plane.proofs.Indexes.{cases_turned}
 
 -- not both ways of an edge have v on their left
 one_way : (points : List Point) (faces : List Face) (outer : List (ℕ × ℕ))

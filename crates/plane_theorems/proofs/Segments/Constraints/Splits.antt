@@ -3,18 +3,13 @@
 -- Lemmas: split_is_append, straight_halves_join.
 use Rattle.std.proofs.Common.{◌≡◌, ◌⊎◌, ℕ, List, refl, sym, ap, ◌∙◌, subst, subst₂}
 use mathlib.Core.Logic.{inl, inr}
-use Rattle.plane.specs.Fraction.{Point, Fraction, whole, IsSame, WithinSegment}
-use Rattle.plane.specs.Crossing.{Cross}
-use Rattle.plane.specs.Pairs.{Joins, IsSamePair}
-use Rattle.plane.specs.Tiling.{Triangulation, IsVertex, IsEdge, vertex}
-use Rattle.plane.proofs.Segments.{within_segment-same}
-use Rattle.plane_theorems.specs.Tiling.Laws.{EdgesMeetAtVertices}
-use Rattle.plane_theorems.proofs.Tiling.Edges.{turned_within}
-use Rattle.plane_theorems.specs.Edits.Legal.{point_of}
+use Rattle.plane.specs.{Cross, Fraction, IsEdge, IsSame, IsSamePair, IsVertex, Joins, Point}
+use Rattle.plane.specs.{Triangulation, vertex, whole, WithinSegment}
+use Rattle.plane.proofs.{turned_join, within_segment-same}
+use Rattle.plane_theorems.specs.{EdgesMeetAtVertices, point_of}
 use Rattle.plane_theorems.specs.Segments.Constraints.{IsHalfOf, SplitIsAppend, StraightHalvesJoin}
-use Rattle.plane_theorems.proofs.Segments.Crossing.EitherWay.{one_point}
 use Rattle.plane_theorems.proofs.Segments.Constraints.Parts.{within_parts}
-use Rattle.plane.proofs.Indexes.{turned_join}
+use Rattle.plane_theorems.proofs.{Segments.Crossing.EitherWay.one_point, Tiling.Edges.turned_within}
 
 module _ (t : Triangulation) (old : List (ℕ × ℕ)) (n : ℕ) (q : Point) (meet : EdgesMeetAtVertices t)
     (kept : (a b : ℕ) → Joins old a b → IsEdge t a b) where

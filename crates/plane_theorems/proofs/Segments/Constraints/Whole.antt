@@ -1,27 +1,19 @@
--- What crosses a piece of a path crosses the whole segment.
--- Lemmas: piece_crosses_whole.
+-- What crosses a subconstraint of a path crosses the whole segment.
+-- Lemmas: subconstraint_crosses_whole.
 use Rattle.std.proofs.Common.{◌≡◌, ◌⊎◌, ℕ, sym, ap, ◌∙◌, arith}
 use mathlib.Core.Logic.{inl, inr}
 use Rattle.std.specs.Prelude.{ℤ, pos, ◌+ℤ◌, ◌*ℤ◌, ◌≤ℤ◌, ◌<ℤ◌}
 use Rattle.std.proofs.lemmas.Int.{ints}
-use Rattle.plane.specs.Fraction.{Point, whole, IsNotNegative, IsPositive, OnSegment, IsSame}
-use Rattle.plane.specs.Crossing.{Cross}
-use Rattle.plane.specs.Pairs.{place, IsIndex}
-use Rattle.plane.proofs.IntegerOrder.{trichotomy_ℤ, mul-nonneg_ℤ, mul-nonpos_of_nonneg_nonpos_ℤ}
-use Rattle.plane.proofs.IntegerOrder.{mul-pos_ℤ, mul-neg_of_pos_neg_ℤ, pos_of_mul-pos_ℤ}
-use Rattle.plane.proofs.IntegerOrder.{neg_of_mul-neg_ℤ, zero-mul_ℤ, zero_of_mul-zero_ℤ}
-use Rattle.plane.proofs.IntegerOrder.{pos-ne-zero_ℤ}
-use Rattle.plane.proofs.Bracket.{bracket, lift, vec}
-use Rattle.plane.proofs.BracketIdentities.{bracket-outer}
-use Rattle.plane.proofs.Lines.{bracket_of_line}
-use Rattle.plane.proofs.Means.{TwoWeights, two_weights, bracket_of_two}
-use Rattle.plane.proofs.Meetings.{AreOpposite, cross_is, cross_if}
-use Rattle.plane_theorems.proofs.Tiling.Line.{flat}
-use Rattle.plane_theorems.specs.Edits.Legal.{point_of}
-use Rattle.plane_theorems.specs.Segments.Constraints.{PieceCrossesWhole}
-use Rattle.plane_theorems.proofs.Segments.Crossing.EitherWay.{one_point}
-use Rattle.plane.proofs.Signs.{sum_of_zeros, zero_is_not_above, zero_is_not_below}
-use Rattle.plane.proofs.Steps.{weak, weak_right, zero_weak, zero_weak_left}
+use Rattle.plane.specs.{Cross, IsIndex, IsNotNegative, IsPositive, IsSame, OnSegment, place, Point}
+use Rattle.plane.proofs.{AreOpposite, bracket, bracket-outer, bracket_of_two, lift}
+use Rattle.plane.proofs.{mul-neg_of_pos_neg_ℤ, mul-nonneg_ℤ, mul-nonpos_of_nonneg_nonpos_ℤ}
+use Rattle.plane.proofs.{mul-pos_ℤ, neg_of_mul-neg_ℤ, pos-ne-zero_ℤ, pos_of_mul-pos_ℤ, sum_of_zeros}
+use Rattle.plane.proofs.{trichotomy_ℤ, two_weights, TwoWeights, vec, weak, weak_right, zero-mul_ℤ}
+use Rattle.plane.proofs.{zero_is_not_above, zero_of_mul-zero_ℤ, zero_weak, zero_weak_left}
+use Rattle.{plane.proofs.Lines.bracket_of_line, plane.specs.whole}
+use Rattle.plane.proofs.{Meetings.cross_if, Meetings.cross_is, Signs.zero_is_not_below}
+use Rattle.plane_theorems.specs.{point_of, Segments.Constraints.SubconstraintCrossesWhole}
+use Rattle.plane_theorems.proofs.{Segments.Crossing.EitherWay.one_point, Tiling.Line.flat}
 
 -- ---- signs of means
 sum_least : (k l n x y z : ℤ) → n *ℤ z ≡ k *ℤ x +ℤ l *ℤ y → pos 0 <ℤ n → pos 0 ≤ℤ k → pos 0 ≤ℤ l
@@ -144,9 +136,9 @@ module _ (i j a b c d : Point) (ij : ¬ (i ≡ j)) (ab : ¬ IsSame (whole a) (wh
   crosses_whole : Cross (whole i) (whole j) (whole c) (whole d)
   crosses_whole = cross_if (whole i) (whole j) (whole c) (whole d) others_parted ends_parted
 
--- what crosses a piece of a path crosses the whole segment
-pub piece_crosses_whole : PieceCrossesWhole
-piece_crosses_whole points i j a b c d distinct hi hj ij hc hd cd n cross =
+-- what crosses a subconstraint of a path crosses the whole segment
+pub subconstraint_crosses_whole : SubconstraintCrossesWhole
+subconstraint_crosses_whole points i j a b c d distinct hi hj ij hc hd cd n cross =
     crosses_whole (point_of points i) (point_of points j) (point_of points a) (point_of points b)
     (point_of points c) (point_of points d)
     (λ e. distinct i j hi hj ij (ap whole e)) (apart a b n.first_index n.second_index n.apart)

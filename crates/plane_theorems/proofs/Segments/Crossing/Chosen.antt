@@ -5,20 +5,14 @@ use Rattle.std.proofs.Common.{ℕ, zero, suc, List, length, refl, ap, subst, ari
 use mathlib.Core.Logic.{inl, inr}
 use Rattle.std.specs.Prelude.{Contains}
 use Rattle.std.proofs.lemmas.Bool.{cases_eq}
-use Rattle.plane.specs.Fraction.{Point, whole}
-use Rattle.plane.specs.Side.{Side, side, left, right, on}
-use Rattle.plane.specs.Laws.{squared_way}
-use Rattle.plane.specs.Tiling.{Triangulation, HasFace, TilesHull, vertex}
-use Rattle.plane.proofs.Decisions.{Decision, decided_by, decide_both, decide_either}
-use Rattle.plane.proofs.Decisions.{decide_some_below, decide_below}
-use Rattle.plane_theorems.specs.Edits.Legal.{point_of}
-use Rattle.plane_theorems.specs.Segments.Path.{IsCrossing, IsLastRight, IsLastLeft}
-use Rattle.plane_theorems.specs.Segments.Path.{ComesAfterOnRight}
-use Rattle.plane_theorems.specs.Segments.Path.{ComesAfterOnLeft}
-use Rattle.plane_theorems.specs.Segments.PathLaws.{ChosenFlipExists}
-use Rattle.plane_theorems.proofs.Segments.Crossing.Order.{right-trans, left-trans, right-irrefl}
-use Rattle.plane_theorems.proofs.Segments.Crossing.Order.{left-irrefl}
-use Rattle.plane_theorems.proofs.Segments.Crossing.Order.{last_has_none_after}
+use Rattle.plane.specs.{HasFace, left, on, Point, right, Side, side, squared_vector, TilesHull}
+use Rattle.plane.specs.{Triangulation, vertex, whole}
+use Rattle.plane.proofs.{decide_below, decide_both, decide_either, decided_by, Decision}
+use Rattle.plane.proofs.Decisions.{decide_some_below}
+use Rattle.plane_theorems.specs.{ComesAfterOnRight, IsCrossing, IsLastLeft, IsLastRight, point_of}
+use Rattle.plane_theorems.specs.{Segments.Path.ComesAfterOnLeft, Segments.PathLaws.ChosenFlipExists}
+use Rattle.plane_theorems.proofs.Segments.Crossing.Order.{last_has_none_after, left-irrefl}
+use Rattle.plane_theorems.proofs.Segments.Crossing.Order.{left-trans, right-irrefl, right-trans}
 
 -- ---- decisions
 decide_side : (s r : Side) → Decision (s ≡ r)
@@ -71,12 +65,12 @@ decide_crossing t i j v y = decided_by (
 decide_after_on_right : (i v u : Point) → Decision (ComesAfterOnRight i v u)
 decide_after_on_right i v u = decide_either (decide_side (side (whole i) (whole v) (whole u)) right)
     (decide_both (decide_side (side (whole i) (whole v) (whole u)) on)
-    (decide_below (squared_way i v) (squared_way i u)))
+    (decide_below (squared_vector i v) (squared_vector i u)))
 
 decide_after_on_left : (i y w : Point) → Decision (ComesAfterOnLeft i y w)
 decide_after_on_left i y w = decide_either (decide_side (side (whole i) (whole y) (whole w)) left)
     (decide_both (decide_side (side (whole i) (whole y) (whole w)) on)
-    (decide_below (squared_way i y) (squared_way i w)))
+    (decide_below (squared_vector i y) (squared_vector i w)))
 
 -- ---- of the indexes below n with a property, one that none comes after
 -- k is below n and has P, and no such index comes after it

@@ -4,23 +4,15 @@ use Rattle.std.proofs.Common.{◌≡◌, ◌⊎◌, ℕ, ap, ◌∙◌, arith}
 use mathlib.Core.Logic.{inl, inr}
 use Rattle.std.specs.Prelude.{ℤ, pos, ◌-ℤ◌, ◌<ℤ◌}
 use Rattle.std.proofs.lemmas.Int.{ints}
-use Rattle.plane.specs.Fraction.{Point, whole, IsSame}
-use Rattle.plane.specs.Side.{opposite}
-use Rattle.plane.specs.Laws.{Parts, turn_at}
-use Rattle.plane.specs.Tiling.{Triangulation, IsVertex, IsEdge, TilesHull, vertex}
-use Rattle.plane.proofs.Sides.{side_swapped}
-use Rattle.plane.proofs.Steps.{times_one}
-use Rattle.plane.proofs.Meetings.{crossing_is_sides}
+use Rattle.plane.specs.{IsEdge, IsSame, IsVertex, opposite, Parts, Point, TilesHull, Triangulation}
+use Rattle.plane.specs.{turn_at, vertex, whole}
+use Rattle.plane.proofs.{Meetings.crossing_is_sides, side_swapped, Steps.times_one, turned_join}
+use Rattle.plane_theorems.specs.{IsCrossing, point_of, Segments.PathLaws.CrossingIsEitherWay}
 use Rattle.plane_theorems.proofs.Delaunay.Points.Bracket.{bracket}
-use Rattle.plane_theorems.proofs.Delaunay.Tilings.Ground.{tiling}
+use Rattle.plane_theorems.proofs.{Delaunay.Tilings.Ground.tiling, Segments.Walking.Steps.edge_apart}
 use Rattle.plane_theorems.proofs.Delaunay.Tilings.Where.{vertices_apart}
-use Rattle.plane_theorems.specs.Edits.Legal.{point_of}
-use Rattle.plane_theorems.specs.Segments.Path.{IsCrossing}
-use Rattle.plane_theorems.specs.Segments.PathLaws.{CrossingIsEitherWay}
 use Rattle.plane_theorems.proofs.Segments.Crossing.Turns.{left_turn, right_turn, turns-differ}
-use Rattle.plane_theorems.proofs.Segments.Walking.Steps.{edge_apart}
-use Rattle.plane.proofs.Indexes.{turned_join}
-pub use Rattle.plane.proofs.Indexes.{turned_join as edge_back}
+pub use Rattle.plane.proofs.{turned_join as edge_back}
 
 -- two points of the code at one place are one
 pub one_point : (p q : Point) → IsSame (whole p) (whole q) → p ≡ q

@@ -9,25 +9,20 @@ use Rattle.std.specs.Prelude.{◌+ℤ◌, ◌-ℤ◌, ◌*ℤ◌, ◌≤ℤ◌, 
 use Rattle.std.specs.Prelude.{ℤ, pos, neg_ℤ, Bool, true, false, int_lt}
 use Rattle.std.proofs.lemmas.Int.{ints}
 use Rattle.std.proofs.lemmas.Bool.{cases_eq}
-use Rattle.plane.specs.Fraction.{Point}
-use Rattle.plane.specs.Laws.{turn_at, squared_way}
-use Rattle.plane.proofs.IntegerOrder.{mul-nonneg_ℤ, mul-neg_of_pos_neg_ℤ, lt_or_ge_ℤ, trichotomy_ℤ}
-use Rattle.plane.proofs.IntegerOrder.{square-nonneg_ℤ, mul-nonpos_of_nonneg_nonpos_ℤ}
-use Rattle.plane.proofs.IntegerOrder.{zero_of_mul-zero_ℤ, zero-mul_ℤ, mul_cancel_ℤ}
-use Rattle.plane.proofs.Steps.{weak, zero_or_left, right_not_zero, product_zero_left, left_not_zero}
-use Rattle.plane.proofs.Steps.{no_difference, right_not_above, weak_right, zero_weak}
-use Rattle.plane.proofs.Steps.{zero_weak_left}
-use Rattle.plane.proofs.Solver.{◌⊕◌, ◌⊖◌, ◌⊗◌, ⊝, ring_in, ring_in_from, ring_over}
-use Rattle.plane.proofs.Bracket.{points as points_shape}
-use Rattle.plane_theorems.specs.Edits.Legal.{point_of}
-use Rattle.plane_theorems.proofs.Segments.Crossing.Turns.{turnᵖ, turn-same}
-use Rattle.plane_theorems.specs.Segments.Measure.{comes_before, is_right, one_if, rank_below}
-use Rattle.plane.proofs.Signs.{at_most_both_ways, difference_of_zeros, negated_negative}
-use Rattle.plane.proofs.Signs.{negated_not_negative, same_after_shift, same_have_no_difference}
-use Rattle.plane.proofs.Signs.{squares_vanish, sum_not_negative_of, sum_of_zeros_from}
-use Rattle.plane.proofs.Signs.{at_most_itself}
-use Rattle.plane.proofs.Sides.{test_false, test_true, less_by_test}
 use lib.IntN.{*ℤ_comm}
+use Rattle.plane.specs.{Point, squared_vector, turn_at}
+use Rattle.plane.proofs.{◌⊕◌, ◌⊖◌, ◌⊗◌, at_most_both_ways, at_most_itself, left_not_zero}
+use Rattle.plane.proofs.{less_by_test, lt_or_ge_ℤ, mul-neg_of_pos_neg_ℤ, mul-nonneg_ℤ}
+use Rattle.plane.proofs.{mul-nonpos_of_nonneg_nonpos_ℤ, mul_cancel_ℤ, negated_negative}
+use Rattle.plane.proofs.{negated_not_negative, no_difference, points as points_shape}
+use Rattle.plane.proofs.{product_zero_left, right_not_above, right_not_zero, ring_in, ring_in_from}
+use Rattle.plane.proofs.{ring_over, same_have_no_difference, square-nonneg_ℤ, squares_vanish}
+use Rattle.plane.proofs.{sum_not_negative_of, test_false, test_true, trichotomy_ℤ, weak, weak_right}
+use Rattle.plane.proofs.{zero-mul_ℤ, zero_of_mul-zero_ℤ, zero_or_left, zero_weak, zero_weak_left, ⊝}
+use Rattle.plane.proofs.Signs.{difference_of_zeros, same_after_shift, sum_of_zeros_from}
+use Rattle.plane_theorems.specs.{point_of}
+use Rattle.plane_theorems.specs.Segments.Measure.{comes_before, is_right, one_if, rank_below}
+use Rattle.plane_theorems.proofs.Segments.Crossing.Turns.{turn-same, turnᵖ}
 
 -- ---- tests
 only_false : Bool → Type 0
@@ -43,7 +38,7 @@ off e = subst only_false e tt
 -- u comes before v, seen from i
 abbrev pub Precedes : Point → Point → Point → Type 0
 Precedes i u v = (pos 0 <ℤ turn_at i v u)
-    ⊎ ((turn_at i v u ≡ pos 0) × (squared_way i u <ℤ squared_way i v))
+    ⊎ ((turn_at i v u ≡ pos 0) × (squared_vector i u <ℤ squared_vector i v))
 
 before_test : (i u v : Point) → Precedes i u v → comes_before i u v ≡ true
 before_test i u v (inl h) = rw (test_true (pos 0) (turn_at i v u) h)
@@ -52,7 +47,7 @@ before_test i u v (inr h) =
       test_false (pos 0) (turn_at i v u) (zero_weak h.0),
       test_false (turn_at i v u) (pos 0)
           (zero_weak_left h.0),
-    ) (test_true (squared_way i u) (squared_way i v) h.1)
+    ) (test_true (squared_vector i u) (squared_vector i v) h.1)
 
 by_tests : (t a b : ℤ)
     → (if int_lt (pos 0) t then true else (if int_lt t (pos 0) then false else int_lt a b)) ≡ true
@@ -72,7 +67,7 @@ by_tests t a b h = go (trichotomy_ℤ t)
     go (inl k) = wrong (rw (test_false (pos 0) t (weak_right k), test_true t (pos 0) k) at h)
 
 test_before : (i u v : Point) → comes_before i u v ≡ true → Precedes i u v
-test_before i u v h = by_tests (turn_at i v u) (squared_way i u) (squared_way i v) h
+test_before i u v h = by_tests (turn_at i v u) (squared_vector i u) (squared_vector i v) h
 
 three_turns : (i j u v w : Point) → turn_at i j v *ℤ turn_at i w u
     ≡ turn_at i j w *ℤ turn_at i v u +ℤ turn_at i j u *ℤ turn_at i w v
@@ -139,11 +134,11 @@ IsBefore-trans i j u v w hu hv hw a b =
     go : (pos 0 <ℤ turn_at i w u)
         ⊎ ((turn_at i w u ≡ pos 0) × (turn_at i v u ≡ pos 0) × (turn_at i w v ≡ pos 0))
         → (pos 0 <ℤ turn_at i v u)
-        ⊎ ((turn_at i v u ≡ pos 0) × (squared_way i u <ℤ squared_way i v))
+        ⊎ ((turn_at i v u ≡ pos 0) × (squared_vector i u <ℤ squared_vector i v))
         → (pos 0 <ℤ turn_at i w v)
-        ⊎ ((turn_at i w v ≡ pos 0) × (squared_way i v <ℤ squared_way i w))
+        ⊎ ((turn_at i w v ≡ pos 0) × (squared_vector i v <ℤ squared_vector i w))
         → (pos 0 <ℤ turn_at i w u)
-        ⊎ ((turn_at i w u ≡ pos 0) × (squared_way i u <ℤ squared_way i w))
+        ⊎ ((turn_at i w u ≡ pos 0) × (squared_vector i u <ℤ squared_vector i w))
     go (inl h) x y = inl h
     go (inr e) (inl x) y = absurd (left_not_zero x e.1)
     go (inr e) (inr x) (inl y) = absurd (left_not_zero y e.2)
@@ -240,7 +235,7 @@ not_before_itself i p = rw (
   test_false (pos 0) (turn_at i p p) (zero_weak (turn-same i p)),
   test_false (turn_at i p p) (pos 0) (zero_weak_left (turn-same i p)),
 )
-    (test_false (squared_way i p) (squared_way i p) (at_most_itself (squared_way i p)))
+    (test_false (squared_vector i p) (squared_vector i p) (at_most_itself (squared_vector i p)))
 
 -- what comes before has the lesser rank
 pub rank_falls : (points : List Point) (i j w : Point) (k : ℕ) → k < length points
@@ -307,15 +302,15 @@ equal_squares f g s hf hg hs e = go (trichotomy_ℤ (f -ℤ g))
 
 -- of two different points on one ray from i, the one that is not farther from i is nearer
 pub strictly_nearer : (i j v z : Point) → turn_at i v z ≡ pos 0 → turn_at i j z <ℤ pos 0
-    → turn_at i j v <ℤ pos 0 → squared_way i z ≤ℤ squared_way i v → ¬ (z ≡ v)
-    → squared_way i z <ℤ squared_way i v
+    → turn_at i j v <ℤ pos 0 → squared_vector i z ≤ℤ squared_vector i v → ¬ (z ≡ v)
+    → squared_vector i z <ℤ squared_vector i v
 strictly_nearer i j v z tie hz hv near apart =
-    go (lt_or_ge_ℤ (squared_way i z) (squared_way i v)) (zero_or_left way_nonneg)
+    go (lt_or_ge_ℤ (squared_vector i z) (squared_vector i v)) (zero_or_left way_nonneg)
   where
     a : ℤ
     a = v.x -ℤ i.x
 
-    way_nonneg : pos 0 ≤ℤ squared_way i v
+    way_nonneg : pos 0 ≤ℤ squared_vector i v
     way_nonneg = sum_not_negative_of (square-nonneg_ℤ (v.x -ℤ i.x)) (square-nonneg_ℤ (v.y -ℤ i.y))
 
     same : (f g r t : ℤ) → f -ℤ g ≡ r → r ≡ pos 0 → f ≡ g
@@ -332,22 +327,22 @@ strictly_nearer i j v z tie hz hv near apart =
     on_y = same (turn_at i j z *ℤ (v.y -ℤ i.y)) (turn_at i j v *ℤ (z.y -ℤ i.y))
         (turn_at i v z *ℤ (j.y -ℤ i.y)) (pos 0) (ray_y i j v z) (product_none (j.y -ℤ i.y))
 
-    clash : squared_way i v ≤ℤ squared_way i z → pos 0 <ℤ squared_way i v → ⊥
+    clash : squared_vector i v ≤ℤ squared_vector i z → pos 0 <ℤ squared_vector i v → ⊥
     clash far positive =
         let d = same_values (turn_at i j z) (turn_at i j v) (v.x -ℤ i.x) (v.y -ℤ i.y) (z.x -ℤ i.x)
         (z.y -ℤ i.y) on_x on_y in
         let f : turn_at i j z ≡ turn_at i j v = equal_squares (turn_at i j z) (turn_at i j v)
-        (squared_way i v) hz hv positive (d ∙ ap (λ s. (turn_at i j v *ℤ turn_at i j v) *ℤ s)
-        (at_most_both_ways (squared_way i z) (squared_way i v) near far)) in
+        (squared_vector i v) hz hv positive (d ∙ ap (λ s. (turn_at i j v *ℤ turn_at i j v) *ℤ s)
+        (at_most_both_ways (squared_vector i z) (squared_vector i v) near far)) in
         let x = same_after_shift v.x z.x i.x (mul_cancel_ℤ (λ e. right_not_zero hv e)
         (ap (λ s. s *ℤ (v.x -ℤ i.x)) (sym f) ∙ on_x)) in
         let y = same_after_shift v.y z.y i.y (mul_cancel_ℤ (λ e. right_not_zero hv e)
         (ap (λ s. s *ℤ (v.y -ℤ i.y)) (sym f) ∙ on_y)) in
         apart (λ o. record { x = sym x o; y = sym y o })
 
-    go : (squared_way i z <ℤ squared_way i v) ⊎ (squared_way i v ≤ℤ squared_way i z)
-        → (squared_way i v ≡ pos 0) ⊎ (pos 0 <ℤ squared_way i v)
-        → squared_way i z <ℤ squared_way i v
+    go : (squared_vector i z <ℤ squared_vector i v) ⊎ (squared_vector i v ≤ℤ squared_vector i z)
+        → (squared_vector i v ≡ pos 0) ⊎ (pos 0 <ℤ squared_vector i v)
+        → squared_vector i z <ℤ squared_vector i v
     go (inl h) k = h
     go (inr h) (inr k) = absurd (clash h k)
     go (inr h) (inl e) = absurd (let b = squares_vanish (v.x -ℤ i.x) (v.y -ℤ i.y) e in

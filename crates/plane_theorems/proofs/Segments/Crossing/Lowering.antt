@@ -4,38 +4,26 @@
 use Rattle.std.proofs.Common.{◌≡◌, ℕ, ◌<◌, List, [], ◌∷◌, length, sym, ap, ◌∙◌, subst}
 use mathlib.Core.Logic.{inl, inr}
 use Rattle.std.specs.Prelude.{ℤ, pos, ◌+ℤ◌, ◌≤ℤ◌, ◌<ℤ◌, true, ◌&&◌, int_lt}
-use Rattle.plane.specs.Fraction.{Point, whole}
-use Rattle.plane.specs.Laws.{turn_at, squared_way}
-use Rattle.plane.specs.Tiling.{Face, face, Triangulation, IsFace, TilesHull}
-use Rattle.plane_theorems.specs.Tiling.Local.{total, around}
-use Rattle.plane.proofs.Sides.{on_if, test_true, less_by_test}
-use Rattle.plane.proofs.Steps.{zero_or_left, left_not_zero, right_not_zero, both_signs}
-use Rattle.plane.proofs.Bracket.{lift}
-use Rattle.plane.proofs.BracketIdentities.{bracket-affine, bracket-outer}
-use Rattle.plane_theorems.proofs.Tiling.Totals.{total_nonneg}
-use Rattle.plane_theorems.proofs.Delaunay.Points.Bracket.{bracket}
-use Rattle.plane_theorems.proofs.Delaunay.Tilings.Ground.{tiling}
-use Rattle.plane.proofs.Triangles.{turned_face}
-use Rattle.plane_theorems.proofs.Delaunay.Segments.Joining.{Crosses, Before, by_right, by_left}
-use Rattle.plane_theorems.proofs.Delaunay.Segments.Joining.{from_start}
-use Rattle.plane_theorems.proofs.Delaunay.Segments.FlipExists as F
-use Rattle.plane_theorems.specs.Edits.Change.{FacesChange}
-use Rattle.plane_theorems.specs.Edits.Legal.{point_of}
-use Rattle.plane_theorems.proofs.Edits.LocalMesh.Additions.{around_turn_free}
-use Rattle.plane_theorems.specs.Segments.Path.{IsFreeOfVertices, IsCrossing, IsLastRight}
-use Rattle.plane_theorems.specs.Segments.Path.{IsLastLeft}
-use Rattle.plane_theorems.specs.Segments.Measure.{is_right, rank_below, crosses, crossing_rank}
-use Rattle.plane_theorems.specs.Segments.Measure.{crossing_sum}
+use Rattle.plane.specs.{Face, face, IsFace, Point, squared_vector, TilesHull, Triangulation}
+use Rattle.plane.specs.{turn_at, whole}
+use Rattle.plane.proofs.{both_signs, bracket-affine, bracket-outer, left_not_zero, less_by_test}
+use Rattle.plane.proofs.{lift, lower_magnitude, on_if, right_not_zero, sum_of_three_not_negative}
+use Rattle.plane.proofs.{test_true, turned_face, zero_or_left}
+use Rattle.plane_theorems.specs.{around, crossing_sum, FacesChange, IsCrossing, IsFreeOfVertices}
+use Rattle.plane_theorems.specs.{IsLastLeft, IsLastRight, point_of, total}
+use Rattle.plane_theorems.specs.Segments.Measure.{crosses, crossing_rank, is_right, rank_below}
 use Rattle.plane_theorems.specs.Segments.PathLaws.{ChosenFlipLowers}
-use Rattle.plane_theorems.proofs.Segments.Crossing.Paths as P
-use Rattle.plane_theorems.proofs.Segments.Crossing.Turns.{left_turn, right_turn}
-use Rattle.plane_theorems.proofs.Segments.Crossing.Falling.{and_true, and_first, and_second}
-use Rattle.plane_theorems.proofs.Segments.Crossing.Falling.{Precedes}
-use Rattle.plane_theorems.proofs.Segments.Crossing.Falling.{rank_falls, rank_positive}
-use Rattle.plane_theorems.proofs.Segments.Crossing.Falling.{strictly_nearer}
+use Rattle.plane_theorems.proofs.{Delaunay.Points.Bracket.bracket, Delaunay.Tilings.Ground.tiling}
+use Rattle.plane_theorems.proofs.Delaunay.Segments.Joining.{Before, by_left, by_right, Crosses}
+use Rattle.plane_theorems.proofs.{Delaunay.Segments.Joining.from_start, Tiling.Totals.total_nonneg}
+use Rattle.plane_theorems.proofs.Edits.LocalMesh.Exchange.{around_turn_free}
+use Rattle.plane_theorems.proofs.Segments.Crossing.Falling.{and_first, and_second, and_true}
+use Rattle.plane_theorems.proofs.Segments.Crossing.Falling.{Precedes, rank_falls, rank_positive}
 use Rattle.plane_theorems.proofs.Segments.Crossing.Falling.{ranked, ranked_nonneg, ranked_two}
-use Rattle.plane_theorems.proofs.Segments.Crossing.Falling.{sum_falls}
-use Rattle.plane.proofs.Signs.{sum_of_three_not_negative, lower_magnitude}
+use Rattle.plane_theorems.proofs.Segments.Crossing.Falling.{strictly_nearer, sum_falls}
+use Rattle.plane_theorems.proofs.Segments.Crossing.Turns.{left_turn, right_turn}
+use Rattle.plane_theorems.proofs.Delaunay.Segments.FlipExists as F
+use Rattle.plane_theorems.proofs.Segments.Crossing.Paths as P
 
 turn_of : (a b c : Point) → bracket (whole a) (whole b) (whole c) ≡ turn_at a b c
 unfolding bracket
@@ -149,7 +137,7 @@ module _ (t : Triangulation) (i j v x y z : ℕ) (h : TilesHull t) (c : IsCrossi
 
     -- where z is on the way to v, it is nearer
     z_near : turn_at (p i) (p j) (p z) <ℤ pos 0 → turn_at (p i) (p v) (p z) ≡ pos 0
-        → squared_way (p i) (p z) ≤ℤ squared_way (p i) (p v)
+        → squared_vector (p i) (p z) ≤ℤ squared_vector (p i) (p v)
     unfolding tiling
     z_near z_right tie =
         go (F.front (tiling t h) i j (P.at_first t h i j free) (P.at_second t h i j free)
@@ -157,7 +145,7 @@ module _ (t : Triangulation) (i j v x y z : ℕ) (h : TilesHull t) (c : IsCrossi
         (P.last_right t h i j free v last_v) (P.last_left t h i j free v y last_y))
       where
         go : Before (tiling t h) i j (P.at_first t h i j free) (P.at_second t h i j free)
-            (P.clear t h i j free) v y z → squared_way (p i) (p z) ≤ℤ squared_way (p i) (p v)
+            (P.clear t h i j free) v y z → squared_vector (p i) (p z) ≤ℤ squared_vector (p i) (p v)
         go (by_left k) = last_v.nearer z y (P.crossing t h i j free z y k) (on_if (whole (p i))
             (whole (p v)) (whole (p z)) (bracket-affine (p i) (p v) (p z) ∙ tie))
         go (by_right k) = let q = P.crossing t h i j free v z k in

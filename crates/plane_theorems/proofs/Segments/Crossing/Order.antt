@@ -5,21 +5,17 @@ use Rattle.std.proofs.Common.{◌≡◌, sym, subst₂, arith}
 use mathlib.Core.Logic.{inl, inr}
 use Rattle.std.specs.Prelude.{ℤ, pos, ◌<ℤ◌, neg_ℤ}
 use Rattle.std.proofs.lemmas.Int.{ints}
-use Rattle.plane.specs.Fraction.{Point, whole}
-use Rattle.plane.specs.Side.{side, right, TurnsLeft}
-use Rattle.plane.specs.Laws.{turn_at, squared_way}
-use Rattle.plane_theorems.specs.Edits.Legal.{point_of}
-use Rattle.plane_theorems.specs.Segments.Path.{ComesAfterOnRight, ComesAfterOnLeft}
+use Rattle.plane.specs.{Point, right, side, squared_vector, turn_at, TurnsLeft, whole}
+use Rattle.plane.proofs.{at_most_if_not_less, on_if_zero, opposite_of_negative}
+use Rattle.plane.proofs.{opposite_of_positive, opposite_of_zero, right_if_negative}
+use Rattle.plane.proofs.{zero_is_not_above}
+use Rattle.plane.proofs.Signs.{not_below_itself, positive_of_opposite, zero_is_not_below}
+use Rattle.plane_theorems.specs.{ComesAfterOnRight, point_of, Segments.Path.ComesAfterOnLeft}
 use Rattle.plane_theorems.specs.Segments.PathLaws.{EndsAreOrdered, LastHasNoneAfter}
-use Rattle.plane_theorems.proofs.Segments.Crossing.Falling.{Precedes, IsBefore-trans}
-use Rattle.plane_theorems.proofs.Segments.Crossing.Turns.{left_turn, right_turn, no_turn, turn_left}
-use Rattle.plane_theorems.proofs.Segments.Crossing.Turns.{turn-swapped, turn-same}
-use Rattle.plane_theorems.proofs.Segments.Crossing.Turns.{mirrored, turn-mirrored, way-mirrored}
-use Rattle.plane.proofs.Signs.{opposite_of_negative, opposite_of_positive, opposite_of_zero}
-use Rattle.plane.proofs.Signs.{positive_of_opposite}
-use Rattle.plane.proofs.Signs.{zero_is_not_above, zero_is_not_below, at_most_if_not_less}
-use Rattle.plane.proofs.Signs.{not_below_itself}
-use Rattle.plane.proofs.Areas.{right_if_negative, on_if_zero}
+use Rattle.plane_theorems.proofs.Segments.Crossing.Falling.{IsBefore-trans, Precedes}
+use Rattle.plane_theorems.proofs.Segments.Crossing.Turns.{left_turn, mirrored, no_turn, right_turn}
+use Rattle.plane_theorems.proofs.Segments.Crossing.Turns.{turn-mirrored, turn-same, turn-swapped}
+use Rattle.plane_theorems.proofs.Segments.Crossing.Turns.{turn_left, way-mirrored}
 
 -- ---- by turns
 below_back : (a b : ℤ) → a ≡ neg_ℤ b → pos 0 <ℤ a → b <ℤ pos 0
@@ -105,12 +101,12 @@ left-trans i j u v w hu hv hw a b = over_back i u w
 -- seen from i, no point comes after itself on the right
 pub right-irrefl : (i u : Point) → ¬ ComesAfterOnRight i u u
 right-irrefl i u (inl h) = zero_is_not_below (turn_at i u u) (turn-same i u) (right_turn i u u h)
-right-irrefl i u (inr h) = not_below_itself (squared_way i u) h.1
+right-irrefl i u (inr h) = not_below_itself (squared_vector i u) h.1
 
 -- seen from i, no point comes after itself on the left
 pub left-irrefl : (i u : Point) → ¬ ComesAfterOnLeft i u u
 left-irrefl i u (inl h) = zero_is_not_above (turn_at i u u) (turn-same i u) (left_turn i u u h)
-left-irrefl i u (inr h) = not_below_itself (squared_way i u) h.1
+left-irrefl i u (inr h) = not_below_itself (squared_vector i u) h.1
 
 -- seen from i, the orders on the right and on the left go through, and no point comes after itself
 pub ends_are_ordered : EndsAreOrdered
@@ -125,12 +121,13 @@ last_has_none_after t i j v y = (
   (λ n. record {
     around = λ u w c h. n u w c (inl h);
     nearer =
-        λ u w c e. at_most_if_not_less (squared_way (point_of t.points i) (point_of t.points v))
-        (squared_way (point_of t.points i) (point_of t.points u)) (λ h. n u w c (inr (e, h)));
+        λ u w c e. at_most_if_not_less (squared_vector (point_of t.points i) (point_of t.points v))
+        (squared_vector (point_of t.points i) (point_of t.points u)) (λ h. n u w c (inr (e, h)));
   }),
   (λ n. record {
     around = λ w c h. n w c (inl h);
-    nearer = λ w c e. at_most_if_not_less (squared_way (point_of t.points i) (point_of t.points y))
-        (squared_way (point_of t.points i) (point_of t.points w)) (λ h. n w c (inr (e, h)));
+    nearer = λ w c e. at_most_if_not_less (squared_vector (point_of t.points i)
+        (point_of t.points y))
+        (squared_vector (point_of t.points i) (point_of t.points w)) (λ h. n w c (inr (e, h)));
   }),
 )

@@ -1,17 +1,14 @@
--- A flip on a path keeps the constraints; a piece of a path is free of vertices, and on one line it
--- is an edge.
--- Lemmas: path_flip_keeps_constraints, piece_is_free, piece_on_line_is_edge.
+-- A flip on a path keeps the constraints; a subconstraint of a path is free of vertices, and on one
+-- line it is an edge.
+-- Lemmas: path_flip_keeps_constraints, subconstraint_is_free, subconstraint_on_line_is_edge.
 use Rattle.std.proofs.Common.{ℕ, sym, subst₂}
 use mathlib.Core.Logic.{inl, inr}
-use Rattle.plane.specs.Crossing.{Cross}
-use Rattle.plane.specs.Pairs.{IsSamePair}
-use Rattle.plane.specs.Tiling.{Triangulation, IsEdge, TilesHull, vertex}
-use Rattle.plane_theorems.specs.Edits.Legal.{IsSideOfOne}
+use Rattle.plane.specs.{Cross, IsEdge, IsSamePair, TilesHull, Triangulation, vertex}
+use Rattle.plane.proofs.{turned_join}
+use Rattle.plane_theorems.specs.{IsSideOfOne, Segments.PathSteps.SubconstraintOnLineIsEdge}
+use Rattle.plane_theorems.specs.Segments.PathSteps.{PathFlipKeepsConstraints, SubconstraintIsFree}
 use Rattle.plane_theorems.proofs.Edits.Legalization.FlipHistory.{side_stays}
-use Rattle.plane_theorems.specs.Segments.PathSteps.{PathFlipKeepsConstraints, PieceIsFree}
-use Rattle.plane_theorems.specs.Segments.PathSteps.{PieceOnLineIsEdge}
 use Rattle.plane_theorems.proofs.Segments.Crossing.EitherWay.{crossing_is_either_way}
-use Rattle.plane.proofs.Indexes.{turned_join}
 
 side_of_edge : (t : Triangulation) → TilesHull t → (a b : ℕ) → IsEdge t a b
     → IsSideOfOne t.faces a b
@@ -36,9 +33,9 @@ path_flip_keeps_constraints t after constraints i j v x y z h h' free c change e
         (sym e.0) (sym e.1)
         ((crossing_is_either_way t i j y v h free (turned_join t.edges v y c.edge)).1 (inr c))
 
--- a piece of a path has no vertex strictly within
-pub piece_is_free : PieceIsFree
-piece_is_free t i j a b n = record {
+-- a subconstraint of a path has no vertex strictly within
+pub subconstraint_is_free : SubconstraintIsFree
+subconstraint_is_free t i j a b n = record {
   apart = n.apart;
   first = n.first_index;
   second = n.second_index;
@@ -46,8 +43,8 @@ piece_is_free t i j a b n = record {
 }
 
 -- where all vertices are on one line, two with none strictly between them are joined by an edge
-pub piece_on_line_is_edge : PieceOnLineIsEdge
-piece_on_line_is_edge t i j h free = (h.neighbours i j).1 (record {
+pub subconstraint_on_line_is_edge : SubconstraintOnLineIsEdge
+subconstraint_on_line_is_edge t i j h free = (h.neighbours i j).1 (record {
   apart = free.apart;
   first = free.first;
   second = free.second;

@@ -5,28 +5,20 @@
 use Rattle.std.proofs.Common.{◌≡◌, ℕ, [], ◌∷◌, sym, ap, ◌∙◌}
 use mathlib.Core.Logic.{inl, inr}
 use Rattle.std.specs.Prelude.{ℤ, pos, ◌+ℤ◌, ◌-ℤ◌, ◌*ℤ◌, ◌≤ℤ◌}
-use Rattle.plane.specs.Fraction.{Point, Fraction, whole, IsPositive, WithinSegment}
-use Rattle.plane.specs.Side.{side, right, on, TurnsLeft}
-use Rattle.plane.specs.Tiling.{Triangulation, TilesHull, vertex}
-use Rattle.plane.proofs.Sides.{on_if, if_not_right}
-use Rattle.plane.proofs.Means.{mean_of_two}
-use Rattle.plane.proofs.IntegerOrder.{lt_or_ge_ℤ}
-use Rattle.plane.proofs.Solver.{num, ◌⊕◌, ◌⊖◌, ◌⊗◌, ring_over, ring_in_from}
-use Rattle.plane_theorems.proofs.Delaunay.Points.Bracket.{fraction, bracket, bracketᵖ}
+use Rattle.plane.specs.{Fraction, IsPositive, on, Point, right, side, TilesHull, Triangulation}
+use Rattle.plane.specs.{TurnsLeft, vertex, whole, WithinSegment}
+use Rattle.plane.proofs.{◌⊕◌, ◌⊖◌, ◌⊗◌, bracketᵖ, lt_or_ge_ℤ, mean_of_two, num, on_if, ring_in_from}
+use Rattle.plane.proofs.{ring_over, Sides.if_not_right, turned_face}
+use Rattle.plane_theorems.specs.{IsCrossing, IsFreeOfVertices, IsLastLeft, IsLastRight, point_of}
+use Rattle.plane_theorems.specs.Segments.PathLaws.{ChosenFlipIsConvex, UncrossedIsEdge}
+use Rattle.plane_theorems.proofs.Delaunay.Points.Bracket.{above_if_left, bracket, fraction}
 use Rattle.plane_theorems.proofs.Delaunay.Points.Bracket.{left_if_above}
-use Rattle.plane_theorems.proofs.Delaunay.Points.Bracket.{above_if_left}
-use Rattle.plane_theorems.proofs.Delaunay.Tilings.Faces.{Between}
-use Rattle.plane_theorems.proofs.Delaunay.Tilings.Ground.{tiling}
-use Rattle.plane.proofs.Triangles.{turned_face}
-use Rattle.plane_theorems.proofs.Delaunay.Segments.Joining.{Crosses}
+use Rattle.plane_theorems.proofs.{Delaunay.Segments.Joining.Crosses, Delaunay.Tilings.Faces.Between}
 use Rattle.plane_theorems.proofs.Delaunay.Segments.Uncrossed.{edge_if_uncrossed}
-use Rattle.plane_theorems.proofs.Delaunay.Segments.FlipExists as F
-use Rattle.plane_theorems.specs.Edits.Legal.{point_of}
-use Rattle.plane_theorems.specs.Segments.Path.{IsFreeOfVertices, IsCrossing, IsLastRight}
-use Rattle.plane_theorems.specs.Segments.Path.{IsLastLeft}
-use Rattle.plane_theorems.specs.Segments.PathLaws.{UncrossedIsEdge, ChosenFlipIsConvex}
-use Rattle.plane_theorems.proofs.Segments.Walking.Steps.{right_if_below}
+use Rattle.plane_theorems.proofs.Delaunay.Tilings.Ground.{tiling}
 use Rattle.plane_theorems.proofs.Segments.Items.SideSigns.{below_if_right}
+use Rattle.plane_theorems.proofs.Segments.Walking.Steps.{right_if_below}
+use Rattle.plane_theorems.proofs.Delaunay.Segments.FlipExists as F
 
 -- ---- coordinates as brackets
 spot : ℤ → ℤ → Fraction

@@ -3,13 +3,9 @@
 -- turns-differ, mirrored, turn-mirrored, way-mirrored.
 use Rattle.std.proofs.Common.{◌≡◌, [], ◌∷◌, sym, ◌∙◌, subst}
 use Rattle.std.specs.Prelude.{pos, ◌-ℤ◌, ◌<ℤ◌, neg_ℤ}
-use Rattle.plane.specs.Fraction.{Point, whole}
-use Rattle.plane.specs.Side.{side, right, on, TurnsLeft}
-use Rattle.plane.specs.Laws.{turn_at, squared_way}
-use Rattle.plane.proofs.Sides.{if_left, if_right, if_on, left_if}
-use Rattle.plane.proofs.Solver.{Poly, num, ◌⊕◌, ◌⊖◌, ◌⊗◌, ⊝, ring_over}
-use Rattle.plane.proofs.Bracket.{Pointᵖ, points as points_shape}
-use Rattle.plane.proofs.BracketIdentities.{bracket-affine}
+use Rattle.plane.specs.{on, Point, right, side, squared_vector, turn_at, TurnsLeft, whole}
+use Rattle.plane.proofs.{◌⊕◌, ◌⊖◌, ◌⊗◌, bracket-affine, if_left, if_on, if_right, left_if, num}
+use Rattle.plane.proofs.{points as points_shape, Pointᵖ, Poly, ring_over, ⊝}
 
 -- twice the signed area of the ways from q to u and from q to v, as a polynomial
 abbrev pub turnᵖ : Pointᵖ → Pointᵖ → Pointᵖ → Poly
@@ -66,7 +62,7 @@ turn-mirrored q u v = ring_over points_shape [] (q ∷ u ∷ v ∷ [])
     (λ q u v. turnᵖ (mirroredᵖ q) (mirroredᵖ u) (mirroredᵖ v)) (λ q u v. ⊝ (turnᵖ q u v)) tt
 
 -- in the mirrored plane, squared lengths are the same
-pub way-mirrored : (q u : Point) → squared_way (mirrored q) (mirrored u) ≡ squared_way q u
+pub way-mirrored : (q u : Point) → squared_vector (mirrored q) (mirrored u) ≡ squared_vector q u
 unfolding mirrored
 way-mirrored q u = ring_over points_shape [] (q ∷ u ∷ [])
     (λ q u. (u.x ⊖ q.x) ⊗ (u.x ⊖ q.x) ⊕ ((⊝ u.y) ⊖ (⊝ q.y)) ⊗ ((⊝ u.y) ⊖ (⊝ q.y)))

@@ -8,47 +8,36 @@ use native.Mathlib.Decide.{ℕ_discrete}
 use lib.IntN.{neg_ℤ}
 use Rattle.std.specs.Prelude.{ℤ, pos, ◌<ℤ◌, ◌≤ℤ◌, ◌+ℤ◌, ◌-ℤ◌, ◌*ℤ◌}
 use Rattle.std.proofs.lemmas.Int.{ints}
-use Rattle.plane.proofs.IntegerLaws.{neg-mul_ℤ, mul-neg_ℤ}
-use Rattle.plane.proofs.IntegerOrder.{Sign, sign, below, none, above, lt_or_ge_ℤ, mul-pos_ℤ}
-use Rattle.plane.proofs.IntegerOrder.{mul-nonneg_ℤ}
-use Rattle.plane.proofs.IntegerOrder.{pos_of_mul-pos_ℤ, mul-nonpos_of_nonneg_nonpos_ℤ, zero-mul_ℤ}
-use Rattle.plane.proofs.IntegerOrder.{zero_of_mul-zero_ℤ}
-use Rattle.plane.proofs.IntegerOrder.{pos-ne-zero_ℤ}
-use Rattle.plane.proofs.Steps.{weak, weak_right, zero_weak, right_not_above, product_zero_left}
-use Rattle.plane.proofs.Solver.{◌⊕◌, ◌⊗◌, ring_in_from}
-use Rattle.plane.proofs.Means.{TwoWeights, two_weights, mean_of_two, turned_two}
-use Rattle.plane.proofs.Segments.{reach, reach-start, reach-end, reach_of_two, on_segment_is}
-use Rattle.plane.proofs.Segments.{on_segment-same}
-use Rattle.plane.proofs.Segments.{within_segment-same, on_of_within, only_point, same-sym}
-use Rattle.plane.proofs.Segments.{same-trans, start_on_segment}
-use Rattle.plane.proofs.Segments.{end_on_segment}
-use Rattle.plane.specs.Fraction.{Fraction, IsSame, OnSegment, WithinSegment, IsNotNegative}
-use Rattle.plane.specs.Fraction.{IsPositive}
-use Rattle.plane.specs.Side.{TurnsLeft}
-use Rattle.plane.specs.Tiling.{Triangulation, IsVertex, IsEdge, vertex, JoinsLine}
-use Rattle.plane.specs.Location.{IsPast}
-use Rattle.plane.specs.Line as L
-use Rattle.plane_theorems.proofs.Delaunay.Points.Bracket.{bracket, bracket-turned, bracket-swapped}
-use Rattle.plane_theorems.proofs.Delaunay.Points.Bracket.{bracket-first}
-use Rattle.plane_theorems.proofs.Delaunay.Points.Bracket.{bracket-second, above_if_left}
+use Rattle.plane.specs.{Fraction, IsEdge, IsNotNegative, IsPast, IsPositive, IsSame, IsVertex}
+use Rattle.plane.specs.{JoinsLine, OnSegment, Triangulation, TurnsLeft, vertex, WithinSegment}
+use Rattle.plane.proofs.{◌⊕◌, ◌⊗◌, above, below, difference_is_positive, end_on_segment, lt_or_ge_ℤ}
+use Rattle.plane.proofs.{mean_of_two, mul-neg_ℤ, mul-nonneg_ℤ, mul-nonpos_of_nonneg_nonpos_ℤ}
+use Rattle.plane.proofs.{mul-pos_ℤ, neg-mul_ℤ, none, on_of_within, on_segment-same, on_segment_is}
+use Rattle.plane.proofs.{only_point, opposite_of_negative, opposite_of_positive}
+use Rattle.plane.proofs.{opposite_of_zero_of, pos-ne-zero_ℤ, pos_of_mul-pos_ℤ, product_zero_left}
+use Rattle.plane.proofs.{reach, reach-end, reach-start, reach_of_two, right_not_above, ring_in_from}
+use Rattle.plane.proofs.{same-sym, same-trans, Sign, sign, start_on_segment, two_weights}
+use Rattle.plane.proofs.{TwoWeights, weak, weak_right, within_segment-same, zero-mul_ℤ}
+use Rattle.plane.proofs.{Means.turned_two, zero_of_mul-zero_ℤ, zero_weak}
+use Rattle.plane_theorems.specs.{IsAhead, IsFirst}
+use Rattle.plane_theorems.specs.Segments.WalkLaws.{CrossingOnLine, FirstFromEdge, OutsideIsOffLine}
 use Rattle.plane_theorems.proofs.Delaunay.Circles.EmptyCircles.{same_at_end}
+use Rattle.plane_theorems.proofs.Delaunay.Points.AlongSegment.{same_on_line, within_on_line}
+use Rattle.plane_theorems.proofs.Delaunay.Points.Bracket.{above_if_left, bracket, bracket-first}
+use Rattle.plane_theorems.proofs.Delaunay.Points.Bracket.{bracket-second, bracket-swapped}
+use Rattle.plane_theorems.proofs.Delaunay.Points.Bracket.{bracket-turned}
+use Rattle.plane_theorems.proofs.Delaunay.Segments.LineItems.{between_of, Meeting, turned_segment}
 use Rattle.plane_theorems.proofs.Delaunay.Tilings.Faces.{Between, between-on}
-use Rattle.plane_theorems.proofs.Delaunay.Points.AlongSegment.{within_on_line, same_on_line}
-use Rattle.plane_theorems.proofs.Delaunay.Segments.LineItems.{Meeting, between_of, turned_segment}
-use Rattle.plane_theorems.specs.Segments.Steps.{IsFirst, IsAhead}
-use Rattle.plane_theorems.specs.Segments.WalkLaws.{FirstFromEdge, OutsideIsOffLine, CrossingOnLine}
-use Rattle.plane_theorems.proofs.Segments.Items.SideSigns.{below_if_right, none_if_on}
-use Rattle.plane_theorems.proofs.Segments.Items.Begins.{edge_flipped, met_if}
 use Rattle.plane_theorems.proofs.Segments.First.Firsts.{first_crossing_here, first_overlap}
-use Rattle.plane_theorems.proofs.Segments.Walking.OneLine.{line_ends, edge_level, item_level}
-use Rattle.plane_theorems.proofs.Segments.Walking.OneLine.{meeting_if}
+use Rattle.plane_theorems.proofs.Segments.Items.Begins.{edge_flipped, met_if}
 use Rattle.plane_theorems.proofs.Segments.Items.OverlapDecided.{overlaps_if}
-use Rattle.plane_theorems.proofs.Segments.Walking.EachWalk.{ends_differ}
+use Rattle.plane_theorems.proofs.Segments.Items.SideSigns.{below_if_right, none_if_on}
+use Rattle.plane_theorems.proofs.{Segments.Walking.EachWalk.ends_differ, Tiling.Edges.turned_within}
+use Rattle.plane_theorems.proofs.Segments.Walking.OneLine.{edge_level, item_level, line_ends}
+use Rattle.plane_theorems.proofs.Segments.Walking.OneLine.{meeting_if}
 use Rattle.plane_theorems.proofs.Segments.Walking.Steps.{crossing_sides}
 use Rattle.plane_theorems.proofs.Segments.Walking.WalkSteps.{meeting_of}
-use Rattle.plane.proofs.Signs.{opposite_of_zero_of, difference_is_positive, opposite_of_positive}
-use Rattle.plane.proofs.Signs.{opposite_of_negative}
-use Rattle.plane_theorems.proofs.Tiling.Edges.{turned_within}
+use Rattle.plane.specs.Line as L
 
 -- ---- numbers: n x = k a + l b
 last_only : (n k l x a b : ℤ) → n *ℤ x ≡ k *ℤ a +ℤ l *ℤ b → a ≡ pos 0 → n *ℤ x ≡ l *ℤ b

@@ -7,40 +7,30 @@ use mathlib.Core.Logic.{◌⊎◌, inl, inr}
 use lib.IntN.{neg_ℤ}
 use Rattle.std.specs.Prelude.{◌≢◌, ℤ, pos, ◌<ℤ◌, ◌≤ℤ◌, ◌+ℤ◌, ◌-ℤ◌, ◌*ℤ◌}
 use Rattle.std.proofs.lemmas.Int.{ints}
-use Rattle.plane.proofs.IntegerLaws.{neg-mul_ℤ}
-use Rattle.plane.proofs.IntegerOrder.{lt_or_ge_ℤ, trichotomy_ℤ, mul-pos_ℤ, mul-nonneg_ℤ}
-use Rattle.plane.proofs.IntegerOrder.{pos_of_mul-pos_ℤ}
-use Rattle.plane.proofs.IntegerOrder.{mul-nonpos_of_nonneg_nonpos_ℤ, mul-neg_of_pos_neg_ℤ}
-use Rattle.plane.proofs.IntegerOrder.{mul_cancel_ℤ, pos-ne-zero_ℤ}
-use Rattle.plane.proofs.IntegerOrder.{zero-mul_ℤ}
-use Rattle.plane.proofs.Steps.{weak, weak_right, zero_weak_left, left_not_below, product_zero_left}
-use Rattle.plane.proofs.Steps.{right_not_above}
-use Rattle.plane.proofs.Solver.{num, ◌⊖◌, ◌⊗◌, ring_in_from}
-use Rattle.plane.specs.Fraction.{Fraction, IsSame, OnSegment}
-use Rattle.plane.specs.Circle.{IsNearer}
-use Rattle.plane.specs.Side.{side, left}
-use Rattle.plane.specs.Tiling.{Triangulation, IsFace, vertex, TilesHull}
-use Rattle.plane.specs.Line.{Item, Meets, IsBefore, IsVertexThenOverlap}
-use Rattle.plane.specs.Line as L
-use Rattle.plane_theorems.proofs.Delaunay.Points.Bracket.{bracket, bracket-swapped, bracket-first}
-use Rattle.plane_theorems.proofs.Delaunay.Points.Bracket.{bracket-second, meeting}
-use Rattle.plane_theorems.proofs.Delaunay.Points.Bracket.{meeting-x, meeting-y, meeting-w, cramer}
-use Rattle.plane_theorems.proofs.Delaunay.Points.Bracket.{above_if_left, left_if_above}
-use Rattle.plane_theorems.proofs.Delaunay.Points.Nudges.{InOpen}
-use Rattle.plane_theorems.proofs.Delaunay.Tilings.Faces.{turned-above}
+use Rattle.plane.specs.{Fraction, IsBefore, IsFace, IsNearer, IsSame, IsVertexThenOverlap, Item}
+use Rattle.plane.specs.{left, Meets, OnSegment, side, TilesHull, Triangulation, vertex}
+use Rattle.plane.proofs.{◌⊖◌, ◌⊗◌, left_not_below, lt_or_ge_ℤ, mul-neg_of_pos_neg_ℤ, mul-nonneg_ℤ}
+use Rattle.plane.proofs.{mul-nonpos_of_nonneg_nonpos_ℤ, mul-pos_ℤ, mul_cancel_ℤ, neg-mul_ℤ}
+use Rattle.plane.proofs.{not_positive_or_positive, num, opposite_of_not_positive}
+use Rattle.plane.proofs.{opposite_of_positive, opposite_of_zero_of, pos-ne-zero_ℤ, pos_of_mul-pos_ℤ}
+use Rattle.plane.proofs.{product_zero_left, right_not_above, ring_in_from, trichotomy_ℤ, weak}
+use Rattle.plane.proofs.{weak_right, zero-mul_ℤ, zero_weak_left}
+use Rattle.plane.proofs.Signs.{negation_not_negative, positive_times_not_positive}
+use Rattle.plane_theorems.specs.{IsFirst, Segments.WalkLaws.FirstFromFace}
 use Rattle.plane_theorems.proofs.Delaunay.Floods.Flooded.{segment_from}
-use Rattle.plane_theorems.proofs.Delaunay.Tilings.Ground.{inside_of}
+use Rattle.plane_theorems.proofs.Delaunay.Points.Bracket.{above_if_left, bracket, bracket-first}
+use Rattle.plane_theorems.proofs.Delaunay.Points.Bracket.{bracket-second, bracket-swapped, cramer}
+use Rattle.plane_theorems.proofs.Delaunay.Points.Bracket.{left_if_above, meeting, meeting-w}
+use Rattle.plane_theorems.proofs.Delaunay.Points.Bracket.{meeting-x, meeting-y}
+use Rattle.plane_theorems.proofs.{Delaunay.Points.Nudges.InOpen, Delaunay.Tilings.Ground.inside_of}
 use Rattle.plane_theorems.proofs.Delaunay.Segments.LineItems.{Begins, begins}
-use Rattle.plane_theorems.specs.Segments.Steps.{IsFirst}
-use Rattle.plane_theorems.specs.Segments.WalkLaws.{FirstFromFace}
-use Rattle.plane_theorems.proofs.Segments.Items.Slopes.{slope, left_along, later_is_higher}
-use Rattle.plane_theorems.proofs.Segments.Items.SideSigns.{not_left, below_if_right, none_if_on}
+use Rattle.plane_theorems.proofs.Delaunay.Tilings.Faces.{turned-above}
+use Rattle.plane_theorems.proofs.Segments.First.Firsts.{first_from_face}
 use Rattle.plane_theorems.proofs.Segments.Items.Begins.{bare_inside}
 use Rattle.plane_theorems.proofs.Segments.Items.Orders.{nearer-same_second}
-use Rattle.plane_theorems.proofs.Segments.First.Firsts.{first_from_face}
-use Rattle.plane.proofs.Signs.{negation_not_negative, opposite_of_zero_of, not_positive_or_positive}
-use Rattle.plane.proofs.Signs.{positive_times_not_positive, opposite_of_positive}
-use Rattle.plane.proofs.Signs.{opposite_of_not_positive}
+use Rattle.plane_theorems.proofs.Segments.Items.SideSigns.{below_if_right, none_if_on, not_left}
+use Rattle.plane_theorems.proofs.Segments.Items.Slopes.{later_is_higher, left_along, slope}
+use Rattle.plane.specs.Line as L
 
 -- ---- left at the start, and not right at a point: left at each point between
 -- a point of the segment before one that is not right of a line, from a start on its left, is on

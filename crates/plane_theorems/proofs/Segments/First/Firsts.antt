@@ -3,37 +3,32 @@
 use Rattle.std.proofs.Common.{ℕ}
 use mathlib.Core.Logic.{◌⊎◌, inl, inr}
 use Rattle.std.specs.Prelude.{pos, ◌<ℤ◌}
-use Rattle.plane.proofs.Nearer.{nothing_nearer}
-use Rattle.plane.proofs.Segments.{on_segment-same, same-sym, same-trans, start_on_segment}
-use Rattle.plane.proofs.Segments.{on_of_within, within_segment-same}
-use Rattle.plane.specs.Fraction.{Fraction, IsSame, OnSegment, WithinSegment}
-use Rattle.plane.specs.Circle.{IsNearer}
-use Rattle.plane.specs.Tiling.{Triangulation, IsVertex, IsEdge, IsFace, vertex, TilesHull}
-use Rattle.plane.specs.Location.{IsOuter}
-use Rattle.plane.specs.Line.{Item, IsPointOf, Meets, BeginsAt, IsBefore, IsVertexThenOverlap}
-use Rattle.plane.specs.Line as L
-use Rattle.plane_theorems.proofs.Delaunay.Points.Bracket.{bracket, above_if_left}
-use Rattle.plane_theorems.proofs.Delaunay.Points.Nudges.{InOpen}
-use Rattle.plane_theorems.proofs.Delaunay.Tilings.Faces.{Between, between-second, between-third}
-use Rattle.plane_theorems.proofs.Delaunay.Tilings.Faces.{between-swapped}
-use Rattle.plane_theorems.proofs.Delaunay.Points.AlongSegment.{Placed, sooner, as_soon, later}
-use Rattle.plane_theorems.proofs.Delaunay.Points.AlongSegment.{placed}
-use Rattle.plane_theorems.proofs.Delaunay.Segments.LineItems.{Begins, begins, Meeting}
-use Rattle.plane_theorems.proofs.Delaunay.Segments.LineItems.{meeting_of_hull}
-use Rattle.plane_theorems.proofs.Delaunay.Segments.LineItems.{between_of, met_within}
-use Rattle.plane_theorems.specs.Segments.Steps.{IsFirst}
-use Rattle.plane_theorems.proofs.Segments.Items.Slopes.{left_until}
-use Rattle.plane_theorems.proofs.Segments.Items.Begins.{edge_flipped, Signs, met_if, begins_once}
-use Rattle.plane_theorems.proofs.Segments.Items.Begins.{before_crossing, bare_inside}
-use Rattle.plane_theorems.proofs.Segments.Next.Ends.{item_not_left_of_outer}
+use Rattle.plane.specs.{BeginsAt, Fraction, IsBefore, IsEdge, IsFace, IsNearer, IsOuter, IsPointOf}
+use Rattle.plane.specs.{IsSame, IsVertex, IsVertexThenOverlap, Item, Meets, OnSegment, TilesHull}
+use Rattle.plane.specs.{Triangulation, vertex, WithinSegment}
+use Rattle.plane.proofs.{nothing_nearer, on_of_within, on_segment-same, same-sym, same-trans}
+use Rattle.plane.proofs.{start_on_segment, within_segment-same}
+use Rattle.plane_theorems.specs.{IsFirst}
+use Rattle.plane_theorems.proofs.Delaunay.Points.AlongSegment.{as_soon, later, order_along}
+use Rattle.plane_theorems.proofs.Delaunay.Points.AlongSegment.{OrderAlong, sooner}
+use Rattle.plane_theorems.proofs.Delaunay.Points.Bracket.{above_if_left, bracket}
+use Rattle.plane_theorems.proofs.{Delaunay.Points.Nudges.InOpen, Segments.Items.Slopes.left_until}
+use Rattle.plane_theorems.proofs.Delaunay.Segments.LineItems.{Begins, begins, between_of, Meeting}
+use Rattle.plane_theorems.proofs.Delaunay.Segments.LineItems.{meeting_of_hull, met_within}
+use Rattle.plane_theorems.proofs.Delaunay.Tilings.Faces.{Between, between-second, between-swapped}
+use Rattle.plane_theorems.proofs.Delaunay.Tilings.Faces.{between-third}
+use Rattle.plane_theorems.proofs.Segments.Items.Begins.{bare_inside, before_crossing, begins_once}
+use Rattle.plane_theorems.proofs.Segments.Items.Begins.{edge_flipped, met_if, Signs}
 use Rattle.plane_theorems.proofs.Segments.Items.Orders.{nearer-same_second}
+use Rattle.plane_theorems.proofs.Segments.Next.Ends.{item_not_left_of_outer}
+use Rattle.plane.specs.Line as L
 
 module _ (t : Triangulation) (p q : Fraction) (apart : ¬ IsSame p q) where
   -- no item begins before an item that has the start
   at_start : (m : Item) → IsPointOf t m p → (y : Fraction) → BeginsAt t p q m y → IsSame y p
-  at_start m here y by = go (placed p q apart p y (start_on_segment p q) by.shared)
+  at_start m here y by = go (order_along p q apart p y (start_on_segment p q) by.shared)
     where
-      go : Placed p p y → IsSame y p
+      go : OrderAlong p p y → IsSame y p
       go (sooner n) = absurd (by.first p (start_on_segment p q) here n)
       go (as_soon e) = same-sym p y e
       go (later n) = absurd (nothing_nearer p y n)

@@ -7,46 +7,40 @@ use mathlib.Core.Logic.{◌⊎◌, inl, inr}
 use lib.IntN.{nat_abs}
 use Rattle.std.specs.Prelude.{ℤ, pos, ◌<ℤ◌, ◌≤ℤ◌, ◌+ℤ◌, ◌-ℤ◌, ◌*ℤ◌, ⊤}
 use Rattle.std.proofs.lemmas.Int.{ints}
-use Rattle.plane.proofs.IntegerOrder.{lt_or_ge_ℤ, mul-pos_ℤ, mul-nonneg_ℤ, pos_of_mul-pos_ℤ}
-use Rattle.plane.proofs.Steps.{weak}
-use Rattle.plane.proofs.Solver.{num, ◌⊕◌, ◌⊖◌, ◌⊗◌, ring_in_from}
-use Rattle.plane.proofs.Means.{TwoWeights, two_weights}
-use Rattle.plane.proofs.Segments.{reach, reach_of_two, on_segment_is, on_segment-same, on_of_within}
-use Rattle.plane.proofs.Segments.{same-sym}
-use Rattle.plane.proofs.Segments.{start_on_segment, end_on_segment}
-use Rattle.plane.specs.Fraction.{Fraction, IsSame, OnSegment, IsPositive}
-use Rattle.plane.specs.Tiling.{Triangulation, IsVertex, IsEdge, vertex, JoinsLine}
-use Rattle.plane.specs.Line.{Item, Meets, IsBefore, IsLineList, IsListAt}
-use Rattle.plane.specs.Line as L
-use Rattle.plane_theorems.proofs.Delaunay.Points.Bracket.{bracket, above_if_left}
-use Rattle.plane_theorems.proofs.Delaunay.Points.Numbers.{sum_none}
+use Rattle.plane.specs.{Fraction, IsBefore, IsEdge, IsLineList, IsListAt, IsPositive, IsSame}
+use Rattle.plane.specs.{IsVertex, Item, JoinsLine, Meets, OnSegment, Triangulation, vertex}
+use Rattle.plane.proofs.{◌⊕◌, ◌⊖◌, ◌⊗◌, at_most_and_more, difference_is_positive, end_on_segment}
+use Rattle.plane.proofs.{less_by_difference, lt_or_ge_ℤ, magnitude_below, mul-nonneg_ℤ, mul-pos_ℤ}
+use Rattle.plane.proofs.{num, on_of_within, on_segment-same, on_segment_is, pos_of_mul-pos_ℤ, reach}
+use Rattle.plane.proofs.{reach_of_two, ring_in_from, same-sym, start_on_segment, two_weights}
+use Rattle.plane.proofs.{TwoWeights, weak}
+use Rattle.plane_theorems.specs.{IsAhead, IsFirst, IsLast, IsWalk}
+use Rattle.plane_theorems.specs.Segments.WalkLaws.{EqualEnds, FirstOnLine, NextOnLine}
 use Rattle.plane_theorems.proofs.Delaunay.Circles.EmptyCircles.{weights_along}
-use Rattle.plane_theorems.proofs.Delaunay.Floods.Flooded.{side_of_segment, edge_of}
-use Rattle.plane_theorems.proofs.Delaunay.Tilings.Ground.{tiling, inside_of}
+use Rattle.plane_theorems.proofs.Delaunay.Floods.Flooded.{edge_of, side_of_segment}
+use Rattle.plane_theorems.proofs.Delaunay.Points.AlongSegment.{as_soon, later, not_past}
+use Rattle.plane_theorems.proofs.Delaunay.Points.AlongSegment.{on_line_last, order_along}
+use Rattle.plane_theorems.proofs.Delaunay.Points.AlongSegment.{OrderAlong, reach_less, sooner}
+use Rattle.plane_theorems.proofs.Delaunay.Points.AlongSegment.{within_on_line}
+use Rattle.plane_theorems.proofs.Delaunay.Points.Bracket.{above_if_left, bracket}
+use Rattle.plane_theorems.proofs.{Delaunay.Points.Numbers.sum_none, Segments.Items.Begins.signs_of}
+use Rattle.plane_theorems.proofs.Delaunay.Segments.LineItems.{line_items_are_ordered, Meeting}
+use Rattle.plane_theorems.proofs.Delaunay.Tilings.Ground.{inside_of, tiling}
 use Rattle.plane_theorems.proofs.Delaunay.Tilings.Meets.{edge_outside}
-use Rattle.plane_theorems.proofs.Delaunay.Points.AlongSegment.{Placed, sooner, as_soon, later}
-use Rattle.plane_theorems.proofs.Delaunay.Points.AlongSegment.{placed}
-use Rattle.plane_theorems.proofs.Delaunay.Points.AlongSegment.{reach_less, on_line_last}
-use Rattle.plane_theorems.proofs.Delaunay.Points.AlongSegment.{not_past, within_on_line}
-use Rattle.plane_theorems.proofs.Delaunay.Segments.LineItems.{Meeting, line_items_are_ordered}
-use Rattle.plane_theorems.specs.Segments.Steps.{IsFirst, IsLast, IsAhead, IsWalk}
-use Rattle.plane_theorems.specs.Segments.WalkLaws.{NextOnLine, FirstOnLine, EqualEnds}
-use Rattle.plane_theorems.proofs.Segments.Items.Begins.{Signs, signs_of, before_crossing}
-use Rattle.plane_theorems.proofs.Segments.Items.Begins.{bare_inside}
-use Rattle.plane_theorems.proofs.Segments.Next.Ends.{edge_not_left, item_not_left_of_outer}
-use Rattle.plane_theorems.proofs.Segments.First.Firsts.{first_vertex, first_overlap}
-use Rattle.plane_theorems.proofs.Segments.Walking.OneLine.{line_ends, item_level, last_across_line}
-use Rattle.plane_theorems.proofs.Segments.Walking.OneLine.{meeting_if}
+use Rattle.plane_theorems.proofs.Segments.First.Firsts.{first_overlap, first_vertex}
+use Rattle.plane_theorems.proofs.Segments.First.OutsideStarts.{nearest_first, NearestIsFirst}
+use Rattle.plane_theorems.proofs.Segments.First.OutsideStarts.{none_without, overlap_not_first}
+use Rattle.plane_theorems.proofs.Segments.Items.Begins.{bare_inside, before_crossing, Signs}
 use Rattle.plane_theorems.proofs.Segments.Items.Orders.{nearer-same_second}
 use Rattle.plane_theorems.proofs.Segments.Items.OverlapDecided.{through_last}
-use Rattle.plane_theorems.proofs.Segments.Next.Vertices.{IsPast, is_past, last_at_end, next_overlap}
-use Rattle.plane_theorems.proofs.Segments.Next.Vertices.{before_end}
+use Rattle.plane_theorems.proofs.Segments.Next.Ends.{edge_not_left, item_not_left_of_outer}
 use Rattle.plane_theorems.proofs.Segments.Next.VertexEnds.{ahead_met}
+use Rattle.plane_theorems.proofs.Segments.Next.Vertices.{before_end, is_past, IsPast, last_at_end}
+use Rattle.plane_theorems.proofs.Segments.Next.Vertices.{next_overlap}
 use Rattle.plane_theorems.proofs.Segments.Walking.EachWalk.{ends_differ}
-use Rattle.plane_theorems.proofs.Segments.First.OutsideStarts.{NearestIsFirst, overlap_not_first}
-use Rattle.plane_theorems.proofs.Segments.First.OutsideStarts.{nearest_first, none_without}
-use Rattle.plane.proofs.Signs.{less_by_difference, magnitude_below, difference_is_positive}
-use Rattle.plane.proofs.Signs.{at_most_and_more}
+use Rattle.plane_theorems.proofs.Segments.Walking.OneLine.{item_level, last_across_line, line_ends}
+use Rattle.plane_theorems.proofs.Segments.Walking.OneLine.{meeting_if}
+use Rattle.plane.specs.Line as L
 
 -- ---- numbers of a vertex strictly between two
 first_part : (n k l x a b : ℤ) → n *ℤ x ≡ k *ℤ a +ℤ l *ℤ b → n *ℤ pos 1 ≡ k *ℤ pos 1 +ℤ l *ℤ pos 1 →
@@ -127,7 +121,7 @@ module _ (t : Triangulation) (h : JoinsLine t) (c₀ : Meeting t) (p q : Fractio
             ⊎ ((reach p q x *ℤ q.w) ≤ℤ (reach p q q *ℤ x.w)) → IsAhead V x q
         go (inl past) = inl (on_of_within V x q (within_on_line p q apart V q x on_v on_q on_x
             (difference_is_positive _ _ end_after) (difference_is_positive _ _ past)))
-        go (inr least) = inr (pick (placed p q apart x q there (end_on_segment p q)))
+        go (inr least) = inr (pick (order_along p q apart x q there (end_on_segment p q)))
           where
             there : OnSegment p q x
             there = (on_segment_is p q x apart).1 (
@@ -137,7 +131,7 @@ module _ (t : Triangulation) (h : JoinsLine t) (c₀ : Meeting t) (p q : Fractio
               least,
             )
 
-            pick : Placed p x q → OnSegment V q x
+            pick : OrderAlong p x q → OnSegment V q x
             pick (sooner n) = on_of_within V q x (within_on_line p q apart V x q on_v on_x on_q
                 (difference_is_positive _ _ after) (difference_is_positive _ _
                 (reach_less p q apart x q there (end_on_segment p q) n)))

@@ -6,47 +6,35 @@ use mathlib.Core.Logic.{◌⊎◌, inl, inr}
 use lib.IntN.{neg_ℤ}
 use Rattle.std.specs.Prelude.{ℤ, pos, ◌<ℤ◌, ◌≤ℤ◌, ◌+ℤ◌, ◌-ℤ◌, ◌*ℤ◌}
 use Rattle.std.proofs.lemmas.Int.{ints}
-use Rattle.plane.proofs.IntegerLaws.{neg-mul_ℤ, mul-neg_ℤ}
-use Rattle.plane.proofs.IntegerOrder.{lt_or_ge_ℤ, trichotomy_ℤ, mul-pos_ℤ, mul-nonneg_ℤ}
-use Rattle.plane.proofs.IntegerOrder.{mul-neg_of_neg_pos_ℤ, mul-nonneg_of_nonpos_ℤ, zero-mul_ℤ}
-use Rattle.plane.proofs.IntegerOrder.{nonneg_of_mul-nonneg_ℤ, zero_of_mul-zero_ℤ, pos-ne-zero_ℤ}
-use Rattle.plane.proofs.Steps.{weak, weak_right, zero_weak, zero_weak_left, product_zero_left}
-use Rattle.plane.proofs.Steps.{left_not_below, right_not_above}
-use Rattle.plane.proofs.Means.{TwoWeights, two_weights}
-use Rattle.plane.proofs.Decisions.{Decision, decide_both, decide_either, decide_below}
-use Rattle.plane.specs.Fraction.{Fraction, IsSame, OnSegment, IsNotNegative}
-use Rattle.plane.specs.Circle.{IsNearer}
-use Rattle.plane.specs.Tiling.{Triangulation, IsVertex, IsEdge, IsFace, HasFace, InCorners, vertex}
-use Rattle.plane.specs.Tiling.{TilesHull}
-use Rattle.plane.specs.Location.{IsOuter}
-use Rattle.plane.specs.Side.{TurnsLeft}
-use Rattle.plane.specs.Line.{Item, Meets, BeginsAt}
-use Rattle.plane.specs.Line as L
-use Rattle.plane.proofs.Triangles.{turned_face}
-use Rattle.plane.proofs.Signs.{negated_negative, negation_not_negative, opposite_of_negative}
-use Rattle.plane.proofs.Signs.{opposite_of_positive, opposite_of_zero_of}
-use Rattle.plane_theorems.proofs.Delaunay.Points.Bracket.{bracket, bracket-swapped, bracket-turned}
-use Rattle.plane_theorems.proofs.Delaunay.Points.Bracket.{cramer}
-use Rattle.plane_theorems.proofs.Delaunay.Points.Bracket.{bracket-first, bracket-second, meeting}
-use Rattle.plane_theorems.proofs.Delaunay.Points.Bracket.{cramer-w}
-use Rattle.plane_theorems.proofs.Delaunay.Points.Bracket.{above_if_left}
-use Rattle.plane_theorems.proofs.Delaunay.Points.Members.{Member}
+use Rattle.plane.specs.{BeginsAt, Fraction, HasFace, InCorners, IsEdge, IsFace, IsNearer}
+use Rattle.plane.specs.{IsNotNegative, IsOuter, IsSame, IsVertex, Item, Meets, OnSegment, TilesHull}
+use Rattle.plane.specs.{Triangulation, TurnsLeft, vertex}
+use Rattle.plane.proofs.{decide_below, decide_both, decide_either, Decision, left_not_below}
+use Rattle.plane.proofs.{lt_or_ge_ℤ, mul-neg_ℤ, mul-nonneg_of_nonpos_ℤ, mul-nonneg_ℤ, mul-pos_ℤ}
+use Rattle.plane.proofs.{neg-mul_ℤ, negated_negative, nonneg_of_mul-nonneg_ℤ, opposite_of_negative}
+use Rattle.plane.proofs.{opposite_of_positive, opposite_of_zero_of, pos-ne-zero_ℤ}
+use Rattle.plane.proofs.{product_zero_left, right_not_above, trichotomy_ℤ, turned_face, two_weights}
+use Rattle.plane.proofs.{TwoWeights, weak, weak_right, zero-mul_ℤ, zero_of_mul-zero_ℤ, zero_weak}
+use Rattle.{plane.proofs.zero_weak_left, plane_theorems.proofs.Delaunay.Floods.Flooded.segment_from}
+use Rattle.plane.proofs.{IntegerOrder.mul-neg_of_neg_pos_ℤ, Signs.negation_not_negative}
+use Rattle.plane_theorems.specs.{IsFirst, IsWalk}
 use Rattle.plane_theorems.proofs.Delaunay.Circles.EmptyCircles.{weights_along}
-use Rattle.plane_theorems.proofs.Delaunay.Floods.Flooded.{segment_from}
+use Rattle.plane_theorems.proofs.Delaunay.Points.Bracket.{above_if_left, bracket, bracket-first}
+use Rattle.plane_theorems.proofs.Delaunay.Points.Bracket.{bracket-second, bracket-swapped}
+use Rattle.plane_theorems.proofs.Delaunay.Points.Bracket.{bracket-turned, cramer, cramer-w, meeting}
+use Rattle.plane_theorems.proofs.Delaunay.Points.Members.{Member}
 use Rattle.plane_theorems.proofs.Delaunay.Segments.LineItems.{Begins, begins, meeting_of_hull}
-use Rattle.plane_theorems.proofs.Delaunay.Tilings.Ground.{triangle_of_closed, sides_of}
-use Rattle.plane_theorems.proofs.Delaunay.Tilings.Ground.{face_of_side}
-use Rattle.plane_theorems.proofs.Delaunay.Tilings.Ground.{side_listed}
+use Rattle.plane_theorems.proofs.Delaunay.Tilings.Ground.{face_of_side, side_listed, sides_of}
+use Rattle.plane_theorems.proofs.Delaunay.Tilings.Ground.{triangle_of_closed}
 use Rattle.plane_theorems.proofs.Delaunay.Tilings.OuterEdges.{edge_of_corner}
 use Rattle.plane_theorems.proofs.Delaunay.Tilings.OuterEdges.{face_not_left_of_outer}
 use Rattle.plane_theorems.proofs.Delaunay.Tilings.Where.{listed_or_not}
-use Rattle.plane_theorems.specs.Segments.Steps.{IsFirst, IsWalk}
+use Rattle.plane_theorems.proofs.Segments.Crossing.Chosen.{decide_listed, IsLastBelow, last_below}
 use Rattle.plane_theorems.proofs.Segments.First.OutsideStarts.{nearest_of_firsts, none_of_firsts}
-use Rattle.plane_theorems.proofs.Segments.First.OutsideStarts.{only_vertex}
-use Rattle.plane_theorems.proofs.Segments.First.OutsideStarts.{vertex_begins}
-use Rattle.plane_theorems.proofs.Segments.Crossing.Chosen.{IsLastBelow, last_below, decide_listed}
+use Rattle.plane_theorems.proofs.Segments.First.OutsideStarts.{only_vertex, vertex_begins}
 use Rattle.plane_theorems.proofs.Segments.Items.Begins.{edge_flipped, met_if, on_line}
-use Rattle.plane_theorems.proofs.Segments.Items.Slopes.{slope_above, higher_is_later, left_before}
+use Rattle.plane_theorems.proofs.Segments.Items.Slopes.{higher_is_later, left_before, slope_above}
+use Rattle.plane.specs.Line as L
 
 -- an outer edge begins or ends at vertex v
 abbrev pub IsOnOutline : Triangulation → ℕ → Type 0

@@ -7,50 +7,37 @@ use mathlib.Core.Logic.{◌⊎◌, inl, inr}
 use lib.IntN.{neg_ℤ}
 use Rattle.std.specs.Prelude.{ℤ, pos, ◌<ℤ◌, ◌≤ℤ◌, ◌+ℤ◌, ◌-ℤ◌, ◌*ℤ◌}
 use Rattle.std.proofs.lemmas.Int.{ints}
-use Rattle.plane.proofs.IntegerLaws.{neg-mul_ℤ, mul-neg_ℤ}
-use Rattle.plane.proofs.IntegerOrder.{lt_or_ge_ℤ, trichotomy_ℤ, mul-pos_ℤ, mul-nonneg_ℤ}
-use Rattle.plane.proofs.IntegerOrder.{mul-nonpos_of_nonneg_nonpos_ℤ}
-use Rattle.plane.proofs.IntegerOrder.{mul-neg_of_pos_neg_ℤ, zero-mul_ℤ}
-use Rattle.plane.proofs.Steps.{weak, weak_right, zero_weak, zero_weak_left, product_zero_left}
-use Rattle.plane.proofs.Nearer.{same_not_nearer}
-use Rattle.plane.proofs.Segments.{same-refl, start_on_segment}
-use Rattle.plane.specs.Fraction.{Fraction, IsSame, OnSegment}
-use Rattle.plane.specs.Circle.{IsNearer}
-use Rattle.plane.specs.Tiling.{Triangulation, IsEdge, IsFace, HasFace, InCorners, vertex, TilesHull}
-use Rattle.plane.specs.Location.{IsOuter}
-use Rattle.plane.specs.Line.{Item, Meets, BeginsAt, IsBefore, IsVertexThenOverlap}
-use Rattle.plane.specs.Line as L
-use Rattle.plane_theorems.proofs.Delaunay.Points.Bracket.{bracket, bracket-swapped, bracket-first}
-use Rattle.plane_theorems.proofs.Delaunay.Points.Bracket.{meeting}
-use Rattle.plane_theorems.proofs.Delaunay.Points.Bracket.{cramer}
-use Rattle.plane_theorems.proofs.Delaunay.Points.Bracket.{above_if_left}
-use Rattle.plane_theorems.proofs.Delaunay.Tilings.Faces.{Between, between-second, between-third}
-use Rattle.plane_theorems.proofs.Delaunay.Tilings.Faces.{between-swapped}
-use Rattle.plane_theorems.proofs.Delaunay.Floods.Flooded.{side_of_segment, segment_from}
-use Rattle.plane_theorems.proofs.Delaunay.Tilings.Ground.{triangle_of_closed, sides_of}
-use Rattle.plane_theorems.proofs.Delaunay.Tilings.Ground.{face_of_side}
-use Rattle.plane_theorems.proofs.Delaunay.Tilings.Ground.{side_listed}
-use Rattle.plane.proofs.Triangles.{turned_face}
-use Rattle.plane_theorems.proofs.Delaunay.Points.Members.{Member}
+use Rattle.plane.specs.{BeginsAt, Fraction, HasFace, InCorners, IsBefore, IsEdge, IsFace, IsNearer}
+use Rattle.plane.specs.{IsOuter, IsSame, IsVertexThenOverlap, Item, Meets, OnSegment, TilesHull}
+use Rattle.plane.specs.{Triangulation, vertex}
+use Rattle.plane.proofs.{lt_or_ge_ℤ, mul-neg_of_pos_neg_ℤ, mul-neg_ℤ, mul-nonneg_ℤ}
+use Rattle.plane.proofs.{mul-nonpos_of_nonneg_nonpos_ℤ, mul-pos_ℤ, neg-mul_ℤ, negated_negative}
+use Rattle.plane.proofs.{opposite_of_negative, opposite_of_not_positive, opposite_of_zero_of}
+use Rattle.plane.proofs.{product_zero_left, same-refl, same_not_nearer, start_on_segment}
+use Rattle.plane.proofs.{trichotomy_ℤ, turned_face, weak, weak_right, zero-mul_ℤ, zero_weak}
+use Rattle.{plane.proofs.zero_weak_left, plane_theorems.proofs.Delaunay.Tilings.Faces.between-third}
+use Rattle.plane_theorems.specs.{IsFirst, IsWalk, Segments.WalkLaws.FirstFromOutside}
+use Rattle.plane_theorems.proofs.Delaunay.Floods.Flooded.{segment_from, side_of_segment}
+use Rattle.plane_theorems.proofs.Delaunay.Points.AlongSegment.{first_on, none_sooner}
+use Rattle.plane_theorems.proofs.Delaunay.Points.Bracket.{above_if_left, bracket, bracket-first}
+use Rattle.plane_theorems.proofs.Delaunay.Points.Bracket.{bracket-swapped, cramer, meeting}
+use Rattle.plane_theorems.proofs.{Delaunay.Points.Members.Member, Segments.Walking.Steps.edge_apart}
+use Rattle.plane_theorems.proofs.Delaunay.Segments.LineItems.{Begins, begins, between_of}
+use Rattle.plane_theorems.proofs.Delaunay.Segments.LineItems.{line_items_are_ordered, Meeting}
+use Rattle.plane_theorems.proofs.Delaunay.Segments.LineItems.{meeting_of_hull, met_within}
+use Rattle.plane_theorems.proofs.Delaunay.Segments.LineItems.{turned_segment}
+use Rattle.plane_theorems.proofs.Delaunay.Tilings.Faces.{Between, between-second, between-swapped}
+use Rattle.plane_theorems.proofs.Delaunay.Tilings.Ground.{face_of_side, side_listed, sides_of}
+use Rattle.plane_theorems.proofs.Delaunay.Tilings.Ground.{triangle_of_closed}
 use Rattle.plane_theorems.proofs.Delaunay.Tilings.Meets.{on_side-closed}
 use Rattle.plane_theorems.proofs.Delaunay.Tilings.OuterEdges.{face_not_left_of_outer}
 use Rattle.plane_theorems.proofs.Delaunay.Tilings.Where.{listed_or_not}
-use Rattle.plane_theorems.proofs.Delaunay.Points.AlongSegment.{first_on, none_sooner}
-use Rattle.plane_theorems.proofs.Delaunay.Segments.LineItems.{Begins, begins, Meeting}
-use Rattle.plane_theorems.proofs.Delaunay.Segments.LineItems.{meeting_of_hull}
-use Rattle.plane_theorems.proofs.Delaunay.Segments.LineItems.{between_of, met_within}
-use Rattle.plane_theorems.proofs.Delaunay.Segments.LineItems.{turned_segment}
-use Rattle.plane_theorems.proofs.Delaunay.Segments.LineItems.{line_items_are_ordered}
-use Rattle.plane_theorems.specs.Segments.Steps.{IsFirst, IsWalk}
-use Rattle.plane_theorems.specs.Segments.WalkLaws.{FirstFromOutside}
-use Rattle.plane_theorems.proofs.Segments.Items.Slopes.{slope_above, higher_is_later, left_before}
-use Rattle.plane_theorems.proofs.Segments.Items.Begins.{edge_flipped, Signs, signs_of, met_if}
-use Rattle.plane_theorems.proofs.Segments.Items.Begins.{on_line}
+use Rattle.plane_theorems.proofs.Segments.Items.Begins.{edge_flipped, met_if, on_line, Signs}
+use Rattle.plane_theorems.proofs.Segments.Items.Begins.{signs_of}
 use Rattle.plane_theorems.proofs.Segments.Items.Orders.{nearer-same_first, nearer-same_second}
-use Rattle.plane_theorems.proofs.Segments.Walking.Steps.{edge_apart}
+use Rattle.plane_theorems.proofs.Segments.Items.Slopes.{higher_is_later, left_before, slope_above}
 use Rattle.plane_theorems.proofs.Segments.Walking.EachWalk.{each_walk}
-use Rattle.plane.proofs.Signs.{negated_negative, opposite_of_zero_of, opposite_of_negative}
-use Rattle.plane.proofs.Signs.{opposite_of_not_positive}
+use Rattle.plane.specs.Line as L
 
 -- ---- any triangulation whose items have their order
 -- of the vertices that are met the nearest one is the first item

@@ -6,35 +6,26 @@ use mathlib.Core.Logic.{◌⊎◌, inl, inr}
 use lib.IntN.{neg_ℤ}
 use Rattle.std.specs.Prelude.{ℤ, pos, ◌<ℤ◌, ◌≤ℤ◌, ◌-ℤ◌, ◌*ℤ◌}
 use Rattle.std.proofs.lemmas.Int.{ints}
-use Rattle.plane.proofs.IntegerOrder.{mul-pos_ℤ, pos_of_mul-pos_ℤ, trichotomy_ℤ}
-use Rattle.plane.proofs.IntegerOrder.{mul-nonpos_of_nonneg_nonpos_ℤ}
-use Rattle.plane.proofs.Steps.{weak, weak_right, zero_weak_left, left_not_zero, left_not_below}
-use Rattle.plane.proofs.Steps.{product_zero_left, not_left_strict, right_not_above}
-use Rattle.plane.proofs.IntegerLaws.{neg-mul_ℤ}
-use Rattle.plane.specs.Crossing.{MeetsWithin}
-use Rattle.plane.proofs.Segments.{on_segment-same, end_on_segment}
+use Rattle.plane.specs.{BeginsAt, Fraction, IsBefore, IsEdge, IsFace, IsNearer, IsPointOf, IsSame}
+use Rattle.plane.specs.{IsVertexThenOverlap, Item, Meets, MeetsWithin, OnSegment, right, side}
+use Rattle.plane.specs.{TilesHull, Triangulation, TurnsLeft, vertex}
+use Rattle.plane.proofs.{AreOpposite, end_on_segment, if_right, left_not_below, left_not_zero}
+use Rattle.plane.proofs.{mul-nonpos_of_nonneg_nonpos_ℤ, mul-pos_ℤ, neg-mul_ℤ, not_left_strict}
+use Rattle.plane.proofs.{on_segment-same, opposite_of_negative, pos_of_mul-pos_ℤ, product_zero_left}
+use Rattle.plane.proofs.{right_if, right_not_above, trichotomy_ℤ, weak, weak_right, zero_weak_left}
 use Rattle.plane.proofs.Lines.{bracket_of_line}
-use Rattle.plane.proofs.Meetings.{AreOpposite, AreParted, meets_within_is, meets_within_if}
-use Rattle.plane.proofs.Sides.{if_right, right_if}
-use Rattle.plane.specs.Fraction.{Fraction, IsSame, OnSegment}
-use Rattle.plane.specs.Side.{side, right, TurnsLeft}
-use Rattle.plane.specs.Circle.{IsNearer}
-use Rattle.plane.specs.Tiling.{Triangulation, IsEdge, IsFace, vertex, TilesHull}
-use Rattle.plane.specs.Line.{Item, IsPointOf, Meets, BeginsAt, IsBefore, IsVertexThenOverlap}
-use Rattle.plane.specs.Line as L
-use Rattle.plane_theorems.proofs.Delaunay.Points.Bracket.{bracket, meeting-w, bracket-swapped}
-use Rattle.plane_theorems.proofs.Delaunay.Points.Bracket.{above_if_left}
-use Rattle.plane_theorems.proofs.Delaunay.Points.Bracket.{left_if_above}
+use Rattle.plane.proofs.Meetings.{AreParted, meets_within_if, meets_within_is}
+use Rattle.plane_theorems.proofs.Delaunay.Floods.Flooded.{edge_of, side_of_segment}
+use Rattle.plane_theorems.proofs.Delaunay.Points.AlongSegment.{as_soon, later, order_along}
+use Rattle.plane_theorems.proofs.Delaunay.Points.AlongSegment.{OrderAlong, sooner}
+use Rattle.plane_theorems.proofs.Delaunay.Points.Bracket.{above_if_left, bracket, bracket-swapped}
+use Rattle.plane_theorems.proofs.Delaunay.Points.Bracket.{left_if_above, meeting-w}
+use Rattle.plane_theorems.proofs.{Delaunay.Points.Nudges.InOpen, Delaunay.Tilings.Ground.tiling}
 use Rattle.plane_theorems.proofs.Delaunay.Tilings.Generic.{same_bracket}
-use Rattle.plane_theorems.proofs.Delaunay.Points.Nudges.{InOpen}
-use Rattle.plane_theorems.proofs.Delaunay.Tilings.Where.{vertex_not_inside}
 use Rattle.plane_theorems.proofs.Delaunay.Tilings.Meets.{edge_outside}
-use Rattle.plane_theorems.proofs.Delaunay.Tilings.Ground.{tiling}
-use Rattle.plane_theorems.proofs.Delaunay.Floods.Flooded.{side_of_segment, edge_of}
-use Rattle.plane_theorems.proofs.Delaunay.Points.AlongSegment.{Placed, sooner, as_soon, later}
-use Rattle.plane_theorems.proofs.Delaunay.Points.AlongSegment.{placed}
-use Rattle.plane_theorems.proofs.Segments.Items.Slopes.{slope, later_is_higher}
-use Rattle.plane.proofs.Signs.{opposite_of_negative}
+use Rattle.plane_theorems.proofs.Delaunay.Tilings.Where.{vertex_not_inside}
+use Rattle.plane_theorems.proofs.Segments.Items.Slopes.{later_is_higher, slope}
+use Rattle.plane.specs.Line as L
 
 -- ---- a number and its negative
 
@@ -81,9 +72,9 @@ module _ (t : Triangulation) (p q : Fraction) (apart : ¬ IsSame p q) where
   -- an item begins at one point
   pub begins_once : (m : Item) (x y : Fraction) → BeginsAt t p q m x
       → BeginsAt t p q m y → IsSame x y
-  begins_once m x y bx by = go (placed p q apart x y bx.shared by.shared)
+  begins_once m x y bx by = go (order_along p q apart x y bx.shared by.shared)
     where
-      go : Placed p x y → IsSame x y
+      go : OrderAlong p x y → IsSame x y
       go (sooner n) = absurd (by.first x bx.shared bx.of_item n)
       go (as_soon s) = s
       go (later n) = absurd (bx.first y by.shared by.of_item n)
@@ -166,9 +157,9 @@ module _ (t : Triangulation) (p q : Fraction) (apart : ¬ IsSame p q) where
       up = rising p q A B s.left s.right
 
       at_end : bracket A B q ≡ pos 0 → OnSegment A B q
-      at_end z = pick (placed p q apart met.at q met.meet.first (end_on_segment p q))
+      at_end z = pick (order_along p q apart met.at q met.meet.first (end_on_segment p q))
         where
-          pick : Placed p met.at q → OnSegment A B q
+          pick : OrderAlong p met.at q → OnSegment A B q
           pick (sooner n) =
               absurd (left_not_zero (later_is_higher p q apart A B met.at q met.meet.first
               (end_on_segment p q) n up (zero_weak_left (on_line A B met.at met.meet.second))) z)

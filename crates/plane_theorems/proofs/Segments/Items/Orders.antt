@@ -6,21 +6,14 @@ use Rattle.std.proofs.Common.{◌≡◌, arith}
 use mathlib.Core.Logic.{◌⊎◌, inl, inr}
 use Rattle.std.specs.Prelude.{ℤ, pos, ◌<ℤ◌, ◌≤ℤ◌, ◌*ℤ◌}
 use Rattle.std.proofs.lemmas.Int.{ints}
-use Rattle.plane.proofs.IntegerOrder.{lt_of_mul-lt-mul_ℤ, mul-lt-mul_ℤ, mul-le-mul_ℤ}
-use Rattle.plane.proofs.Steps.{weak}
-use Rattle.plane.proofs.Nearer.{same_not_nearer}
-use Rattle.plane.proofs.Segments.{reach, same-sym, same-trans}
-use Rattle.plane.specs.Fraction.{Fraction, IsSame, OnSegment}
-use Rattle.plane.specs.Circle.{IsNearer}
-use Rattle.plane.specs.Tiling.{Triangulation}
-use Rattle.plane.specs.Line.{Item, IsBefore, IsVertexThenOverlap}
+use Rattle.plane.specs.{Fraction, IsBefore, IsNearer, IsSame, IsVertexThenOverlap, Item, OnSegment}
+use Rattle.{plane.specs.Triangulation, plane_theorems.proofs.Segments.Items.Begins.begins_once}
+use Rattle.plane.proofs.{lt_of_mul-lt-mul_ℤ, mul-le-mul_ℤ, mul-lt-mul_ℤ, reach, same-sym}
+use Rattle.plane.proofs.{Centre.swap_first, same-trans, same_not_nearer, weak}
+use Rattle.plane_theorems.proofs.Delaunay.Points.AlongSegment.{as_soon, later, nearer_if}
+use Rattle.plane_theorems.proofs.Delaunay.Points.AlongSegment.{not_both_nearer, order_along}
+use Rattle.plane_theorems.proofs.Delaunay.Points.AlongSegment.{OrderAlong, reach_less, sooner}
 use Rattle.plane.specs.Line as L
-use Rattle.plane_theorems.proofs.Delaunay.Points.AlongSegment.{Placed, sooner, as_soon, later}
-use Rattle.plane_theorems.proofs.Delaunay.Points.AlongSegment.{placed}
-use Rattle.plane_theorems.proofs.Delaunay.Points.AlongSegment.{reach_less, nearer_if}
-use Rattle.plane_theorems.proofs.Delaunay.Points.AlongSegment.{not_both_nearer}
-use Rattle.plane_theorems.proofs.Segments.Items.Begins.{begins_once}
-use Rattle.plane.proofs.Centre.{swap_first}
 
 -- a / u, b / v and c / w rise
 pub through : (a u b v c w : ℤ) → (a *ℤ v) <ℤ (b *ℤ u) → (b *ℤ w) <ℤ (c *ℤ v) → pos 0 <ℤ u
@@ -52,9 +45,9 @@ module _ (p q : Fraction) (apart : ¬ IsSame p q) where
   -- the same point in the first place has the same order
   pub nearer-same_first : (x x' y : Fraction) → OnSegment p q x → OnSegment p q x' → OnSegment p q y
       → IsSame x x' → IsNearer p x y → IsNearer p x' y
-  nearer-same_first x x' y hx hx' hy e h = go (placed p q apart x' y hx' hy)
+  nearer-same_first x x' y hx hx' hy e h = go (order_along p q apart x' y hx' hy)
     where
-      go : Placed p x' y → IsNearer p x' y
+      go : OrderAlong p x' y → IsNearer p x' y
       go (sooner n) = n
       go (as_soon s) = absurd (same_not_nearer p x y (same-trans x x' y e s) h)
       go (later n) = absurd (same_not_nearer p x x' e (nearer_through x y x' hx hy hx' h n))
@@ -62,9 +55,9 @@ module _ (p q : Fraction) (apart : ¬ IsSame p q) where
   -- the same point in the second place has the same order
   pub nearer-same_second : (x y y' : Fraction) → OnSegment p q x → OnSegment p q y
       → OnSegment p q y' → IsSame y y' → IsNearer p x y → IsNearer p x y'
-  nearer-same_second x y y' hx hy hy' e h = go (placed p q apart x y' hx hy')
+  nearer-same_second x y y' hx hy hy' e h = go (order_along p q apart x y' hx hy')
     where
-      go : Placed p x y' → IsNearer p x y'
+      go : OrderAlong p x y' → IsNearer p x y'
       go (sooner n) = n
       go (as_soon s) = absurd (same_not_nearer p x y (same-trans x y' y s (same-sym y y' e)) h)
       go (later n) =

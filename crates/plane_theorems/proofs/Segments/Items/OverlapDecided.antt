@@ -5,30 +5,18 @@ use Rattle.std.proofs.Common.{◌≡◌, ◌∙◌, arith, subst}
 use mathlib.Core.Logic.{◌⊎◌, inl, inr}
 use Rattle.std.specs.Prelude.{ℤ, pos, ◌<ℤ◌, ◌≤ℤ◌, ◌+ℤ◌, ◌-ℤ◌, ◌*ℤ◌}
 use Rattle.std.proofs.lemmas.Int.{ints}
-use Rattle.plane.proofs.IntegerOrder.{lt_or_ge_ℤ, lt_of_mul-lt-mul_ℤ, mul-lt-mul_ℤ, mul-le-mul_ℤ}
-use Rattle.plane.proofs.IntegerOrder.{mul-pos_ℤ}
-use Rattle.plane.proofs.IntegerOrder.{pos_of_mul-pos_ℤ}
-use Rattle.plane.proofs.Steps.{weak, product_zero_left}
-use Rattle.plane.proofs.Bracket.{vec, bracket}
-use Rattle.plane.proofs.Nearer.{same_not_nearer}
-use Rattle.plane.proofs.Decisions.{Decision, decide_zero, decide_below}
-use Rattle.plane.proofs.Segments.{reach, reach-start, reach-end, reach_of_two, on_segment_is}
-use Rattle.plane.proofs.Segments.{on_of_within, only_point}
-use Rattle.plane.proofs.Segments.{same-sym, same-trans, start_on_segment, end_on_segment, weights_x}
-use Rattle.plane.proofs.Segments.{weights_y, IsWhole}
-use Rattle.plane.proofs.Segments.{weights_w}
-use Rattle.plane.specs.Fraction.{Fraction, IsSame, OnSegment}
-use Rattle.plane.specs.Circle.{IsNearer}
-use Rattle.plane.specs.Line.{OverlapAlong}
-use Rattle.plane_theorems.proofs.Delaunay.Points.AlongSegment.{nearer_if, reach_less, on_line}
-use Rattle.plane_theorems.proofs.Delaunay.Points.AlongSegment.{on_line_last}
-use Rattle.plane_theorems.proofs.Delaunay.Points.AlongSegment.{before, not_before}
-use Rattle.plane_theorems.proofs.Delaunay.Points.AlongSegment.{not_past, within_on_line}
-use Rattle.plane_theorems.proofs.Segments.Items.Slopes.{even}
-use Rattle.plane_theorems.proofs.Segments.Items.Orders.{through_weak}
-use Rattle.plane.proofs.Signs.{less_by_difference, less_is_at_most, difference_is_positive}
-use Rattle.plane.proofs.Signs.{positive_above}
-use Rattle.plane.proofs.Centre.{swap_first}
+use Rattle.plane.specs.{Fraction, IsNearer, IsSame, OnSegment, OverlapAlong}
+use Rattle.plane.proofs.{bracket, decide_below, Decision, difference_is_positive, end_on_segment}
+use Rattle.plane.proofs.{IsWhole, less_by_difference, less_is_at_most, lt_of_mul-lt-mul_ℤ}
+use Rattle.plane.proofs.{lt_or_ge_ℤ, mul-le-mul_ℤ, mul-lt-mul_ℤ, mul-pos_ℤ, on_of_within}
+use Rattle.plane.proofs.{on_segment_is, only_point, pos_of_mul-pos_ℤ, positive_above}
+use Rattle.plane.proofs.{product_zero_left, reach, reach-end, reach-start, reach_of_two, same-sym}
+use Rattle.plane.proofs.{same-trans, same_not_nearer, start_on_segment, vec, weak, weights_x}
+use Rattle.plane.proofs.{Centre.swap_first, Decisions.decide_zero, Segments.weights_w, weights_y}
+use Rattle.plane_theorems.proofs.Delaunay.Points.AlongSegment.{before, nearer_if, not_before}
+use Rattle.plane_theorems.proofs.Delaunay.Points.AlongSegment.{not_past, on_line, on_line_last}
+use Rattle.plane_theorems.proofs.Delaunay.Points.AlongSegment.{reach_less, within_on_line}
+use Rattle.plane_theorems.proofs.{Segments.Items.Orders.through_weak, Segments.Items.Slopes.even}
 
 -- a / u rises to b / v, and does not fall from there to c / w
 pub through_last : (a u b v c w : ℤ) → (a *ℤ v) <ℤ (b *ℤ u) → (b *ℤ w) ≤ℤ (c *ℤ v) → pos 0 <ℤ u

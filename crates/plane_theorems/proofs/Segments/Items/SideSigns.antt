@@ -3,11 +3,9 @@
 use Rattle.std.proofs.Common.{◌≡◌}
 use mathlib.Core.Logic.{◌⊎◌, inl, inr}
 use Rattle.std.specs.Prelude.{◌≢◌, pos, ◌<ℤ◌, ◌≤ℤ◌}
-use Rattle.plane.proofs.IntegerOrder.{trichotomy_ℤ}
-use Rattle.plane.proofs.Steps.{weak_right, zero_weak}
-use Rattle.plane.proofs.Sides.{if_right, if_on, if_not_right}
-use Rattle.plane.specs.Fraction.{Fraction}
-use Rattle.plane.specs.Side.{side, left, right, on}
+use Rattle.plane.specs.{Fraction, left, on, right, side}
+use Rattle.plane.proofs.{if_on, if_right, trichotomy_ℤ, weak_right, zero_weak}
+use Rattle.plane.proofs.Sides.{if_not_right}
 use Rattle.plane_theorems.proofs.Delaunay.Points.Bracket.{bracket, left_if_above}
 
 -- where a point is not on the left, the bracket is not above 0

@@ -5,22 +5,17 @@
 use Rattle.std.proofs.Common.{◌≡◌, [], ◌∷◌, arith, sym, ◌∙◌, subst}
 use mathlib.Core.Logic.{◌⊎◌, inl, inr}
 use lib.IntN.{neg_ℤ}
-use Rattle.plane.proofs.IntegerLaws.{neg-mul_ℤ}
 use Rattle.std.specs.Prelude.{ℤ, pos, ◌<ℤ◌, ◌≤ℤ◌, ◌+ℤ◌, ◌-ℤ◌, ◌*ℤ◌}
 use Rattle.std.proofs.lemmas.Int.{ints}
-use Rattle.plane.proofs.Solver.{num, ◌⊕◌, ◌⊖◌, ◌⊗◌, ring_in, ring_in_from}
-use Rattle.plane.proofs.IntegerOrder.{mul-pos_ℤ, mul-nonneg_ℤ, pos_of_mul-pos_ℤ}
-use Rattle.plane.proofs.IntegerOrder.{mul-nonpos_of_nonneg_nonpos_ℤ, trichotomy_ℤ}
-use Rattle.plane.proofs.Steps.{weak, weak_right, zero_weak, product_zero_left}
-use Rattle.plane.proofs.Means.{two_weights}
-use Rattle.plane.proofs.Segments.{reach, reach-end, on_segment_is, weights_x, weights_y, IsWhole}
-use Rattle.plane.proofs.Segments.{weights_w}
-use Rattle.plane.specs.Fraction.{Fraction, IsSame, OnSegment, IsNotNegative}
-use Rattle.plane.specs.Circle.{IsNearer}
-use Rattle.plane_theorems.proofs.Delaunay.Points.Bracket.{bracket}
+use Rattle.plane.specs.{Fraction, IsNearer, IsNotNegative, IsSame, OnSegment}
+use Rattle.plane.proofs.{◌⊕◌, ◌⊖◌, ◌⊗◌, difference_is_positive, IsWhole, less_by_difference}
+use Rattle.plane.proofs.{mul-nonneg_ℤ, mul-nonpos_of_nonneg_nonpos_ℤ, mul-pos_ℤ, neg-mul_ℤ, num}
+use Rattle.plane.proofs.{on_segment_is, pos_of_mul-pos_ℤ, product_zero_left, reach, reach-end}
+use Rattle.plane.proofs.{ring_in, ring_in_from, trichotomy_ℤ, two_weights, weak, weak_right}
+use Rattle.plane.proofs.{Segments.weights_w, weights_x, weights_y, zero_weak}
 use Rattle.plane_theorems.proofs.Delaunay.Circles.EmptyCircles.{weights_along}
-use Rattle.plane_theorems.proofs.Delaunay.Points.AlongSegment.{reach_less, nearer_if}
-use Rattle.plane.proofs.Signs.{less_by_difference, difference_is_positive}
+use Rattle.plane_theorems.proofs.Delaunay.Points.AlongSegment.{nearer_if, reach_less}
+use Rattle.plane_theorems.proofs.Delaunay.Points.Bracket.{bracket}
 
 -- how much the side of the line u v rises from p to q
 unfoldable pub slope : Fraction → Fraction → Fraction → Fraction → ℤ

@@ -3,27 +3,22 @@
 use Rattle.std.proofs.Common.{◌≡◌, ℕ}
 use mathlib.Core.Logic.{◌⊎◌, inl, inr}
 use Rattle.std.specs.Prelude.{pos, ◌<ℤ◌}
-use Rattle.plane.proofs.Steps.{weak, left_not_zero}
-use Rattle.plane.proofs.Segments.{on_segment_is, end_on_segment, start_on_segment}
-use Rattle.plane.specs.Fraction.{Fraction, IsSame, OnSegment}
-use Rattle.plane.specs.Tiling.{Triangulation, IsEdge, IsFace, HasFace, vertex, TilesHull}
-use Rattle.plane.specs.Location.{IsOuter}
-use Rattle.plane.specs.Line.{Item, IsPointOf, Meets, IsBefore}
-use Rattle.plane.specs.Line as L
-use Rattle.plane_theorems.proofs.Delaunay.Points.Bracket.{bracket, above_if_left, left_if_above}
+use Rattle.plane.specs.{Fraction, HasFace, IsBefore, IsEdge, IsFace, IsOuter, IsPointOf, IsSame}
+use Rattle.plane.specs.{Item, Meets, OnSegment, TilesHull, Triangulation, vertex}
+use Rattle.plane.proofs.{at_most_and_more, end_on_segment, left_not_zero, on_segment_is}
+use Rattle.{plane.proofs.start_on_segment, plane.proofs.weak, plane_theorems.specs.IsLast}
+use Rattle.plane_theorems.proofs.Delaunay.Floods.Flooded.{side_of_segment}
+use Rattle.plane_theorems.proofs.Delaunay.Points.AlongSegment.{as_soon, later, order_along}
+use Rattle.plane_theorems.proofs.Delaunay.Points.AlongSegment.{OrderAlong, reach_less, sooner}
+use Rattle.plane_theorems.proofs.Delaunay.Points.Bracket.{above_if_left, bracket, left_if_above}
+use Rattle.plane_theorems.proofs.Delaunay.Segments.LineItems.{turned_segment}
 use Rattle.plane_theorems.proofs.Delaunay.Tilings.Ground.{triangle_of_closed}
 use Rattle.plane_theorems.proofs.Delaunay.Tilings.Meets.{on_side-closed}
 use Rattle.plane_theorems.proofs.Delaunay.Tilings.OuterEdges.{edge_of_corner}
 use Rattle.plane_theorems.proofs.Delaunay.Tilings.OuterEdges.{face_not_left_of_outer}
-use Rattle.plane_theorems.proofs.Delaunay.Floods.Flooded.{side_of_segment}
-use Rattle.plane_theorems.proofs.Delaunay.Segments.LineItems.{turned_segment}
-use Rattle.plane_theorems.proofs.Delaunay.Points.AlongSegment.{Placed, sooner, as_soon, later}
-use Rattle.plane_theorems.proofs.Delaunay.Points.AlongSegment.{placed}
-use Rattle.plane_theorems.proofs.Delaunay.Points.AlongSegment.{reach_less}
-use Rattle.plane_theorems.specs.Segments.Steps.{IsLast}
-use Rattle.plane_theorems.proofs.Segments.Items.Slopes.{slope, later_is_higher}
-use Rattle.plane_theorems.proofs.Segments.Items.Begins.{Signs, rising, above-same, after_crossing}
-use Rattle.plane.proofs.Signs.{at_most_and_more}
+use Rattle.plane_theorems.proofs.Segments.Items.Begins.{above-same, after_crossing, rising, Signs}
+use Rattle.plane_theorems.proofs.Segments.Items.Slopes.{later_is_higher, slope}
+use Rattle.plane.specs.Line as L
 
 -- the segment ends on the edge that it crosses
 pub last_on_edge : (t : Triangulation) (p q : Fraction) (apart : ¬ IsSame p q) (a b : ℕ)
@@ -35,12 +30,12 @@ last_on_edge t p q apart a b s on = record { none_after = λ k _ o. none k o }
     up = rising p q (vertex t a) (vertex t b) s.left s.right
 
     none : (k : Item) → ¬ IsBefore t p q (L.across a b) k
-    none k o = go (placed p q apart o.second q o.second_begins.shared (end_on_segment p q))
+    none k o = go (order_along p q apart o.second q o.second_begins.shared (end_on_segment p q))
       where
         high : pos 0 <ℤ bracket (vertex t a) (vertex t b) o.second
         high = after_crossing t p q apart a b s k o
 
-        go : Placed p o.second q → ⊥
+        go : OrderAlong p o.second q → ⊥
         go (sooner n) = left_not_zero (later_is_higher p q apart (vertex t a)
             (vertex t b) o.second q o.second_begins.shared (end_on_segment p q) n up (weak high)) on
         go (as_soon e) = left_not_zero (above-same (vertex t a) (vertex t b) o.second q e high) on

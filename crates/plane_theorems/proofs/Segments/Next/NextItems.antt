@@ -5,39 +5,29 @@ use mathlib.Core.Logic.{◌⊎◌, inl, inr}
 use lib.IntN.{neg_ℤ}
 use Rattle.std.specs.Prelude.{ℤ, pos, ◌<ℤ◌, ◌≤ℤ◌, ◌+ℤ◌, ◌-ℤ◌, ◌*ℤ◌}
 use Rattle.std.proofs.lemmas.Int.{ints}
-use Rattle.plane.proofs.IntegerOrder.{mul-pos_ℤ, mul-nonneg_ℤ, trichotomy_ℤ}
-use Rattle.plane.proofs.IntegerOrder.{mul-nonpos_of_nonneg_nonpos_ℤ, mul-nonneg_of_nonpos_ℤ}
-use Rattle.plane.proofs.IntegerOrder.{mul-neg_of_pos_neg_ℤ, zero-mul_ℤ, neg-pos_ℤ}
-use Rattle.plane.proofs.Solver.{num, ◌⊕◌, ◌⊖◌, ◌⊗◌, ⊝, ring_in_from}
-use Rattle.plane.proofs.Nearer.{same_not_nearer}
-use Rattle.plane.proofs.Steps.{weak, weak_right, zero_weak, zero_weak_left, left_not_zero}
-use Rattle.plane.proofs.Segments.{same-refl}
-use Rattle.plane.specs.Fraction.{Fraction, IsSame, OnSegment}
-use Rattle.plane.specs.Circle.{IsNearer}
-use Rattle.plane.specs.Tiling.{Triangulation, IsEdge, IsFace, vertex, TilesHull}
-use Rattle.plane.specs.Line.{Item, Meets, BeginsAt, IsBefore, IsVertexThenOverlap}
-use Rattle.plane.specs.Line as L
-use Rattle.plane_theorems.proofs.Delaunay.Points.Bracket.{bracket, bracket-swapped, bracket-first}
-use Rattle.plane_theorems.proofs.Delaunay.Points.Bracket.{cramer}
-use Rattle.plane_theorems.proofs.Delaunay.Points.Bracket.{meeting, above_if_left}
-use Rattle.plane_theorems.proofs.Delaunay.Points.Nudges.{InOpen}
-use Rattle.plane_theorems.proofs.Delaunay.Tilings.Faces.{Between, between-swapped, between-second}
-use Rattle.plane_theorems.proofs.Delaunay.Tilings.Faces.{between-third, turned-above}
-use Rattle.plane.proofs.Triangles.{turned_face}
+use Rattle.plane.specs.{BeginsAt, Fraction, IsBefore, IsEdge, IsFace, IsNearer, IsSame}
+use Rattle.plane.specs.{IsVertexThenOverlap, Item, Meets, OnSegment, TilesHull, Triangulation}
+use Rattle.{plane.specs.vertex, plane_theorems.specs.ComesNext, plane_theorems.specs.IsLast}
+use Rattle.plane.proofs.{◌⊕◌, ◌⊖◌, ◌⊗◌, left_not_zero, mul-neg_of_pos_neg_ℤ, mul-nonneg_of_nonpos_ℤ}
+use Rattle.plane.proofs.{mul-nonneg_ℤ, mul-nonpos_of_nonneg_nonpos_ℤ, mul-pos_ℤ, neg-pos_ℤ}
+use Rattle.plane.proofs.{negated_not_negative, num, opposite_of_negative, opposite_of_not_positive}
+use Rattle.plane.proofs.{opposite_of_positive, ring_in_from, same-refl, same_not_nearer}
+use Rattle.plane.proofs.{trichotomy_ℤ, turned_face, weak, weak_right, zero-mul_ℤ, zero_weak}
+use Rattle.plane.proofs.{zero_weak_left, ⊝}
 use Rattle.plane_theorems.proofs.Delaunay.Floods.Flooded.{segment_from}
+use Rattle.plane_theorems.proofs.Delaunay.Points.Bracket.{above_if_left, bracket, bracket-first}
+use Rattle.plane_theorems.proofs.Delaunay.Points.Bracket.{bracket-swapped, cramer, meeting}
+use Rattle.plane_theorems.proofs.Delaunay.Points.Nudges.{InOpen}
 use Rattle.plane_theorems.proofs.Delaunay.Segments.LineItems.{Begins, begins, between_of}
-use Rattle.plane_theorems.proofs.Delaunay.Segments.LineItems.{met_within}
-use Rattle.plane_theorems.proofs.Delaunay.Segments.LineItems.{meeting_of_hull}
-use Rattle.plane_theorems.specs.Segments.Steps.{ComesNext, IsLast}
-use Rattle.plane_theorems.proofs.Segments.Items.Slopes.{slope, slope_above, later_is_higher}
-use Rattle.plane_theorems.proofs.Segments.Items.Slopes.{higher_is_later}
-use Rattle.plane_theorems.proofs.Segments.Items.Slopes.{left_before, left_from}
-use Rattle.plane_theorems.proofs.Segments.Items.Begins.{edge_flipped, Signs, met_if, rising}
-use Rattle.plane_theorems.proofs.Segments.Items.Begins.{above-same}
-use Rattle.plane_theorems.proofs.Segments.Items.Begins.{begins_once, on_line, after_crossing}
-use Rattle.plane_theorems.proofs.Segments.Items.Begins.{before_crossing, bare_inside}
-use Rattle.plane.proofs.Signs.{negated_not_negative, opposite_of_positive, opposite_of_negative}
-use Rattle.plane.proofs.Signs.{opposite_of_not_positive}
+use Rattle.plane_theorems.proofs.Delaunay.Segments.LineItems.{meeting_of_hull, met_within}
+use Rattle.plane_theorems.proofs.Delaunay.Tilings.Faces.{Between, between-second, between-swapped}
+use Rattle.plane_theorems.proofs.Delaunay.Tilings.Faces.{between-third, turned-above}
+use Rattle.plane_theorems.proofs.Segments.Items.Begins.{above-same, after_crossing, bare_inside}
+use Rattle.plane_theorems.proofs.Segments.Items.Begins.{before_crossing, begins_once, edge_flipped}
+use Rattle.plane_theorems.proofs.Segments.Items.Begins.{met_if, on_line, rising, Signs}
+use Rattle.plane_theorems.proofs.Segments.Items.Slopes.{higher_is_later, later_is_higher}
+use Rattle.plane_theorems.proofs.Segments.Items.Slopes.{left_before, left_from, slope, slope_above}
+use Rattle.plane.specs.Line as L
 
 -- ---- the triangle a b d, and z on the line p q, which parts a and b: 0 = second A + third B +
 -- first D

@@ -4,33 +4,26 @@ use Rattle.std.proofs.Common.{◌≡◌, ℕ, arith, subst, subst₂}
 use mathlib.Core.Logic.{◌⊎◌, inl, inr}
 use Rattle.std.specs.Prelude.{ℤ, pos, ◌<ℤ◌, ◌≤ℤ◌, ◌*ℤ◌}
 use Rattle.std.proofs.lemmas.Int.{ints}
-use Rattle.plane.proofs.IntegerOrder.{lt_or_ge_ℤ, mul-nonneg_ℤ, nonneg_of_mul-nonneg_ℤ}
-use Rattle.plane.proofs.Steps.{weak}
-use Rattle.plane.proofs.Nearer.{same_not_nearer}
-use Rattle.plane.proofs.Segments.{reach, same-refl, on_segment_is, end_on_segment, on_of_within}
-use Rattle.plane.proofs.Segments.{within_segment-same}
-use Rattle.plane.specs.Fraction.{Fraction, IsSame, OnSegment, WithinSegment}
-use Rattle.plane.specs.Circle.{IsNearer}
-use Rattle.plane.specs.Tiling.{Triangulation, vertex}
-use Rattle.plane.specs.Line.{Item, IsPointOf, Meets, BeginsAt, IsBefore, IsVertexThenOverlap}
-use Rattle.plane.specs.Line as L
-use Rattle.plane_theorems.proofs.Delaunay.Points.AlongSegment.{Placed, sooner, as_soon, later}
-use Rattle.plane_theorems.proofs.Delaunay.Points.AlongSegment.{placed}
-use Rattle.plane_theorems.proofs.Delaunay.Points.AlongSegment.{reach_less, on_line, on_line_last}
-use Rattle.plane_theorems.proofs.Delaunay.Points.AlongSegment.{before}
-use Rattle.plane_theorems.proofs.Delaunay.Points.AlongSegment.{not_before, not_past, not_from_end}
-use Rattle.plane_theorems.proofs.Delaunay.Points.AlongSegment.{within_on_line, same_on_line}
-use Rattle.plane_theorems.proofs.Delaunay.Segments.LineItems.{Begins, begins, Meeting, SharedAt}
-use Rattle.plane_theorems.proofs.Delaunay.Segments.LineItems.{one_way}
-use Rattle.plane_theorems.proofs.Delaunay.Segments.LineItems.{other_way, at_end, met_within}
-use Rattle.plane_theorems.proofs.Delaunay.Segments.LineItems.{crossing_and_overlap}
-use Rattle.plane_theorems.specs.Segments.Steps.{ComesNext, IsLast}
+use Rattle.plane.specs.{BeginsAt, Fraction, IsBefore, IsNearer, IsPointOf, IsSame}
+use Rattle.plane.specs.{IsVertexThenOverlap, Item, Meets, OnSegment, Triangulation, vertex}
+use Rattle.{plane.specs.WithinSegment, plane_theorems.specs.ComesNext, plane_theorems.specs.IsLast}
+use Rattle.plane.proofs.{at_most_and_more, at_most_both_ways, difference_is_positive}
+use Rattle.plane.proofs.{differences_both_positive, end_on_segment, lt_or_ge_ℤ, mul-nonneg_ℤ}
+use Rattle.plane.proofs.{nonneg_of_mul-nonneg_ℤ, on_of_within, on_segment_is, reach, same-refl}
+use Rattle.plane.proofs.{same_not_nearer, weak, within_segment-same}
+use Rattle.plane_theorems.proofs.Delaunay.Points.AlongSegment.{as_soon, before, later, not_before}
+use Rattle.plane_theorems.proofs.Delaunay.Points.AlongSegment.{not_from_end, not_past, on_line}
+use Rattle.plane_theorems.proofs.Delaunay.Points.AlongSegment.{on_line_last, order_along}
+use Rattle.plane_theorems.proofs.Delaunay.Points.AlongSegment.{OrderAlong, reach_less, same_on_line}
+use Rattle.plane_theorems.proofs.Delaunay.Points.AlongSegment.{sooner, within_on_line}
+use Rattle.plane_theorems.proofs.Delaunay.Segments.LineItems.{at_end, Begins, begins}
+use Rattle.plane_theorems.proofs.Delaunay.Segments.LineItems.{crossing_and_overlap, Meeting}
+use Rattle.plane_theorems.proofs.Delaunay.Segments.LineItems.{met_within, one_way, other_way}
+use Rattle.plane_theorems.proofs.Delaunay.Segments.LineItems.{SharedAt}
 use Rattle.plane_theorems.proofs.Segments.Items.Begins.{begins_once}
-use Rattle.plane_theorems.proofs.Segments.Items.Orders.{through_weak, nearer_through}
-use Rattle.plane_theorems.proofs.Segments.Items.Orders.{nearer-same_second}
-use Rattle.plane_theorems.proofs.Segments.Items.Orders.{not_both_before}
-use Rattle.plane.proofs.Signs.{at_most_both_ways, differences_both_positive, difference_is_positive}
-use Rattle.plane.proofs.Signs.{at_most_and_more}
+use Rattle.plane_theorems.proofs.Segments.Items.Orders.{nearer-same_second, nearer_through}
+use Rattle.plane_theorems.proofs.Segments.Items.Orders.{not_both_before, through_weak}
+use Rattle.plane.specs.Line as L
 
 module _ (t : Triangulation) (c₀ : Meeting t) (p q : Fraction) (apart : ¬ IsSame p q) (a b : ℕ)
     (m : Meets t p q (L.along a b)) where
@@ -106,10 +99,10 @@ module _ (t : Triangulation) (c₀ : Meeting t) (p q : Fraction) (apart : ¬ IsS
         second = B;
         first_begins = x.begins;
         second_begins = at_b;
-        order = inl (pick (placed p q apart x.at B x.begins.shared on));
+        order = inl (pick (order_along p q apart x.at B x.begins.shared on));
       }
         where
-          pick : Placed p x.at B → IsNearer p x.at B
+          pick : OrderAlong p x.at B → IsNearer p x.at B
           pick (sooner n) = n
           pick (as_soon e) = absurd
               (not_from_end p q A B m.1 x.at x.begins.shared (λ r h i. x.begins.first r h i) e)
@@ -163,9 +156,9 @@ module _ (t : Triangulation) (c₀ : Meeting t) (p q : Fraction) (apart : ¬ IsS
 
   at_last : (reach p q q *ℤ B.w) <ℤ (reach p q B *ℤ q.w) → WithinSegment A B q
   at_last less = within_overlap m.1.near q m.1.near_first (end_on_segment p q) m.1.near_second
-      (go (placed p q apart m.1.far q m.1.far_first (end_on_segment p q))) less
+      (go (order_along p q apart m.1.far q m.1.far_first (end_on_segment p q))) less
     where
-      go : Placed p m.1.far q → IsNearer p m.1.near q
+      go : OrderAlong p m.1.far q → IsNearer p m.1.near q
       go (sooner n) = nearer_through p q apart m.1.near m.1.far q m.1.near_first m.1.far_first
           (end_on_segment p q) m.1.from_s n
       go (as_soon e) = nearer-same_second p q apart m.1.near m.1.far q m.1.near_first m.1.far_first

@@ -6,40 +6,34 @@ use mathlib.Core.Logic.{◌⊎◌, inl, inr}
 use lib.IntN.{neg_ℤ}
 use Rattle.std.specs.Prelude.{ℤ, pos, ◌<ℤ◌, ◌≤ℤ◌, ◌+ℤ◌, ◌-ℤ◌, ◌*ℤ◌, map}
 use Rattle.std.proofs.lemmas.Int.{ints}
-use Rattle.plane.proofs.IntegerOrder.{mul-pos_ℤ, mul-nonneg_ℤ, nonneg_of_mul-nonneg_ℤ, trichotomy_ℤ}
-use Rattle.plane.proofs.IntegerOrder.{neg-pos_ℤ, mul-neg_of_neg_pos_ℤ}
-use Rattle.plane.proofs.Steps.{weak, zero_weak_left, left_not_zero, right_not_above}
-use Rattle.plane.proofs.Steps.{product_zero_left, not_right_strict}
-use Rattle.plane.proofs.Solver.{◌⊕◌, ◌⊗◌, ring_in_from}
-use Rattle.plane.proofs.Means.{TwoWeights, two_weights}
-use Rattle.plane.proofs.IntegerLaws.{neg-mul_ℤ}
-use Rattle.plane.proofs.Segments.{reach, reach-start, reach-end, reach_of_two, same-sym}
-use Rattle.plane.proofs.Segments.{start_on_segment, end_on_segment, on_segment-same}
-use Rattle.plane.specs.Fraction.{Fraction, whole, IsSame, OnSegment, IsNotNegative, InHull}
-use Rattle.plane.specs.Circle.{IsNearer}
-use Rattle.plane.specs.Side.{side, right}
-use Rattle.plane.specs.Tiling.{Triangulation, IsEdge, IsFace, HasFace, vertex, TilesHull}
-use Rattle.plane.specs.Line.{Item, IsPointOf, Meets}
-use Rattle.plane.specs.Line as L
-use Rattle.plane_theorems.proofs.Delaunay.Points.Bracket.{bracket, bracket-swapped, bracket-first}
-use Rattle.plane_theorems.proofs.Delaunay.Points.Bracket.{bracket-second, cramer, cramer-w}
-use Rattle.plane_theorems.proofs.Delaunay.Points.Bracket.{above_if_left}
-use Rattle.plane_theorems.proofs.Delaunay.Tilings.Ground.{face_in_hull}
-use Rattle.plane.proofs.Triangles.{turned_face}
-use Rattle.plane_theorems.proofs.Delaunay.Tilings.Meets.{on_side-closed}
-use Rattle.plane_theorems.proofs.Delaunay.Tilings.Cones.{cone_at_vertex}
+use Rattle.plane.specs.{Fraction, HasFace, InHull, IsEdge, IsFace, IsNearer, IsNotNegative}
+use Rattle.plane.specs.{IsPointOf, IsSame, Item, Meets, OnSegment, right, side, TilesHull}
+use Rattle.plane.specs.{Triangulation, vertex, whole}
+use Rattle.plane.proofs.{◌⊕◌, ◌⊗◌, at_most_and_more, end_on_segment, left_not_zero, mul-nonneg_ℤ}
+use Rattle.plane.proofs.{mul-pos_ℤ, neg-mul_ℤ, neg-pos_ℤ, nonneg_of_mul-nonneg_ℤ, not_right_strict}
+use Rattle.plane.proofs.{on_segment-same, opposite_of_negative, opposite_of_positive}
+use Rattle.plane.proofs.{product_zero_left, reach, reach-end, reach-start, reach_of_two}
+use Rattle.plane.proofs.{right_not_above, ring_in_from, same-sym, start_on_segment}
+use Rattle.plane.proofs.{sum_not_negative_of, trichotomy_ℤ, turned_face, two_weights, TwoWeights}
+use Rattle.plane.proofs.{weak, zero_weak_left}
+use Rattle.plane.proofs.{IntegerOrder.mul-neg_of_neg_pos_ℤ, Signs.at_most_by_difference_to}
+use Rattle.plane_theorems.specs.{IsAhead, IsLast}
 use Rattle.plane_theorems.proofs.Delaunay.Circles.EmptyCircles.{weights_along}
-use Rattle.plane_theorems.proofs.Delaunay.Floods.Flooded.{side_of_segment, segment_from}
+use Rattle.plane_theorems.proofs.Delaunay.Floods.Flooded.{segment_from, side_of_segment}
+use Rattle.plane_theorems.proofs.Delaunay.Points.AlongSegment.{after_first, as_soon, later}
+use Rattle.plane_theorems.proofs.Delaunay.Points.AlongSegment.{nearer_if, order_along, OrderAlong}
+use Rattle.plane_theorems.proofs.Delaunay.Points.AlongSegment.{reach_less, sooner}
+use Rattle.plane_theorems.proofs.Delaunay.Points.Bracket.{above_if_left, bracket, bracket-first}
+use Rattle.plane_theorems.proofs.Delaunay.Points.Bracket.{bracket-second, bracket-swapped, cramer}
+use Rattle.plane_theorems.proofs.Delaunay.Points.Bracket.{cramer-w}
 use Rattle.plane_theorems.proofs.Delaunay.Segments.LineItems.{turned_segment}
-use Rattle.plane_theorems.proofs.Delaunay.Points.AlongSegment.{Placed, sooner, as_soon, later}
-use Rattle.plane_theorems.proofs.Delaunay.Points.AlongSegment.{placed}
-use Rattle.plane_theorems.proofs.Delaunay.Points.AlongSegment.{reach_less, nearer_if, after_first}
-use Rattle.plane_theorems.specs.Segments.Steps.{IsLast, IsAhead}
-use Rattle.plane_theorems.proofs.Segments.Items.SideSigns.{not_right}
+use Rattle.plane_theorems.proofs.Delaunay.Tilings.Cones.{cone_at_vertex}
+use Rattle.plane_theorems.proofs.Delaunay.Tilings.Ground.{face_in_hull}
+use Rattle.plane_theorems.proofs.Delaunay.Tilings.Meets.{on_side-closed}
 use Rattle.plane_theorems.proofs.Delaunay.Tilings.OuterEdges.{edge_of_corner}
-use Rattle.plane_theorems.proofs.Segments.Next.Vertices.{IsPast, is_past, past_left, before_end}
-use Rattle.plane.proofs.Signs.{at_most_by_difference_to, sum_not_negative_of, at_most_and_more}
-use Rattle.plane.proofs.Signs.{opposite_of_positive, opposite_of_negative}
+use Rattle.plane_theorems.proofs.Segments.Items.SideSigns.{not_right}
+use Rattle.plane_theorems.proofs.Segments.Next.Vertices.{before_end, is_past, IsPast, past_left}
+use Rattle.plane.specs.Line as L
 
 -- the start is nearer to itself than any other point
 start_nearer : (u x : Fraction) → ¬ IsSame u x → IsNearer u u x
@@ -156,7 +150,7 @@ module _ (t : Triangulation) (p q : Fraction) (apart : ¬ IsSame p q) (v : ℕ)
       near_second = start_on_segment V B;
       far_first = there;
       far_second = end_on_segment V B;
-      from_s = go (placed p q apart V B m.1 there);
+      from_s = go (order_along p q apart V B m.1 there);
       from_u = start_nearer V B apart_b;
     },
   )
@@ -179,7 +173,7 @@ module _ (t : Triangulation) (p q : Fraction) (apart : ¬ IsSame p q) (v : ℕ)
           (mul-nonneg_ℤ w.l_allowed
           (least_difference _ _ (reach_less p q apart V q m.1 (end_on_segment p q) past_end)))))
 
-      go : Placed p V (vertex t b) → IsNearer p V (vertex t b)
+      go : OrderAlong p V (vertex t b) → IsNearer p V (vertex t b)
       go (sooner n) = n
       go (as_soon s) = absurd (apart_b s)
       go (later n) = absurd

@@ -7,36 +7,30 @@ use mathlib.Core.Logic.{◌⊎◌, inl, inr}
 use lib.IntN.{neg_ℤ}
 use Rattle.std.specs.Prelude.{ℤ, pos, ◌<ℤ◌, ◌≤ℤ◌}
 use Rattle.std.proofs.lemmas.Int.{ints}
-use Rattle.plane.proofs.Steps.{weak_right, zero_weak, zero_weak_left, left_not_zero, both_signs}
-use Rattle.plane.proofs.Nearer.{same_not_nearer}
-use Rattle.plane.proofs.Segments.{start_on_segment, same-refl, same-sym, same-trans, on_segment_is}
-use Rattle.plane.proofs.Segments.{end_on_segment, on_segment-same}
-use Rattle.plane.specs.Fraction.{Fraction, IsSame, OnSegment}
-use Rattle.plane.specs.Circle.{IsNearer}
-use Rattle.plane.specs.Tiling.{Triangulation, IsEdge, IsFace, vertex, TilesHull}
-use Rattle.plane.specs.Line.{Item, IsPointOf, Meets, BeginsAt, IsBefore, IsVertexThenOverlap}
-use Rattle.plane.specs.Line as L
-use Rattle.plane_theorems.proofs.Delaunay.Points.Bracket.{bracket, bracket-swapped, bracket-turned}
-use Rattle.plane_theorems.proofs.Delaunay.Points.Bracket.{bracket-first, bracket-second}
-use Rattle.plane_theorems.proofs.Delaunay.Points.Bracket.{above_if_left}
-use Rattle.plane_theorems.proofs.Delaunay.Points.Nudges.{InOpen, size, nudge, nudge-above, nudge-on}
-use Rattle.plane_theorems.proofs.Delaunay.Tilings.Faces.{turned-above}
-use Rattle.plane.proofs.Triangles.{turned_face}
+use Rattle.plane.specs.{BeginsAt, Fraction, IsBefore, IsEdge, IsFace, IsNearer, IsPointOf, IsSame}
+use Rattle.plane.specs.{IsVertexThenOverlap, Item, Meets, OnSegment, TilesHull, Triangulation}
+use Rattle.{plane.specs.vertex, plane_theorems.proofs.Delaunay.Points.Bracket.bracket-turned}
+use Rattle.plane.proofs.{at_most_and_more, both_signs, end_on_segment, left_not_zero}
+use Rattle.plane.proofs.{on_segment-same, on_segment_is, opposite_of_not_positive}
+use Rattle.plane.proofs.{opposite_of_positive, same-refl, same-sym, same-trans, same_not_nearer}
+use Rattle.plane.proofs.{start_on_segment, turned_face, weak_right, zero_weak, zero_weak_left}
+use Rattle.plane_theorems.specs.{ComesNext, IsLast}
+use Rattle.plane_theorems.proofs.Delaunay.Points.AlongSegment.{as_soon, later, not_before}
+use Rattle.plane_theorems.proofs.Delaunay.Points.AlongSegment.{not_both_nearer, order_along}
+use Rattle.plane_theorems.proofs.Delaunay.Points.AlongSegment.{OrderAlong, reach_less, sooner}
+use Rattle.plane_theorems.proofs.Delaunay.Points.Bracket.{above_if_left, bracket, bracket-first}
+use Rattle.plane_theorems.proofs.Delaunay.Points.Bracket.{bracket-second, bracket-swapped}
 use Rattle.plane_theorems.proofs.Delaunay.Points.Hull.{nudge_in_hull}
-use Rattle.plane_theorems.proofs.Delaunay.Points.AlongSegment.{Placed, sooner, as_soon, later}
-use Rattle.plane_theorems.proofs.Delaunay.Points.AlongSegment.{placed}
-use Rattle.plane_theorems.proofs.Delaunay.Points.AlongSegment.{reach_less, not_both_nearer}
-use Rattle.plane_theorems.proofs.Delaunay.Points.AlongSegment.{not_before}
+use Rattle.plane_theorems.proofs.Delaunay.Points.Nudges.{InOpen, nudge, nudge-above, nudge-on, size}
 use Rattle.plane_theorems.proofs.Delaunay.Segments.LineItems.{Begins, begins}
-use Rattle.plane_theorems.specs.Segments.Steps.{ComesNext, IsLast}
-use Rattle.plane_theorems.proofs.Segments.Items.Slopes.{slope_between, later_is_higher, left_before}
-use Rattle.plane_theorems.proofs.Segments.Items.Slopes.{left_from}
-use Rattle.plane_theorems.proofs.Segments.Items.Begins.{Signs, met_if, rising, above-same}
-use Rattle.plane_theorems.proofs.Segments.Items.Begins.{begins_once}
-use Rattle.plane_theorems.proofs.Segments.Items.Begins.{on_line, before_crossing, bare_inside}
-use Rattle.plane_theorems.proofs.Segments.Items.Orders.{nearer_through, nearer-same_first}
-use Rattle.plane_theorems.proofs.Segments.Items.Orders.{nearer-same_second}
-use Rattle.plane.proofs.Signs.{at_most_and_more, opposite_of_positive, opposite_of_not_positive}
+use Rattle.plane_theorems.proofs.Delaunay.Tilings.Faces.{turned-above}
+use Rattle.plane_theorems.proofs.Segments.Items.Begins.{above-same, bare_inside, before_crossing}
+use Rattle.plane_theorems.proofs.Segments.Items.Begins.{begins_once, met_if, on_line, rising, Signs}
+use Rattle.plane_theorems.proofs.Segments.Items.Orders.{nearer-same_first, nearer-same_second}
+use Rattle.plane_theorems.proofs.Segments.Items.Orders.{nearer_through}
+use Rattle.plane_theorems.proofs.Segments.Items.Slopes.{later_is_higher, left_before, left_from}
+use Rattle.plane_theorems.proofs.Segments.Items.Slopes.{slope_between}
+use Rattle.plane.specs.Line as L
 
 module _ (t : Triangulation) (p q : Fraction) (apart : ¬ IsSame p q) (v : ℕ)
     (m : Meets t p q (L.at_vertex v)) where
@@ -62,10 +56,10 @@ module _ (t : Triangulation) (p q : Fraction) (apart : ¬ IsSame p q) (v : ℕ)
     there = met.1.far;
     shared = met.1.far_first;
     of_item = met.1.far_second;
-    past = go (placed p q apart V met.1.near m.1 met.1.near_first);
+    past = go (order_along p q apart V met.1.near m.1 met.1.near_first);
   }
     where
-      go : Placed p V met.1.near → IsNearer p V met.1.far
+      go : OrderAlong p V met.1.near → IsNearer p V met.1.far
       go (sooner n) = nearer_through p q apart V met.1.near met.1.far m.1 met.1.near_first
           met.1.far_first n met.1.from_s
       go (as_soon s) = nearer-same_first p q apart met.1.near V met.1.far met.1.near_first m.1
@@ -107,9 +101,9 @@ module _ (t : Triangulation) (p q : Fraction) (apart : ¬ IsSame p q) (v : ℕ)
   next_overlap b met = go (begins t p q (L.along v b) met)
     where
       starts : (y : Fraction) → BeginsAt t p q (L.along v b) y → IsSame V y
-      starts y by = pick (placed p q apart V y m.1 by.shared)
+      starts y by = pick (order_along p q apart V y m.1 by.shared)
         where
-          pick : Placed p V y → IsSame V y
+          pick : OrderAlong p V y → IsSame V y
           pick (sooner n) = absurd (by.first V m.1 (start_on_segment V (vertex t b)) n)
           pick (as_soon s) = s
           pick (later n) =
@@ -161,9 +155,9 @@ module _ (t : Triangulation) (p q : Fraction) (apart : ¬ IsSame p q) (v : ℕ)
 
   -- a vertex before the end
   pub before_end : ¬ IsSame V q → IsNearer p V q
-  before_end two = go (placed p q apart V q m.1 (end_on_segment p q))
+  before_end two = go (order_along p q apart V q m.1 (end_on_segment p q))
     where
-      go : Placed p V q → IsNearer p V q
+      go : OrderAlong p V q → IsNearer p V q
       go (sooner n) = n
       go (as_soon e) = absurd (two e)
       go (later n) = absurd (at_most_and_more _ _ ((on_segment_is p q V apart).0 m.1).2
@@ -309,13 +303,13 @@ module _ (t : Triangulation) (p q : Fraction) (apart : ¬ IsSame p q) (v : ℕ)
             second = y.at;
             first_begins = at_v;
             second_begins = y.begins;
-            order = inl (pick (placed p q apart V y.at m.1 y.begins.shared));
+            order = inl (pick (order_along p q apart V y.at m.1 y.begins.shared));
           }
             where
               on : bracket C B y.at ≡ pos 0
               on = on_line C B y.at y.begins.of_item
 
-              pick : Placed p V y.at → IsNearer p V y.at
+              pick : OrderAlong p V y.at → IsNearer p V y.at
               pick (sooner n) = n
               pick (as_soon e) = absurd (left_not_zero (subst (λ x. pos 0 <ℤ x)
                   (bracket-swapped C B y.at) (above-same B C V y.at e opposite)) (ap neg_ℤ on))

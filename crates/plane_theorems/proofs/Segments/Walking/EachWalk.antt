@@ -7,29 +7,21 @@ use Rattle.std.proofs.Common.{subst₂}
 use mathlib.Core.Logic.{◌⊎◌, inl, inr}
 use native.Mathlib.Decide.{dec_lt}
 use Rattle.std.specs.Prelude.{pos, ◌*ℤ◌, ⊤}
-use Rattle.plane.proofs.Decisions.{Decision, decided_by, decide_both, decide_either}
-use Rattle.plane.proofs.Decisions.{decide_on_segment}
-use Rattle.plane.proofs.Decisions.{decide_meets_within, decide_turns_left, decide_below}
-use Rattle.plane.proofs.Segments.{reach, within_itself, same-refl}
-use Rattle.plane.proofs.Sides.{if_right, right_if}
-use Rattle.plane.specs.Fraction.{Fraction, IsSame, OnSegment}
-use Rattle.plane.specs.Side.{side, right, TurnsLeft}
-use Rattle.plane.specs.Crossing.{MeetsWithin}
-use Rattle.plane.specs.Pairs.{IsSamePair}
-use Rattle.plane.specs.Tiling.{Triangulation, IsVertex, IsEdge, vertex}
-use Rattle.plane.specs.Line.{Item, Meets, IsBefore}
-use Rattle.plane.specs.Line as L
-use Rattle.plane_theorems.proofs.Delaunay.Points.Bracket.{bracket}
-use Rattle.plane_theorems.proofs.Delaunay.Points.Members.{Member, member, contained}
+use Rattle.plane.specs.{Fraction, IsBefore, IsEdge, IsSame, IsSamePair, IsVertex, Item, Meets}
+use Rattle.plane.specs.{MeetsWithin, OnSegment, right, side, Triangulation, TurnsLeft, vertex}
+use Rattle.plane.proofs.{both_signs, decide_below, decide_both, decide_either, decide_on_segment}
+use Rattle.plane.proofs.{decided_by, Decision, differences_both_positive, if_right, reach, right_if}
+use Rattle.plane.proofs.{same-refl, within_itself}
+use Rattle.plane.proofs.Decisions.{decide_meets_within, decide_turns_left}
+use Rattle.plane_theorems.specs.{GoesOn, IsWalk}
 use Rattle.plane_theorems.proofs.Delaunay.Points.AlongSegment.{before}
-use Rattle.plane_theorems.proofs.Delaunay.Segments.LineItems.{Meeting, turned_segment, not_met_once}
-use Rattle.plane_theorems.proofs.Delaunay.Segments.LineItems.{line_items_are_ordered}
-use Rattle.plane_theorems.specs.Segments.Steps.{GoesOn, IsWalk}
-use Rattle.plane_theorems.proofs.Segments.Items.Begins.{signs_of}
-use Rattle.plane_theorems.proofs.Segments.Items.Orders.{not_both_before, before_through}
+use Rattle.plane_theorems.proofs.{Delaunay.Points.Bracket.bracket, Segments.Items.Begins.signs_of}
+use Rattle.plane_theorems.proofs.Delaunay.Points.Members.{contained, Member, member}
+use Rattle.plane_theorems.proofs.Delaunay.Segments.LineItems.{line_items_are_ordered, Meeting}
+use Rattle.plane_theorems.proofs.Delaunay.Segments.LineItems.{not_met_once, turned_segment}
+use Rattle.plane_theorems.proofs.Segments.Items.Orders.{before_through, not_both_before}
 use Rattle.plane_theorems.proofs.Segments.Items.OverlapDecided.{decide_overlap}
-use Rattle.plane.proofs.Signs.{differences_both_positive}
-use Rattle.plane.proofs.Steps.{both_signs}
+use Rattle.plane.specs.Line as L
 
 -- on the right of a line, or not
 decide_right : (u v x : Fraction) → Decision (side u v x ≡ right)

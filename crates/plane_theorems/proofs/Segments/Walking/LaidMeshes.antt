@@ -4,14 +4,10 @@ use Rattle.std.proofs.Common.{◌≡◌, ◌≢◌, ℕ, ap}
 use mathlib.Core.Logic.{inl, inr}
 use native.Mathlib.Decide.{ℕ_discrete}
 use Rattle.std.specs.Prelude.{pos, slice_index_or}
-use Rattle.plane.specs.Fraction.{whole, IsSame}
-use Rattle.plane.specs.Pairs.{place, IsIndex}
-use Rattle.plane.specs.Tiling.{IsTiling}
-use Rattle.plane_theorems.specs.Tiling.Local.{IsMesh}
-use Rattle.plane_theorems.proofs.Tiling.Meshes.{meshes_tile}
+use Rattle.plane.specs.{IsIndex, IsSame, IsTiling, place, whole}
+use Rattle.plane_theorems.specs.{IsLaid, IsMesh, Segments.WalkLaws.MeshesAreLaid}
+use Rattle.plane_theorems.proofs.{Segments.Crossing.EitherWay.one_point, Tiling.Meshes.meshes_tile}
 use Rattle.plane_theorems.proofs.Tiling.Locations.{no_edges_cross}
-use Rattle.plane_theorems.specs.Segments.WalkLaws.{IsLaid, MeshesAreLaid}
-use Rattle.plane_theorems.proofs.Segments.Crossing.EitherWay.{one_point}
 
 -- the faces of a mesh tile the hull, or all vertices are on one line and its edges meet at vertices
 pub meshes_are_laid : MeshesAreLaid

@@ -3,30 +3,21 @@
 use Rattle.std.proofs.Common.{◌≡◌, ℕ, refl}
 use mathlib.Core.Logic.{◌⊎◌, inl, inr}
 use Rattle.std.specs.Prelude.{pos, ◌<ℤ◌}
-use Rattle.plane.proofs.IntegerOrder.{Sign, sign, below, none, above}
-use Rattle.plane.proofs.Means.{TwoWeights, two_weights, mean_of_two, turned_two}
-use Rattle.plane.proofs.Steps.{left_not_zero, right_not_above}
-use Rattle.plane.proofs.Sides.{if_on}
-use Rattle.plane.proofs.Segments.{on_segment-same, within_segment-same}
-use Rattle.plane.specs.Fraction.{Fraction, IsSame, OnSegment, WithinSegment, IsNotNegative}
-use Rattle.plane.specs.Fraction.{IsPositive}
-use Rattle.plane.specs.Pairs.{IsSamePair}
-use Rattle.plane_theorems.specs.Tiling.Laws.{EdgesMeetAtVertices}
-use Rattle.plane.specs.Tiling.{Triangulation, IsVertex, IsEdge, vertex, JoinsLine}
-use Rattle.plane.specs.Line.{Item, IsPointOf, Meets}
-use Rattle.plane.specs.Line as L
-use Rattle.plane_theorems.proofs.Delaunay.Points.Bracket.{bracket}
-use Rattle.plane_theorems.proofs.Delaunay.Points.Numbers.{sum_none}
-use Rattle.plane_theorems.proofs.Delaunay.Circles.EmptyCircles.{weights_along, same_at_end}
-use Rattle.plane_theorems.proofs.Delaunay.Segments.LineItems.{Meeting, SharedAt, one_way, other_way}
-use Rattle.plane_theorems.proofs.Delaunay.Segments.LineItems.{at_end}
-use Rattle.plane_theorems.proofs.Delaunay.Segments.LineItems.{line_items_are_ordered}
-use Rattle.plane_theorems.specs.Segments.Steps.{IsLast}
-use Rattle.plane_theorems.proofs.Segments.Items.Begins.{Signs, signs_of, above-same, after_crossing}
-use Rattle.plane_theorems.specs.Segments.LineLaws.{StepsOnOneLine}
+use Rattle.plane.specs.{Fraction, IsEdge, IsNotNegative, IsPointOf, IsPositive, IsSame, IsSamePair}
+use Rattle.plane.specs.{IsVertex, Item, JoinsLine, Meets, OnSegment, Triangulation, vertex}
+use Rattle.{plane.specs.WithinSegment, plane_theorems.proofs.Segments.Walking.EachWalk.ends_differ}
+use Rattle.plane.proofs.{above, below, if_on, left_not_zero, mean_of_two, none, on_segment-same}
+use Rattle.plane.proofs.{right_not_above, Sign, sign, two_weights, TwoWeights, within_segment-same}
+use Rattle.plane.proofs.Means.{turned_two}
+use Rattle.plane_theorems.specs.{EdgesMeetAtVertices, IsLast, Segments.LineLaws.StepsOnOneLine}
+use Rattle.plane_theorems.proofs.Delaunay.Circles.EmptyCircles.{same_at_end, weights_along}
+use Rattle.plane_theorems.proofs.{Delaunay.Points.Bracket.bracket, Delaunay.Points.Numbers.sum_none}
+use Rattle.plane_theorems.proofs.Delaunay.Segments.LineItems.{at_end, line_items_are_ordered}
+use Rattle.plane_theorems.proofs.Delaunay.Segments.LineItems.{Meeting, one_way, other_way, SharedAt}
+use Rattle.plane_theorems.proofs.Segments.Items.Begins.{above-same, after_crossing, Signs, signs_of}
 use Rattle.plane_theorems.proofs.Segments.Next.Overlaps.{last_within, next_unless_within}
 use Rattle.plane_theorems.proofs.Segments.Walking.Walks.{walk_is_line_list}
-use Rattle.plane_theorems.proofs.Segments.Walking.EachWalk.{ends_differ}
+use Rattle.plane.specs.Line as L
 
 module _ (t : Triangulation) (h : JoinsLine t) where
   level : (i j k : ℕ) → IsVertex t i → IsVertex t j → IsVertex t k

@@ -5,39 +5,34 @@
 use Rattle.std.proofs.Common.{◌≡◌, ℕ}
 use mathlib.Core.Logic.{◌⊎◌, ◌↔◌, inl, inr}
 use Rattle.std.specs.Prelude.{◌≢◌, pos, ◌<ℤ◌, ◌≤ℤ◌}
-use Rattle.plane.proofs.Steps.{weak_right, left_not_zero, left_not_below, right_not_above}
-use Rattle.plane.proofs.Sides.{right_if}
-use Rattle.plane.proofs.Segments.{on_of_within, same-sym}
-use Rattle.plane.specs.Fraction.{Fraction, IsSame}
-use Rattle.plane.specs.Side.{side, left, right}
-use Rattle.plane.specs.Tiling.{Triangulation, IsEdge, HasFace, vertex, TilesHull}
-use Rattle.plane.specs.Line.{Meets, across}
-use Rattle.plane_theorems.proofs.Delaunay.Points.Bracket.{bracket, bracket-first, above_if_left}
-use Rattle.plane_theorems.proofs.Delaunay.Points.Bracket.{left_if_above}
-use Rattle.plane_theorems.proofs.Delaunay.Tilings.Faces.{turned-above}
-use Rattle.plane_theorems.proofs.Delaunay.Segments.LineItems.{meeting_of_hull}
-use Rattle.plane_theorems.specs.Segments.LineLaws.{ItemsFollow, NextAfterCrossing, LastCrossing}
-use Rattle.plane_theorems.specs.Segments.LineLaws.{NextAfterOverlap, NextAfterVertex, LastVertex}
-use Rattle.plane_theorems.specs.Segments.LineLaws.{OverlapAhead, CrossingBySides, FirstItem}
+use Rattle.plane.specs.{across, Fraction, HasFace, IsEdge, IsSame, left, Meets, right, side}
+use Rattle.plane.specs.{TilesHull, Triangulation, vertex}
+use Rattle.plane.proofs.{left_not_below, left_not_zero, on_of_within, right_if, right_not_above}
+use Rattle.plane.proofs.{same-sym, weak_right}
+use Rattle.plane_theorems.specs.Segments.LineLaws.{CrossingBySides, FirstItem, ItemsFollow}
+use Rattle.plane_theorems.specs.Segments.LineLaws.{LastCrossing, LastVertex, NextAfterCrossing}
+use Rattle.plane_theorems.specs.Segments.LineLaws.{NextAfterOverlap, NextAfterVertex, OverlapAhead}
 use Rattle.plane_theorems.specs.Segments.LineLaws.{WalkIsLineList}
-use Rattle.plane_theorems.proofs.Segments.Items.SideSigns.{not_left, not_right, below_if_right}
-use Rattle.plane_theorems.proofs.Segments.Items.SideSigns.{none_if_on}
-use Rattle.plane_theorems.proofs.Segments.Items.Begins.{edge_flipped, Signs, signs_of, above-same}
-use Rattle.plane_theorems.proofs.Segments.Items.Begins.{met_if}
-use Rattle.plane_theorems.proofs.Segments.Next.NextItems.{next_left, next_right, next_vertex}
-use Rattle.plane_theorems.proofs.Segments.Next.NextItems.{last_left}
-use Rattle.plane_theorems.proofs.Segments.Next.NextItems.{last_right}
-use Rattle.plane_theorems.proofs.Segments.Items.Orders.{not_both_before, before_through}
-use Rattle.plane_theorems.proofs.Segments.Next.Overlaps.{next_unless_within, last_within}
-use Rattle.plane_theorems.proofs.Segments.Next.Vertices.{last_at_end, next_overlap, last_inside}
-use Rattle.plane_theorems.proofs.Segments.Next.Vertices.{next_across}
+use Rattle.plane_theorems.proofs.Delaunay.Points.Bracket.{above_if_left, bracket, bracket-first}
+use Rattle.plane_theorems.proofs.Delaunay.Points.Bracket.{left_if_above}
+use Rattle.plane_theorems.proofs.Delaunay.Segments.LineItems.{meeting_of_hull}
+use Rattle.plane_theorems.proofs.Delaunay.Tilings.Faces.{turned-above}
+use Rattle.plane_theorems.proofs.{Delaunay.Tilings.Ground.inside_of, Segments.Items.Begins.signs_of}
+use Rattle.plane_theorems.proofs.Segments.First.Firsts.{first_crossing_here, first_from_face}
+use Rattle.plane_theorems.proofs.Segments.First.Firsts.{first_from_outside, first_overlap}
+use Rattle.plane_theorems.proofs.Segments.First.Firsts.{first_vertex}
+use Rattle.plane_theorems.proofs.Segments.Items.Begins.{above-same, edge_flipped, met_if, Signs}
+use Rattle.plane_theorems.proofs.Segments.Items.Orders.{before_through, not_both_before}
+use Rattle.plane_theorems.proofs.Segments.Items.SideSigns.{below_if_right, none_if_on, not_left}
+use Rattle.plane_theorems.proofs.Segments.Items.SideSigns.{not_right}
+use Rattle.plane_theorems.proofs.Segments.Next.Ends.{last_at_outer, last_on_edge}
+use Rattle.plane_theorems.proofs.Segments.Next.NextItems.{last_left, last_right, next_left}
+use Rattle.plane_theorems.proofs.Segments.Next.NextItems.{next_right, next_vertex}
+use Rattle.plane_theorems.proofs.Segments.Next.Overlaps.{last_within, next_unless_within}
 use Rattle.plane_theorems.proofs.Segments.Next.VertexEnds.{ahead_met, last_bare}
-use Rattle.plane_theorems.proofs.Segments.First.Firsts.{first_vertex, first_crossing_here}
-use Rattle.plane_theorems.proofs.Segments.First.Firsts.{first_overlap}
-use Rattle.plane_theorems.proofs.Segments.First.Firsts.{first_from_outside, first_from_face}
+use Rattle.plane_theorems.proofs.Segments.Next.Vertices.{last_at_end, last_inside, next_across}
+use Rattle.plane_theorems.proofs.Segments.Next.Vertices.{next_overlap}
 use Rattle.plane_theorems.proofs.Segments.Walking.Walks.{walk_is_line_list as walked}
-use Rattle.plane_theorems.proofs.Delaunay.Tilings.Ground.{inside_of}
-use Rattle.plane_theorems.proofs.Segments.Next.Ends.{last_on_edge, last_at_outer}
 
 corners_apart : (u v w : Fraction) → pos 0 <ℤ bracket u v w → ¬ IsSame u v
 corners_apart u v w h e =

@@ -6,15 +6,12 @@ use Rattle.std.proofs.Common.{◌≡◌, ◌<◌, ◌≤◌, ◌+◌, [], ◌∷
 use Rattle.std.proofs.Common.{suc, List, length, arith, ap, ap₂, refl, sym, subst}
 use mathlib.Core.Logic.{◌⊎◌, inl, inr}
 use Rattle.std.specs.Prelude.{AllPairs}
-use Rattle.plane.specs.Fraction.{Fraction, IsSame}
-use Rattle.plane.specs.Tiling.{Triangulation}
-use Rattle.plane.specs.Line.{Item, Meets, IsBefore, IsLineList}
-use Rattle.plane_theorems.proofs.Delaunay.Points.Members.{Member, member, contained}
-use Rattle.plane_theorems.proofs.Delaunay.Segments.LineItems.{Meeting, meeting_of_hull}
-use Rattle.plane_theorems.proofs.Delaunay.Segments.LineItems.{line_items_are_ordered}
-use Rattle.plane_theorems.specs.Segments.Steps.{ComesNext, IsLast, IsFirst, GoesOn, IsWalk}
-use Rattle.plane_theorems.specs.Segments.WalkLaws.{IsLaid, EachSegmentHasWalk, RestFalls}
-use Rattle.plane_theorems.specs.Segments.WalkLaws.{LineListIsWalk}
+use Rattle.plane.specs.{Fraction, IsBefore, IsLineList, IsSame, Item, Meets, Triangulation}
+use Rattle.plane_theorems.specs.{ComesNext, GoesOn, IsFirst, IsLaid, IsLast, IsWalk}
+use Rattle.plane_theorems.specs.Segments.WalkLaws.{EachSegmentHasWalk, LineListIsWalk, RestFalls}
+use Rattle.plane_theorems.proofs.Delaunay.Points.Members.{contained, Member, member}
+use Rattle.plane_theorems.proofs.Delaunay.Segments.LineItems.{line_items_are_ordered, Meeting}
+use Rattle.plane_theorems.proofs.Delaunay.Segments.LineItems.{meeting_of_hull}
 use Rattle.plane_theorems.proofs.Segments.Walking.EachWalk.{each_walk, InOrder, walk_of}
 use Rattle.plane_theorems.proofs.Segments.Walking.OneLine.{line_ends, meeting_if}
 use Rattle.plane_theorems.proofs.Segments.Walking.Walks.{walk_is_line_list}

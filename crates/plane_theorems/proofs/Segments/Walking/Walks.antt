@@ -5,14 +5,11 @@ use mathlib.Core.Logic.{◌⊎◌, inl, inr}
 use Rattle.std.specs.Prelude.{All, AllPairs}
 use Rattle.std.proofs.lemmas.List.Elements.{All-nil, All-cons}
 use Rattle.std.proofs.lemmas.List.Kept.{AllPairs-cons}
-use Rattle.plane.specs.Fraction.{Fraction, IsSame}
-use Rattle.plane.specs.Tiling.{Triangulation}
-use Rattle.plane.specs.Line.{Item, Meets, IsBefore, IsLineList}
-use Rattle.plane_theorems.proofs.Delaunay.Points.Members.{Member, member, contained}
-use Rattle.plane_theorems.proofs.Delaunay.Segments.LineItems.{Meeting, line_items_are_ordered}
-use Rattle.plane_theorems.specs.Segments.Steps.{GoesOn, IsWalk}
+use Rattle.plane.specs.{Fraction, IsBefore, IsLineList, IsSame, Item, Meets, Triangulation}
+use Rattle.{plane.proofs.Indexes.no_pairs, plane_theorems.specs.GoesOn, plane_theorems.specs.IsWalk}
+use Rattle.plane_theorems.proofs.Delaunay.Points.Members.{contained, Member, member}
+use Rattle.plane_theorems.proofs.Delaunay.Segments.LineItems.{line_items_are_ordered, Meeting}
 use Rattle.plane_theorems.proofs.Segments.Items.Orders.{before_through}
-use Rattle.plane.proofs.Indexes.{no_pairs}
 
 all_of : {X : Type 0} (P : X → Type 0) (xs : List X) → ((x : X) → Member x xs → P x) → All P xs
 all_of P [] f = All-nil P

@@ -1,8 +1,7 @@
 use Rattle.std.proofs.Common.{ap}
 use Rattle.std.proofs.lemmas.List.Elements.{All-map}
-use Rattle.delaunay_interface.specs.plane.Tests.{InRange}
-use Rattle.delaunay_interface.specs.delaunay_core.Place.{place_of}
-use Rattle.test_calls.specs.Vertices.{position_of}
+use Rattle.plane.specs.{InRange}
+use Rattle.{delaunay_core.specs.place_of, test_calls.specs.Vertices.position_of}
 use Rattle.test_calls.proofs.Asked.{begins_at, corners_in_range}
 use Rattle.test_calls.proofs.asks.asks_fewer.Goals as goal
 

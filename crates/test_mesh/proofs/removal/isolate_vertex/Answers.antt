@@ -1,7 +1,6 @@
 use Rattle.std.proofs.Common.{sym, ap, ◌∙◌}
-use Rattle.half_edge_mesh.specs.half_edge_links.Mesh.{Mesh, next, origin, rev}
-use Rattle.half_edge_mesh.specs.half_edge_links.Peel.{turn}
-use Rattle.test_mesh.proofs.SmallRemovals.{three_sides, four_sides}
+use Rattle.half_edge_links.specs.{Mesh, next, origin, rev, turn}
+use Rattle.test_mesh.proofs.SmallRemovals.{four_sides, three_sides}
 use Rattle.test_mesh.proofs.removal.isolate_vertex.Goals as goal
 
 pub isolate_vertex_and_fill_hole-requires : goal.isolate_vertex_and_fill_hole-requires

@@ -1,8 +1,7 @@
 use Rattle.std.proofs.Common.{true, false, sym, ◌∙◌, [], get_or}
 use Rattle.std.proofs.lemmas.List.{take_all}
 use Rattle.std.proofs.lemmas.List.Folds.{list_any_at}
-use Rattle.triangulate_run.specs.Table.{has}
-use Rattle.triangulate_run.proofs.Found.{first_circle}
+use Rattle.{triangulate_run.proofs.Found.first_circle, triangulate_run.specs.Table.has}
 use Rattle.triangulate_run.proofs.circles.circle_of.Goals as goal
 
 pub returns-then-contains : goal.returns-then-contains

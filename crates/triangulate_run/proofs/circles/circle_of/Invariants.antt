@@ -1,6 +1,6 @@
 use Rattle.std.proofs.Common.{◌≡◌, false, take, drop}
 use Rattle.std.specs.List.{list_any}
-use Rattle.triangulate_run.specs.Table.{has, circle_in}
+use Rattle.triangulate_run.specs.Table.{circle_in, has}
 use Rattle.triangulate_run.proofs.circles.circle_of.Given as goal
 
 abbrev pub invariant-loop-triple : goal.invariant-loop-triple

@@ -1,11 +1,10 @@
 use Rattle.std.proofs.Common.{ℕ, ◌<◌, refl, sym, inl, inr, subst, arith}
 use Rattle.std.specs.Prelude.{All}
-use Rattle.delaunay_edit.specs.delaunay_core.declared.math.InsertionError.TheVariants.{OutOfMemory}
-use Rattle.triangulate_run.specs.declared.reply.Reply.TheVariants.{NoPath, Refused}
-use Rattle.triangulate_run.specs.Engine.{ends_in}
-use Rattle.triangulate_run.specs.Reply.{path_text, reply_text}
-use Rattle.triangulate_run.proofs.Paths.{no_edges, some_edges, joins_none, joins_some}
-use Rattle.triangulate_run.proofs.Paths.{joins_refused, edges_within}
+use Rattle.delaunay_core.specs.{OutOfMemory}
+use Rattle.triangulate_run.specs.{ends_in, Refused, reply_text}
+use Rattle.triangulate_run.specs.{declared.reply.Reply.TheVariants.NoPath, Reply.path_text}
+use Rattle.triangulate_run.proofs.Paths.{edges_within, joins_none, joins_refused, joins_some}
+use Rattle.triangulate_run.proofs.Paths.{no_edges, some_edges}
 use Rattle.triangulate_run.proofs.constraints.constrain.Goals as goal
 
 pub returns-then-is_empty-clause-answered : goal.returns-then-is_empty-clause-answered

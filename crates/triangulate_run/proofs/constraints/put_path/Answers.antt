@@ -2,10 +2,9 @@ use Rattle.std.proofs.Common.{◌∙◌, ◌++◌, ap, codes}
 use Rattle.std.specs.List.{flat_map}
 use Rattle.std.proofs.lemmas.List.{take_all}
 use Rattle.std.proofs.lemmas.Result.{err_from_is_err_and}
-use Rattle.triangulate_run.specs.Engine.{ends_in}
-use Rattle.triangulate_run.specs.Reply.{piece_text}
-use Rattle.triangulate_run.proofs.OutputLemmas.{first_fails, second_fails, passes_nil, passes_at}
-use Rattle.triangulate_run.proofs.OutputLemmas.{part_at, part_same, sends_same, puts_behind}
+use Rattle.{triangulate_run.specs.ends_in, triangulate_run.specs.Reply.piece_text}
+use Rattle.triangulate_run.proofs.OutputLemmas.{first_fails, part_at, part_same, passes_at}
+use Rattle.triangulate_run.proofs.OutputLemmas.{passes_nil, puts_behind, second_fails, sends_same}
 use Rattle.triangulate_run.proofs.Paths.{edge_piece, pieces_text, same_piece}
 use Rattle.triangulate_run.proofs.constraints.put_path.Goals as goal
 

@@ -1,7 +1,6 @@
 use Rattle.std.proofs.Common.{◌≡◌, ℕ, List, Option, false, take, codes}
 use Rattle.std.specs.List.{flat_map}
-use Rattle.triangulate_run.specs.Watched.{inner_of, has_failed}
-use Rattle.triangulate_run.specs.Output.{Sends}
+use Rattle.triangulate_run.specs.{has_failed, inner_of, Sends}
 use Rattle.triangulate_run.proofs.Paths.{edge_piece}
 use Rattle.triangulate_run.proofs.constraints.put_path.Given as goal
 

@@ -1,6 +1,6 @@
 use Rattle.std.proofs.Common.{ℕ, ◌/◌, ◌<◌, length, refl, ap, ◌∙◌, subst}
 use Rattle.std.specs.Prelude.{Ok}
-use Rattle.triangulate_run.proofs.Releases.{no_edge, is_released, is_none, not_released}
+use Rattle.triangulate_run.proofs.Releases.{is_none, is_released, no_edge, not_released}
 use Rattle.triangulate_run.proofs.constraints.release.Goals as goal
 
 pub returns-in_default-clause-reply : goal.returns-in_default-clause-reply

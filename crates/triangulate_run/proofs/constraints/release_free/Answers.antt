@@ -1,6 +1,6 @@
 use Rattle.std.proofs.Common.{◌<◌, length, refl, subst}
-use Rattle.delaunay_edit.proofs.delaunay_legalization_lemmas.EdgePairs.{no_joins}
-use Rattle.triangulate_run.proofs.Releases.{no_edge, is_edge}
+use Rattle.delaunay_legalization.proofs.{no_joins}
+use Rattle.triangulate_run.proofs.Releases.{is_edge, no_edge}
 use Rattle.triangulate_run.proofs.constraints.release_free.Goals as goal
 
 pub returns-in-Some : goal.returns-in-Some

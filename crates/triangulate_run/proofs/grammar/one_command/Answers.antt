@@ -1,5 +1,4 @@
-use Rattle.triangulate_run.specs.Grammar.{words_of}
-use Rattle.triangulate_run.proofs.Exact.{complete}
+use Rattle.{triangulate_run.proofs.Exact.complete, triangulate_run.specs.words_of}
 use Rattle.triangulate_run.proofs.grammar.one_command.Goals as goal
 
 pub returns : goal.returns

@@ -1,17 +1,14 @@
 use Rattle.std.proofs.Common.{rules, ◌≡◌, Some, drop, arith, codes}
 use Rattle.std.proofs.lemmas.Slice.Eq.{text_from_reads}
-use Rattle.triangulate_run.specs.Grammar.{words_of}
-use Rattle.triangulate_run.specs.Reading.{command_of, command_named, arity}
-use Rattle.triangulate_run.proofs.Exact.{spelled, unspelled, drop_four}
-use Rattle.triangulate_run.proofs.grammar.parse.Goals.{in-faces, in-counts}
-use Rattle.triangulate_run.proofs.grammar.parse.Goals.{in-release+in_ok-i-in-release}
-use Rattle.triangulate_run.proofs.grammar.parse.Goals.{in-remove+in_ok-index-in-remove}
-use Rattle.triangulate_run.proofs.grammar.parse.Goals.{in-constrain+in_ok-i-in-constrain}
-use Rattle.triangulate_run.proofs.grammar.parse.Goals.{in-insert+in_ok-coordinates-in-insert}
-use Rattle.triangulate_run.proofs.grammar.parse.Goals.{in-locate+in_ok-coordinates-in-locate}
-use Rattle.triangulate_run.proofs.grammar.parse.Goals.{in-nearest+in_ok-coordinates-in-nearest}
-use Rattle.triangulate_run.proofs.grammar.parse.Goals.{in-line+in_ok-coordinates-in-line+in_ok-coordinates-in-line-2}
+use Rattle.triangulate_run.specs.{words_of}
+use Rattle.triangulate_run.specs.Reading.{arity, command_named, command_of}
+use Rattle.triangulate_run.proofs.Exact.{drop_four, spelled, unspelled}
 use Rattle.triangulate_run.proofs.grammar.parse.Goals as goal
+use goal.{in-constrain+in_ok-i-in-constrain, in-counts, in-faces}
+use goal.{in-insert+in_ok-coordinates-in-insert}
+use goal.{in-line+in_ok-coordinates-in-line+in_ok-coordinates-in-line-2}
+use goal.{in-locate+in_ok-coordinates-in-locate, in-nearest+in_ok-coordinates-in-nearest}
+use goal.{in-release+in_ok-i-in-release, in-remove+in_ok-index-in-remove}
 
 -- the command is what its name and the words behind it say, and those that it takes are gone
 read : (c : goal.After-then_some)

@@ -1,6 +1,6 @@
 use Rattle.std.proofs.lemmas.Result.{err_from_is_err_and}
-use Rattle.triangulate_run.specs.Stage.{position}
-use Rattle.triangulate_run.proofs.Walks.{puts_begin, puts_one, puts_end, puts_part}
+use Rattle.triangulate_run.specs.{position}
+use Rattle.triangulate_run.proofs.Walks.{puts_begin, puts_end, puts_one, puts_part}
 use Rattle.triangulate_run.proofs.line.put_items.Goals as goal
 
 pub loop-item-init : goal.loop-item-init

@@ -1,8 +1,6 @@
 use Rattle.std.proofs.Common.{◌≡◌, false}
-use Rattle.triangulate_run.specs.Watched.{inner_of, has_failed}
-use Rattle.delaunay_edit.specs.delaunay_location.Walk.{IsReady}
-use Rattle.triangulate_run.specs.Stage.{position}
-use Rattle.triangulate_run.proofs.Walks.{PutsEach}
+use Rattle.{delaunay_location.specs.IsReady, triangulate_run.proofs.Walks.PutsEach}
+use Rattle.triangulate_run.specs.{has_failed, inner_of, position}
 use Rattle.triangulate_run.proofs.line.put_items.Given as goal
 
 abbrev pub invariant-loop-item : goal.invariant-loop-item

@@ -1,8 +1,7 @@
 use Rattle.std.proofs.lemmas.Result.{err_from_is_err_and}
 use Rattle.triangulate_run.specs.Output.{Puts}
-use Rattle.triangulate_run.specs.Reply.{line_text}
-use Rattle.triangulate_run.proofs.Walks.{line_none, line_first_fails, line_others_fail}
-use Rattle.triangulate_run.proofs.Walks.{line_put, walks}
+use Rattle.triangulate_run.proofs.Walks.{line_first_fails, line_none, line_others_fail, line_put}
+use Rattle.{triangulate_run.proofs.Walks.walks, triangulate_run.specs.Reply.line_text}
 use Rattle.triangulate_run.proofs.line.put_line.Goals as goal
 
 pub returns-in_default : goal.returns-in_default

@@ -2,12 +2,9 @@ use Rattle.std.proofs.Common.{◌≡◌, ◌∙◌}
 use Rattle.std.proofs.Common.{length, map, ap, sym, arith, rules, SFits, w64, to_z-of_z}
 use Rattle.std.specs.Prelude.{slice_get, Some}
 use Rattle.std.proofs.lemmas.List.{length-map}
-use Rattle.delaunay_edit.specs.plane.Fraction.{whole}
-use Rattle.delaunay_edit.specs.plane.Circle.{gap}
-use Rattle.delaunay_edit.specs.delaunay_legalization.State.{triangulation_of}
-use Rattle.delaunay_edit.proofs.Removing.{read_place}
-use Rattle.triangulate_run.specs.Stage.{position}
-use Rattle.triangulate_run.proofs.Distances.{vertex_in_range, least_goes_on, least_found}
+use Rattle.{plane.specs.gap, plane.specs.whole, triangulate_run.specs.position}
+use Rattle.{delaunay_edit.proofs.Removing.read_place, delaunay_legalization.specs.triangulation_of}
+use Rattle.triangulate_run.proofs.Distances.{least_found, least_goes_on, vertex_in_range}
 use Rattle.triangulate_run.proofs.nearest.nearest_of_all.Goals as goal
 
 pub distance_2-requires-clause-other_in_range : goal.distance_2-requires-clause-other_in_range

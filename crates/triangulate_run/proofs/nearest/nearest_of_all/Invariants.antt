@@ -1,6 +1,5 @@
 use Rattle.std.proofs.Common.{map}
-use Rattle.triangulate_run.specs.Stage.{position}
-use Rattle.triangulate_run.proofs.Distances.{IsLeastSoFar}
+use Rattle.{triangulate_run.proofs.Distances.IsLeastSoFar, triangulate_run.specs.position}
 use Rattle.triangulate_run.proofs.nearest.nearest_of_all.Given as goal
 
 abbrev pub invariant-loop-index : goal.invariant-loop-index

@@ -1,8 +1,7 @@
 use Rattle.std.proofs.Common.{◌≡◌, ap, subst, rules, SFits, w64, to_z-of_z}
 use Rattle.std.specs.Prelude.{slice_get, Some}
-use Rattle.delaunay_edit.proofs.Removing.{read_place}
-use Rattle.triangulate_run.specs.Stage.{position}
-use Rattle.triangulate_run.proofs.Distances.{vertex_in_range, least_distance}
+use Rattle.{delaunay_edit.proofs.Removing.read_place, triangulate_run.specs.position}
+use Rattle.triangulate_run.proofs.Distances.{least_distance, vertex_in_range}
 use Rattle.triangulate_run.proofs.nearest.nearest_of_plain.Goals as goal
 
 pub distance_2-requires-clause-in_range : goal.distance_2-requires-clause-in_range

@@ -2,16 +2,13 @@ use Rattle.std.proofs.Common.{◌≡◌, ◌∙◌, [], ap, sym, get_or, rules, 
 use Rattle.std.specs.Fmt.{signed_decimal}
 use Rattle.std.proofs.lemmas.List.{take_all}
 use Rattle.std.proofs.lemmas.Result.{err_from_is_err_and}
-use Rattle.triangulate_run.specs.Piece.{text_of}
+use Rattle.triangulate_run.specs.{declared.output.Piece.TheVariants.Text, Piece.text_of}
 use Rattle.triangulate_run.specs.declared.output.Piece.{Piece}
-use Rattle.triangulate_run.specs.declared.output.Piece.TheVariants.{Text}
 use Rattle.triangulate_run.proofs.OutputLemmas.{after_error, after_success, held_more, part_at}
-use Rattle.triangulate_run.proofs.OutputLemmas.{part_behind, part_longer, passes_at, passes_nil}
-use Rattle.triangulate_run.proofs.OutputLemmas.{part_same, written_more}
+use Rattle.triangulate_run.proofs.OutputLemmas.{part_behind, part_longer, part_same, passes_at}
+use Rattle.triangulate_run.proofs.OutputLemmas.{passes_nil, written_more}
 use Rattle.triangulate_run.proofs.output.put_pieces.Goals as goal
-use Rattle.triangulate_run.proofs.output.put_pieces.Goals.{in-Text, in-Index, in-Signed}
-use Rattle.triangulate_run.proofs.output.put_pieces.Goals.{else-is_err}
-use Rattle.triangulate_run.proofs.output.put_pieces.Goals.{then-is_err+in_ok-write_all+in_ok-write_all-2}
+use goal.{else-is_err, in-Index, in-Signed, in-Text, then-is_err+in_ok-write_all+in_ok-write_all-2}
 
 abbrev nothing : Piece
 nothing = Text record { ref_ptr = (0, 0); now = [] }

@@ -1,8 +1,6 @@
 use Rattle.std.proofs.Common.{◌≡◌, false, take}
 use Rattle.std.specs.List.{flat_map}
-use Rattle.triangulate_run.specs.Watched.{inner_of, has_failed}
-use Rattle.triangulate_run.specs.Output.{Sends}
-use Rattle.triangulate_run.specs.Piece.{text_of}
+use Rattle.triangulate_run.specs.{has_failed, inner_of, Piece.text_of, Sends}
 use Rattle.triangulate_run.proofs.output.put_pieces.Given as goal
 
 abbrev pub invariant-loop-piece : goal.invariant-loop-piece

@@ -2,7 +2,7 @@ use Rattle.std.proofs.Common.{◌≡◌, ◌-◌, length, take, drop, arith, sym
 use Rattle.std.proofs.lemmas.List.{take-append-drop, take_all}
 use Rattle.std.proofs.Math.Seq.{take-add}
 use Rattle.std.proofs.lemmas.Result.{err_from_is_err_and}
-use Rattle.triangulate_run.proofs.OutputLemmas.{appends_more, appends_keep}
+use Rattle.triangulate_run.proofs.OutputLemmas.{appends_keep, appends_more}
 use Rattle.triangulate_run.proofs.output.write_all.Goals as goal
 
 pub returns-in_err-written : goal.returns-in_err-written

@@ -1,6 +1,6 @@
 use Rattle.std.proofs.Common.{◌≡◌, ◌≤◌, ◌-◌, false, length, take}
 use Rattle.std.specs.Io.KnownBytes.{Appends}
-use Rattle.triangulate_run.specs.Watched.{inner_of, has_failed}
+use Rattle.triangulate_run.specs.{has_failed, inner_of}
 use Rattle.triangulate_run.proofs.output.write_all.Given as goal
 
 abbrev pub invariant-loop-written : goal.invariant-loop-written

@@ -1,6 +1,5 @@
 use Rattle.std.proofs.Common.{rules}
-use Rattle.delaunay_edit.specs.delaunay_core.Place.{place_of}
-use Rattle.triangulate_run.specs.Points.{HoldsAt}
+use Rattle.{delaunay_core.specs.place_of, triangulate_run.specs.HoldsAt}
 use Rattle.triangulate_run.proofs.Found.{none_up_to, not_here}
 use Rattle.triangulate_run.proofs.points.index_of.Goals as goal
 

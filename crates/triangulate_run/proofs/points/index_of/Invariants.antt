@@ -1,6 +1,5 @@
 use Rattle.std.proofs.Common.{◌<◌, ℕ}
-use Rattle.delaunay_edit.specs.delaunay_core.Place.{place_of}
-use Rattle.triangulate_run.specs.Points.{HoldsAt}
+use Rattle.{delaunay_core.specs.place_of, triangulate_run.specs.HoldsAt}
 use Rattle.triangulate_run.proofs.points.index_of.Given as goal
 
 abbrev pub invariant-loop-i : goal.invariant-loop-i

@@ -1,11 +1,9 @@
 use Rattle.std.proofs.Common.{◌∙◌, sym}
 use Rattle.std.proofs.lemmas.Bool.{true≢false}
-use Rattle.delaunay_edit.specs.delaunay_core.Place.{place_of}
-use Rattle.triangulate_run.specs.Points.{IsSiteAt}
+use Rattle.{delaunay_core.specs.place_of, triangulate_run.specs.IsSiteAt}
 use Rattle.triangulate_run.proofs.Found.{none_up_to, not_here}
 use Rattle.triangulate_run.proofs.points.site_index_of.Goals as goal
-use Rattle.triangulate_run.proofs.points.site_index_of.Goals.{else-listed-via-then-listed+else-eq}
-use Rattle.triangulate_run.proofs.points.site_index_of.Goals.{else-listed-via-else-listed}
+use goal.{else-listed-via-else-listed, else-listed-via-then-listed+else-eq}
 
 pub loop-i-preserved : goal.loop-i-preserved
 loop-i-preserved c =

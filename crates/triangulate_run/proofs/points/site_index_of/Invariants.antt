@@ -1,6 +1,5 @@
 use Rattle.std.proofs.Common.{◌<◌, ℕ}
-use Rattle.delaunay_edit.specs.delaunay_core.Place.{place_of}
-use Rattle.triangulate_run.specs.Points.{IsSiteAt}
+use Rattle.{delaunay_core.specs.place_of, triangulate_run.specs.IsSiteAt}
 use Rattle.triangulate_run.proofs.points.site_index_of.Given as goal
 
 abbrev pub invariant-loop-i : goal.invariant-loop-i

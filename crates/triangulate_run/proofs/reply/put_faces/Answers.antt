@@ -1,7 +1,6 @@
 use Rattle.std.proofs.lemmas.List.{take_all}
 use Rattle.std.proofs.lemmas.Result.{err_from_is_err_and}
-use Rattle.triangulate_run.proofs.OutputLemmas.{passes_nil, passes_at, part_before}
-use Rattle.triangulate_run.proofs.OutputLemmas.{puts_behind}
+use Rattle.triangulate_run.proofs.OutputLemmas.{part_before, passes_at, passes_nil, puts_behind}
 use Rattle.triangulate_run.proofs.reply.put_faces.Goals as goal
 
 pub loop-corners-init : goal.loop-corners-init

@@ -1,8 +1,6 @@
 use Rattle.std.proofs.Common.{◌≡◌, false, take}
 use Rattle.std.specs.List.{flat_map}
-use Rattle.triangulate_run.specs.Watched.{inner_of, has_failed}
-use Rattle.triangulate_run.specs.Output.{Sends}
-use Rattle.triangulate_run.specs.Reply.{corners_text}
+use Rattle.triangulate_run.specs.{has_failed, inner_of, Reply.corners_text, Sends}
 use Rattle.triangulate_run.proofs.reply.put_faces.Given as goal
 
 abbrev pub invariant-loop-corners : goal.invariant-loop-corners

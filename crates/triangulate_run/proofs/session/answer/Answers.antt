@@ -1,6 +1,6 @@
 use Rattle.std.proofs.Common.{inl, inr, refl}
 use Rattle.std.proofs.lemmas.Result.{err_from_is_err_and}
-use Rattle.triangulate_run.proofs.OutputLemmas.{held_written, held_fails, writes_flushed}
+use Rattle.triangulate_run.proofs.OutputLemmas.{held_fails, held_written, writes_flushed}
 use Rattle.triangulate_run.proofs.session.answer.Goals as goal
 
 pub returns-in_default-clause-answered : goal.returns-in_default-clause-answered

@@ -1,8 +1,8 @@
 use Rattle.std.proofs.Common.{◌<◌, ◌≡◌, ◌∙◌, refl, length, rules}
 use Rattle.triangulate_run.proofs.OutputLemmas.{appends_nil}
-use Rattle.triangulate_run.proofs.RunLemmas.{start, consumes_kept, consumes_first, consumes_break}
-use Rattle.triangulate_run.proofs.RunLemmas.{kept_more, end_none, end_bad, byte_more, line_more}
-use Rattle.triangulate_run.proofs.RunLemmas.{line_fault, end_fault, end_more, read_fault}
+use Rattle.triangulate_run.proofs.RunLemmas.{byte_more, consumes_break, consumes_first}
+use Rattle.triangulate_run.proofs.RunLemmas.{consumes_kept, end_bad, end_fault, end_more, end_none}
+use Rattle.triangulate_run.proofs.RunLemmas.{kept_more, line_fault, line_more, read_fault, start}
 use Rattle.triangulate_run.proofs.session.answer_lines.Goals as goal
 
 pub loop-line-init : goal.loop-line-init

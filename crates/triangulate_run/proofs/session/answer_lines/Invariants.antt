@@ -1,6 +1,5 @@
 use Rattle.std.proofs.Common.{◌≡◌}
-use Rattle.triangulate_run.specs.Watched.{reads_left_of}
-use Rattle.triangulate_run.specs.Engine.{stage_of, IsEngineReady}
+use Rattle.triangulate_run.specs.{Engine.IsEngineReady, stage_of, Watched.reads_left_of}
 use Rattle.triangulate_run.proofs.RunLemmas.{IsRunning}
 use Rattle.triangulate_run.proofs.session.answer_lines.Given as goal
 

@@ -1,9 +1,8 @@
 use Rattle.std.proofs.Common.{inl, inr, map, refl, ◌∙◌, ap}
-use Rattle.triangulate_run.specs.Stage.{position}
-use Rattle.delaunay_edit.specs.delaunay_legalization.Drawn.{drawn}
-use Rattle.triangulate_run.proofs.Insertions.{unknown_if_fresh, known_if_there, may_refuse}
-use Rattle.triangulate_run.proofs.Insertions.{site_if_listed, listed_if_found, mesh_kept}
-use Rattle.triangulate_run.proofs.Insertions.{places_kept, sites_kept, sites_more}
+use Rattle.{delaunay_legalization.specs.drawn, triangulate_run.specs.position}
+use Rattle.triangulate_run.proofs.Insertions.{known_if_there, listed_if_found, may_refuse}
+use Rattle.triangulate_run.proofs.Insertions.{mesh_kept, places_kept, site_if_listed, sites_kept}
+use Rattle.triangulate_run.proofs.Insertions.{sites_more, unknown_if_fresh}
 use Rattle.triangulate_run.proofs.shared.insert.Goals as goal
 
 pub returns-in-Ok-clause-ready : goal.returns-in-Ok-clause-ready

@@ -1,6 +1,5 @@
-use Rattle.triangulate_run.specs.Stage.{position}
-use Rattle.triangulate_run.proofs.Insertions.{listed_if_known}
-use Rattle.triangulate_run.proofs.Locations.{located}
+use Rattle.triangulate_run.specs.{position}
+use Rattle.triangulate_run.proofs.{Insertions.listed_if_known, Locations.located}
 use Rattle.triangulate_run.proofs.shared.locate.Goals as goal
 
 pub returns : goal.returns

@@ -1,12 +1,8 @@
 use Rattle.std.proofs.Common.{◌∙◌, ap, subst}
-use Rattle.delaunay_edit.specs.plane.Fraction.{whole}
-use Rattle.delaunay_edit.specs.plane.Location.{IsLocation}
-use Rattle.delaunay_edit.specs.half_edge_links.Mesh.{origin, rev}
-use Rattle.delaunay_edit.specs.delaunay_location.declared.position_in_triangulation.PositionInTriangulation.{PositionInTriangulation}
-use Rattle.delaunay_edit.specs.Location.{location_of}
-use Rattle.triangulate_run.specs.MeshFaces.{row_at}
-use Rattle.triangulate_run.specs.Stage.{position}
-use Rattle.delaunay_edit.specs.delaunay_legalization.State.{triangulation_of}
+use Rattle.half_edge_links.specs.{origin, rev}
+use Rattle.{delaunay_legalization.specs.triangulation_of, plane.specs.IsLocation, plane.specs.whole}
+use Rattle.delaunay_location.specs.{location_of, PositionInTriangulation}
+use Rattle.triangulate_run.specs.{position, row_at}
 use Rattle.triangulate_run.proofs.Locations.{edge_there, face_there}
 use Rattle.triangulate_run.proofs.shared.location_reply.Goals as goal
 

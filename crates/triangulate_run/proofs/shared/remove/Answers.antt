@@ -1,9 +1,8 @@
 use Rattle.std.proofs.Common.{◌≡◌, ◌∙◌}
 use Rattle.std.proofs.Common.{ℕ, ℤ, List, ap, sym, rules, SFits, w64, to_z, of_z, to_z-of_z}
 use Rattle.std.specs.Prelude.{slice_get, Some}
-use Rattle.delaunay_edit.specs.delaunay_core.declared.point.Point2.{Point2}
-use Rattle.triangulate_run.specs.Stage.{position}
-use Rattle.delaunay_edit.proofs.Removing.{sites_left}
+use Rattle.delaunay_core.specs.{Point2}
+use Rattle.{delaunay_edit.proofs.Removing.sites_left, triangulate_run.specs.position}
 use Rattle.triangulate_run.proofs.shared.remove.Goals as goal
 
 abbrev point_with : ℤ → ℤ → Point2 ℤ

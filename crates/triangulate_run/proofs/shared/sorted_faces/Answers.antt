@@ -1,18 +1,14 @@
 use Rattle.std.specs.Prelude.{AllPairs}
-use Rattle.triangulate_run.specs.declared.corners.Corners.{Corners}
 use Rattle.std.proofs.Common.{List, ◌≢◌, ◌≡◌, ◌++◌, length, map, sym, ◌∙◌, ap, subst, arith}
 use Rattle.std.specs.List.{range_with_len}
 use Rattle.std.proofs.lemmas.List.{length-map}
-use Rattle.delaunay_edit.specs.half_edge_links.Triangles.{triangles, triangle_at}
-use Rattle.delaunay_interface.specs.InnerFaces.{inner_faces_left}
-use Rattle.triangulate_run.specs.Stage.{position}
-use Rattle.delaunay_edit.specs.delaunay_legalization.Drawn.{corners_of}
-use Rattle.triangulate_run.specs.MeshFaces.{row_at}
-use Rattle.delaunay_edit.proofs.delaunay_legalization_lemmas.Rounds.{first_left, none_left}
-use Rattle.triangulate_run.proofs.MeshFaces.{row_more, rows_end, rows_by_index, row_same_mesh}
-use Rattle.triangulate_run.proofs.MeshFaces.{twice}
-use Rattle.triangulate_run.proofs.FaceList.{lists_faces, rows_differ}
-use Rattle.triangulate_run.proofs.SortedFaces.{sorted_rises}
+use Rattle.half_edge_links.specs.{triangle_at, triangles}
+use Rattle.{delaunay_legalization.specs.corners_of, triangulate_run.proofs.SortedFaces.sorted_rises}
+use Rattle.delaunay_legalization.proofs.Rounds.{first_left, none_left}
+use Rattle.delaunay_interface.specs.{inner_faces_left}
+use Rattle.triangulate_run.specs.{declared.corners.Corners.Corners, position, row_at}
+use Rattle.triangulate_run.proofs.{FaceList.lists_faces, FaceList.rows_differ, MeshFaces.twice}
+use Rattle.triangulate_run.proofs.MeshFaces.{row_more, row_same_mesh, rows_by_index, rows_end}
 use Rattle.triangulate_run.proofs.shared.sorted_faces.Goals as goal
 
 pub loop-face-init : goal.loop-face-init

@@ -1,8 +1,8 @@
 use Rattle.std.proofs.Common.{None, arith, sym, ◌∙◌}
 use Rattle.std.proofs.lemmas.Str.Parse.{digit_at}
-use Rattle.triangulate_run.proofs.Digits.{value_lt, one_more, in_range_digit}
 use Rattle.std.proofs.lemmas.Grind.{common_steps}
-use Rattle.triangulate_run.proofs.Values.{index_value-ok, index_from}
+use Rattle.triangulate_run.proofs.Digits.{in_range_digit, one_more, value_lt}
+use Rattle.triangulate_run.proofs.Values.{index_from, index_value-ok}
 use Rattle.triangulate_run.proofs.words.index_written.Goals as goal
 
 pub returns-then-not-is_ascii_digit-clause-value : goal.returns-then-not-is_ascii_digit-clause-value

@@ -1,8 +1,6 @@
 use Rattle.std.proofs.Common.{◌≡◌, refl, arith, subst}
-use Rattle.delaunay_edit.specs.delaunay_legalization.State.{triangulation_of}
-use Rattle.c_calls.specs.Beyond.{IsFlagAt}
-use Rattle.c_calls.specs.Kept.{kept_place}
-use Rattle.c_calls.specs.Written.{listed}
+use Rattle.delaunay_legalization.specs.{triangulation_of}
+use Rattle.c_calls.specs.{IsFlagAt, kept_place, listed}
 use Rattle.c_calls.proofs.Writing.{all_answered, none_answered, one_more}
 use Rattle.c_calls.proofs.beyond.ListBeyondQuery.ask.Goals as goal
 

@@ -1,7 +1,5 @@
-use Rattle.delaunay_edit.specs.delaunay_legalization.State.{triangulation_of}
-use Rattle.c_calls.specs.Beyond.{IsFlagAt, raw_sides}
-use Rattle.c_calls.specs.Kept.{kept_place}
-use Rattle.c_calls.specs.Written.{Answered}
+use Rattle.delaunay_legalization.specs.{triangulation_of}
+use Rattle.c_calls.specs.{Answered, Beyond.raw_sides, IsFlagAt, kept_place}
 use Rattle.c_calls.proofs.beyond.ListBeyondQuery.ask.Given as goal
 
 abbrev pub invariant-loop-index : goal.invariant-loop-index

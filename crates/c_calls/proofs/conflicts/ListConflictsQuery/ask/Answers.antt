@@ -1,14 +1,8 @@
 use Rattle.std.proofs.Common.{◌∙◌, refl, sym, subst}
-use Rattle.delaunay_edit.specs.plane.Fraction.{whole}
-use Rattle.delaunay_edit.specs.plane.Line.{IsLineList}
-use Rattle.delaunay_edit.specs.delaunay_core.Place.{place_of}
-use Rattle.delaunay_edit.specs.delaunay_legalization.Constraints.{constraints_by}
-use Rattle.delaunay_edit.specs.delaunay_legalization.Shape.{IsTriangulated}
-use Rattle.delaunay_edit.specs.delaunay_legalization.State.{triangulation_of}
-use Rattle.delaunay_edit.proofs.delaunay_legalization_lemmas.Questions.{both_ways}
-use Rattle.c_calls.specs.Kept.{kept_place}
-use Rattle.c_calls.specs.Conflicts.{AreCrossed}
-use Rattle.c_calls.specs.Written.{found, plain_point, refused}
+use Rattle.delaunay_core.specs.{place_of}
+use Rattle.delaunay_legalization.specs.{constraints_by, IsTriangulated, triangulation_of}
+use Rattle.{delaunay_legalization.proofs.both_ways, plane.specs.IsLineList, plane.specs.whole}
+use Rattle.c_calls.specs.{AreCrossed, found, kept_place, plain_point, refused}
 use Rattle.c_calls.proofs.conflicts.ListConflictsQuery.ask.Goals as goal
 
 pub returns-then-not-may_ask_line : goal.returns-then-not-may_ask_line

@@ -15,11 +15,9 @@ use denote.Steps.{nothing}
 use denote.Triple.Walked.{Stays, says, ends_at}
 use Rattle.std.proofs.raw_atomic.Walks.{proved_at}
 use Rattle.std.specs.Prelude.{None}
+use Rattle.c_calls.proofs.{handle.Handle.closed.Statement.statement, Handles.handle_in, Values.both}
 use Rattle.c_calls.specs.contracts.handle.Handle.closed as f
-use Rattle.c_calls.proofs.handle.Handle.closed.Statement.{statement}
 use Rattle.c_calls.proofs.handle.Handle.closed.Code as code
-use Rattle.c_calls.proofs.Values.{both}
-use Rattle.c_calls.proofs.Handles.{handle_in}
 
 abbrev stayed : Stays f.ended.signature.params f.ended.kept
 stayed = tt

@@ -31,14 +31,13 @@ use Rattle.std.specs.Prelude.{None, Some}
 use Rattle.std.specs.contracts.impls.GlobalAllocator.TheImpl.{ghosts}
 use Rattle.std.specs.contracts.alloc.Global as heap
 use Rattle.std.proofs.alloc.Global.TheLaws as heap_laws
+use Rattle.c_calls.proofs.{handle.Handle.into_loose.Statement.statement, Handles.keeps_cases}
+use Rattle.c_calls.proofs.Values.{both, Loose, loose_good, loose_in}
+use Rattle.c_calls.proofs.handle.Handle.TheLaws.{lowers}
 use Rattle.c_calls.specs.contracts.handle.Handle.into_loose as f
 use Rattle.c_calls.specs.contracts.handle.Handle as handle
-use Rattle.c_calls.specs.contracts.kept.KeptPoints as kept
-use Rattle.c_calls.proofs.handle.Handle.TheLaws.{lowers}
-use Rattle.c_calls.proofs.handle.Handle.into_loose.Statement.{statement}
+use Rattle.c_calls.specs.contracts.kept.AnyTriangulation as kept
 use Rattle.c_calls.proofs.handle.Handle.into_loose.Code as code
-use Rattle.c_calls.proofs.Values.{both, Loose, loose_good, loose_in}
-use Rattle.c_calls.proofs.Handles.{keeps_cases}
 
 abbrev R : RattleType
 R = kept.the_row

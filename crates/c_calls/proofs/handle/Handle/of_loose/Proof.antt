@@ -25,12 +25,11 @@ use Rattle.std.specs.Global.{Global}
 use Rattle.std.specs.contracts.impls.GlobalAllocator.TheImpl.{ghosts}
 use Rattle.std.specs.contracts.alloc.Global as heap
 use Rattle.std.proofs.alloc.Global.TheLaws as heap_laws
-use Rattle.c_calls.specs.contracts.handle.Handle.of_loose as f
-use Rattle.c_calls.specs.contracts.kept.KeptPoints as kept
-use Rattle.c_calls.proofs.handle.Handle.of_loose.Statement.{statement}
-use Rattle.c_calls.proofs.handle.Handle.of_loose.Code as code
+use Rattle.c_calls.proofs.{handle.Handle.of_loose.Statement.statement, Handles.handle_in}
 use Rattle.c_calls.proofs.Values.{both, Loose, loose_good, loose_out}
-use Rattle.c_calls.proofs.Handles.{handle_in}
+use Rattle.c_calls.specs.contracts.handle.Handle.of_loose as f
+use Rattle.c_calls.specs.contracts.kept.AnyTriangulation as kept
+use Rattle.c_calls.proofs.handle.Handle.of_loose.Code as code
 
 abbrev R : RattleType
 R = kept.the_row

@@ -1,9 +1,7 @@
 use Rattle.std.proofs.Common.{◌≡◌, ◌∙◌, ◌<◌, ◌+◌, ℕ, List, length, get_or, sym, subst, arith}
 use Rattle.std.proofs.lemmas.List.{get_or_default}
-use Rattle.delaunay_edit.specs.half_edge_links.Mesh.{Mesh}
-use Rattle.delaunay_queries.specs.Layers.{AreLayers}
-use Rattle.c_calls.specs.Layers.{IsLayerAt}
-use Rattle.c_calls.proofs.Writing.{one_more}
+use Rattle.{c_calls.specs.Layers.IsLayerAt, half_edge_links.specs.Mesh}
+use Rattle.{c_calls.proofs.Writing.one_more, delaunay_queries.specs.AreLayers}
 use Rattle.c_calls.proofs.layers.ListLayersQuery.ask.Goals as goal
 
 -- the layer at a place that leaves out the outer face

@@ -1,5 +1,4 @@
-use Rattle.c_calls.specs.Layers.{IsLayerAt}
-use Rattle.c_calls.specs.Written.{Answered}
+use Rattle.{c_calls.specs.Answered, c_calls.specs.Layers.IsLayerAt}
 use Rattle.c_calls.proofs.layers.ListLayersQuery.ask.Given as goal
 
 abbrev pub invariant-loop-index : goal.invariant-loop-index

@@ -1,8 +1,5 @@
-use Rattle.delaunay_edit.specs.delaunay_legalization.Constraints.{constraints_by}
-use Rattle.delaunay_edit.specs.delaunay_legalization.State.{triangulation_of}
-use Rattle.c_calls.specs.Kept.{kept_place}
-use Rattle.c_calls.specs.Queries.{IsEdgeEntry}
-use Rattle.c_calls.specs.Written.{Answered}
+use Rattle.delaunay_legalization.specs.{constraints_by, triangulation_of}
+use Rattle.c_calls.specs.{Answered, kept_place, Queries.IsEdgeEntry}
 use Rattle.c_calls.proofs.lists.ListEdgesQuery.ask.Given as goal
 
 abbrev pub invariant-loop-index : goal.invariant-loop-index

@@ -1,6 +1,5 @@
 use Rattle.std.proofs.Common.{map}
-use Rattle.c_calls.specs.Queries.{IsElementAt, number_of}
-use Rattle.c_calls.specs.Written.{Answered}
+use Rattle.c_calls.specs.{Answered, Queries.IsElementAt, Queries.number_of}
 use Rattle.c_calls.proofs.lists.ListNumbersQuery.ask.Given as goal
 
 abbrev pub invariant-loop-index : goal.invariant-loop-index

@@ -33,11 +33,11 @@ use Rattle.std.proofs.cell.Inside.{Good}
 use Rattle.std.proofs.BoxSteps.Form as box
 use Rattle.std.proofs.BoxSteps.Steps.{box_out, box_in}
 use Rattle.std.proofs.raw_atomic.Walks.{proved_at, leaves}
-use Rattle.c_calls.proofs.Values.{both, Loose, loose_good, loose_out}
 use Rattle.std.specs.contracts.boxed.Box.from_raw as callee
 use Rattle.std.proofs.boxed.Box.from_raw.Met.{met}
-use Rattle.c_calls.specs.contracts.loose.Loose.into_box.{ended, clauses}
+use Rattle.c_calls.specs.contracts.loose.Loose.into_box.{clauses, ended}
 use Rattle.c_calls.specs.contracts.loose.Loose.into_box.Key.{name as #self}
+use Rattle.c_calls.proofs.Values.{both, Loose, loose_good, loose_out}
 use Rattle.c_calls.proofs.loose.Loose.into_box.Statement.{statement}
 use Rattle.c_calls.proofs.loose.Loose.into_box.Code as code
 

@@ -34,11 +34,11 @@ use Rattle.std.specs.Box.Ownership.{box_owns}
 use Rattle.std.proofs.BoxSteps.Form as box
 use Rattle.std.proofs.BoxSteps.Steps.{box_out, box_in}
 use Rattle.std.proofs.raw_atomic.Walks.{proved_at, leaves}
-use Rattle.c_calls.proofs.Values.{both, loose_good, loose_in}
 use Rattle.std.specs.contracts.boxed.Box.into_raw_with_allocator as callee
 use Rattle.std.proofs.boxed.Box.into_raw_with_allocator.Met.{met}
-use Rattle.c_calls.specs.contracts.loose.Loose.of.{ended, clauses}
+use Rattle.c_calls.specs.contracts.loose.Loose.of.{clauses, ended}
 use Rattle.c_calls.specs.contracts.loose.Loose.of.Key.{name as #self}
+use Rattle.c_calls.proofs.Values.{both, loose_good, loose_in}
 use Rattle.c_calls.proofs.loose.Loose.of.Statement.{statement}
 use Rattle.c_calls.proofs.loose.Loose.of.Code as code
 

@@ -1,8 +1,6 @@
 use Rattle.std.proofs.Common.{pos, refl, arith}
-use Rattle.c_calls.specs.Kept.{kept_place}
-use Rattle.c_calls.specs.Queries.{IsPlaceIn}
-use Rattle.c_calls.specs.declared.raw.RawPlace.{RawPlace}
-use Rattle.c_calls.specs.Written.{answered}
+use Rattle.c_calls.specs.{kept_place}
+use Rattle.c_calls.specs.{declared.raw.RawPlace.RawPlace, Queries.IsPlaceIn, Written.answered}
 use Rattle.c_calls.proofs.Writing.{all_answered, answer_at, none_answered, one_more}
 use Rattle.c_calls.proofs.queries.LocateQuery.ask.Goals as goal
 

@@ -1,6 +1,4 @@
-use Rattle.c_calls.specs.Kept.{kept_place}
-use Rattle.c_calls.specs.Queries.{IsPlaceIn}
-use Rattle.c_calls.specs.Written.{Answered, IsAnswerAt}
+use Rattle.c_calls.specs.{Answered, IsAnswerAt, kept_place, Queries.IsPlaceIn}
 use Rattle.c_calls.proofs.queries.LocateQuery.ask.Given as goal
 
 abbrev pub invariant-loop-index : goal.invariant-loop-index

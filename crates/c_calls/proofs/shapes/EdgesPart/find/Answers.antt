@@ -1,9 +1,7 @@
 use Rattle.std.proofs.Common.{refl}
-use Rattle.delaunay_queries.specs.Found.{edges_left}
-use Rattle.c_calls.specs.Kept.{kept_place}
-use Rattle.c_calls.specs.Links.{indexes_in}
-use Rattle.c_calls.specs.Written.{found, refused}
-use Rattle.c_calls.proofs.Found.{few_edges, edges_are}
+use Rattle.delaunay_shapes.specs.{edges_left}
+use Rattle.c_calls.specs.{found, indexes_in, kept_place, refused}
+use Rattle.c_calls.proofs.Found.{edges_are, few_edges}
 use Rattle.c_calls.proofs.shapes.EdgesPart.find.Goals as goal
 
 pub write_found_edges-requires : goal.write_found_edges-requires

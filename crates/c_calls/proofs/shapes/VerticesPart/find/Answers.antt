@@ -1,8 +1,6 @@
 use Rattle.std.proofs.Common.{refl}
-use Rattle.delaunay_queries.specs.Found.{vertices_left}
-use Rattle.c_calls.specs.Kept.{kept_place}
-use Rattle.c_calls.specs.Links.{indexes_in}
-use Rattle.c_calls.specs.Written.{found, refused}
+use Rattle.delaunay_shapes.specs.{vertices_left}
+use Rattle.c_calls.specs.{found, indexes_in, kept_place, refused}
 use Rattle.c_calls.proofs.Found.{few_vertices, vertices_are}
 use Rattle.c_calls.proofs.shapes.VerticesPart.find.Goals as goal
 

@@ -1,15 +1,10 @@
 use Rattle.std.proofs.Common.{refl, sym, inl, inr, subst, arith}
 use mathlib.Core.Path.{subst₂}
-use Rattle.delaunay_edit.specs.plane.Fraction.{whole}
-use Rattle.delaunay_edit.specs.delaunay_legalization.State.{triangulation_of}
-use Rattle.delaunay_edit.proofs.delaunay_legalization_lemmas.Questions.{both_ways}
-use Rattle.delaunay_edit.specs.delaunay_core.Place.{place_of}
-use Rattle.delaunay_shapes.specs.Beside.{by_place}
-use Rattle.plane_theorems.specs.Sight.Sight.{IsInSight}
-use Rattle.c_calls.specs.Kept.{kept_place}
-use Rattle.c_calls.specs.Sight.{sight_told, is_free_face, is_marked}
-use Rattle.c_calls.specs.Written.{plain_point}
-use Rattle.c_calls.proofs.Seen.{free_by_place, sight_same}
+use Rattle.{delaunay_core.specs.place_of, plane_theorems.specs.IsInSight}
+use Rattle.{delaunay_legalization.proofs.both_ways, delaunay_legalization.specs.triangulation_of}
+use Rattle.{c_calls.specs.kept_place, c_calls.specs.plain_point, delaunay_shapes.specs.by_place}
+use Rattle.c_calls.specs.Sight.{is_free_face, is_marked, sight_told}
+use Rattle.{c_calls.proofs.Seen.free_by_place, c_calls.proofs.Seen.sight_same, plane.specs.whole}
 use Rattle.c_calls.proofs.sight.LookAlongQuery.ask.Goals as goal
 
 pub returns-then-is_seen : goal.returns-then-is_seen

@@ -1,6 +1,5 @@
 use Rattle.std.proofs.Common.{◌≡◌, true, false}
-use Rattle.decimal_numbers.specs.Reading.{parts_of}
-use Rattle.decimal_numbers.proofs.Spellings.{long_is_one}
+use Rattle.{decimal_numbers.proofs.Spellings.long_is_one, decimal_numbers.specs.parts_of}
 use Rattle.decimal_numbers.proofs.decimal.Decimal.parse.Goals as goal
 
 pub returns-in_default-clause-too_long : goal.returns-in_default-clause-too_long

@@ -1,8 +1,8 @@
 use Rattle.std.proofs.Common.{◌<◌, ◌^◌, ℕ, arith, subst, sym}
 use Rattle.decimal_numbers.specs.Value.{IsRounded}
-use Rattle.decimal_numbers.proofs.Powers.{ten_or_more, rounds, rounds_to_none}
+use Rattle.decimal_numbers.proofs.Powers.{rounds, rounds_to_none, ten_or_more}
 use Rattle.decimal_numbers.proofs.decimal.Decimal.rounded_to.Goals as goal
-use Rattle.decimal_numbers.proofs.decimal.Decimal.rounded_to.Goals.{in-Some, in-None}
+use goal.{in-None, in-Some}
 
 pub nearest_quotient-magnitude-requires : goal.nearest_quotient-magnitude-requires
 nearest_quotient-magnitude-requires c = ten_or_more _ _ c.in-Some.ensures.some (omega arith)

@@ -1,8 +1,7 @@
 use Rattle.std.proofs.Common.{◌∙◌, map, sym, ap, arith}
 use Rattle.std.proofs.lemmas.Grind.{common_steps}
-use Rattle.delaunay_interface.proofs.Stepping.{inserted_sites}
 use Rattle.delaunay_bulk.specs.Order.{entry_of}
-use Rattle.delaunay_bulk.proofs.Turns.{next_site}
+use Rattle.{delaunay_bulk.proofs.Turns.next_site, delaunay_interface.proofs.Stepping.inserted_sites}
 use Rattle.delaunay_bulk.proofs.bulk_insertion.BulkInsertion.insert_next.Goals as goal
 
 pub insert_with_hint-requires-clause-new_site : goal.insert_with_hint-requires-clause-new_site

@@ -1,10 +1,8 @@
 use Rattle.std.proofs.Common.{◌≡◌, ◌∙◌, ap, arith, inl, length, refl, subst}
 use Rattle.std.specs.Prelude.{All, Err}
 use Rattle.std.proofs.lemmas.Result.{err_from_is_err_and}
-use Rattle.delaunay_interface.specs.plane.Tests.{InRange}
-use Rattle.delaunay_interface.specs.delaunay_core.declared.math.InsertionError.{InsertionError}
-use Rattle.delaunay_bulk.specs.declared.error.BulkInsertionError.{BulkInsertionError}
-use Rattle.delaunay_bulk.specs.Order.{IsFirstOutside}
+use Rattle.{delaunay_core.specs.InsertionError, plane.specs.InRange}
+use Rattle.delaunay_bulk.specs.{BulkInsertionError, IsFirstOutside}
 use Rattle.delaunay_bulk.proofs.Refusals.{few_by_reserve, not_refused, refused_for_memory}
 use Rattle.delaunay_bulk.proofs.Refusals.{refused_for_room, refused_outside}
 use Rattle.delaunay_bulk.proofs.Turns.{inserting_begins, inserting_ends, inserting_goes_on}

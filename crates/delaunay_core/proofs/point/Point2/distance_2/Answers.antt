@@ -1,7 +1,7 @@
 use Rattle.std.proofs.Common.{◌≡◌, ◌≤◌, ◌∙◌, ap, w64, to_z, of_z, arith, unsigned_abs, FitsSigned}
 use Rattle.std.specs.Prelude.{ℤ, ◌+ℤ◌, ◌*ℤ◌}
 use Rattle.std.proofs.lemmas.Int.{ints}
-use Rattle.delaunay_core.proofs.Projections.{product_bound, sum_of_products, way_passes}
+use Rattle.delaunay_core.proofs.Projections.{product_bound, sum_of_products, vector_passes}
 use Rattle.delaunay_core.proofs.point.Point2.distance_2.Goals as goal
 
 -- the square of a difference that was passed on
@@ -9,7 +9,8 @@ abbrev square : ℤ → ℤ
 square a = let b : ℤ = to_z w64 (of_z w64 a) in b *ℤ b
 
 fits : (a : ℤ) → unsigned_abs a ≤ 1073741824 → unsigned_abs (square a) ≤ 1152921504606846976
-fits a h = let b : ℤ = to_z w64 (of_z w64 a) in product_bound b b (way_passes a h) (way_passes a h)
+fits a h = let b : ℤ = to_z w64 (of_z w64 a) in product_bound b b (vector_passes a h)
+    (vector_passes a h)
 
 squared : (a x : ℤ) → unsigned_abs a ≤ 1073741824 → a ≡ x → square a ≡ x *ℤ x
 squared a x h is =

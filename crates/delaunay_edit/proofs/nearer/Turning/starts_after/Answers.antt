@@ -1,6 +1,5 @@
 use Rattle.std.proofs.Common.{rules}
-use Rattle.delaunay_location.specs.delaunay_core.Place.{place_of}
-use Rattle.delaunay_edit.proofs.Places.{after_by}
+use Rattle.{delaunay_core.specs.place_of, delaunay_edit.proofs.Places.after_by}
 use Rattle.delaunay_edit.proofs.nearer.Turning.starts_after.Goals as goal
 
 pub distance_2-requires : goal.distance_2-requires

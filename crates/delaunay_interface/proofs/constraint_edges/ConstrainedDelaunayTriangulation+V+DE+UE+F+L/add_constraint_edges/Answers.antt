@@ -1,12 +1,11 @@
 use Rattle.std.proofs.Common.{[], ◌∷◌, ◌∙◌, inl, refl, sym}
 use Rattle.std.proofs.lemmas.Bool.{eq-eqb, eqb-true}
 use Rattle.std.proofs.lemmas.Result.{err_from_is_err_and}
-use Rattle.delaunay_edit.proofs.delaunay_legalization_lemmas.Questions.{both_ways}
+use Rattle.delaunay_legalization.proofs.{both_ways}
 use Rattle.delaunay_interface.proofs.Stepping.{cannot_close, closes, comes_now, may_come, one_more}
 use Rattle.delaunay_interface.proofs.Stepping.{stays_open, stops_at_join, stops_at_vertex}
-use Rattle.delaunay_interface.proofs.constraint_edges.ConstrainedDelaunayTriangulation+V+DE+UE+F+L.add_constraint_edges.Goals.{then-not-closed-via-then-not-closed}
-use Rattle.delaunay_interface.proofs.constraint_edges.ConstrainedDelaunayTriangulation+V+DE+UE+F+L.add_constraint_edges.Goals.{then-not-closed-via-else-not-closed+then-eq}
 use Rattle.delaunay_interface.proofs.constraint_edges.ConstrainedDelaunayTriangulation+V+DE+UE+F+L.add_constraint_edges.Goals as goal
+use goal.{then-not-closed-via-else-not-closed+then-eq, then-not-closed-via-then-not-closed}
 
 pub insert_end-requires-clause-new_site : goal.insert_end-requires-clause-new_site
 insert_end-requires-clause-new_site g c = c.requires.new_sites c.in-Some.start

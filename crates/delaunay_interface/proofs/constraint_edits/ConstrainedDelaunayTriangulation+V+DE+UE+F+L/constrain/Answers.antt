@@ -1,18 +1,15 @@
 use Rattle.std.proofs.Common.{◌+◌, ◌/◌, ◌∙◌, length, refl, sym, ap, subst, arith}
 use Rattle.std.specs.Prelude.{Contains}
-use Rattle.delaunay_edit.specs.delaunay_legalization.CdtEdge.{is_constraint}
-use Rattle.delaunay_edit.specs.delaunay_legalization.State.{state_of}
-use Rattle.delaunay_edit.proofs.delaunay_legalization_lemmas.Questions.{both_ways}
-use Rattle.delaunay_edit.specs.Constrained.{constraint_edges}
-use Rattle.delaunay_edit.specs.Counting.{IsCounted}
+use Rattle.delaunay_legalization.specs.{is_constraint, state_of}
+use Rattle.delaunay_edit.specs.{constraint_edges, IsCounted}
 use Rattle.delaunay_edit.proofs.EditingConstraints.{edges_marked, path_added}
-use Rattle.delaunay_edit.proofs.OnePieceAdded.{none_added, not_joined, one_missing}
+use Rattle.delaunay_edit.proofs.OneSubconstraintAdded.{none_added, not_joined, one_missing}
 use Rattle.delaunay_edit.proofs.Recounted.{counted_added, few_counted}
-use Rattle.delaunay_edit.proofs.WellFormed.{is_delaunay}
+use Rattle.{delaunay_edit.proofs.WellFormed.is_delaunay, delaunay_legalization.proofs.both_ways}
 use Rattle.delaunay_interface.proofs.Kept.{held_of_same}
 use Rattle.delaunay_interface.proofs.constraint_edits.ConstrainedDelaunayTriangulation+V+DE+UE+F+L.constrain.Given.{Over}
-use Rattle.delaunay_interface.proofs.constraint_edits.ConstrainedDelaunayTriangulation+V+DE+UE+F+L.constrain.Goals.{After-constrain_edge}
 use Rattle.delaunay_interface.proofs.constraint_edits.ConstrainedDelaunayTriangulation+V+DE+UE+F+L.constrain.Goals as goal
+use Rattle.delaunay_interface.proofs.constraint_edits.ConstrainedDelaunayTriangulation+V+DE+UE+F+L.constrain.Goals.{After-constrain_edge}
 
 -- the edge was no constraint
 free : (g : Over) (c : After-constrain_edge g)

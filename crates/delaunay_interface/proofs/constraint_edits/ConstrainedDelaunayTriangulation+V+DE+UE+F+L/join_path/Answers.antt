@@ -1,20 +1,15 @@
 use Rattle.std.proofs.Common.{◌+◌, ◌∙◌, length, refl, sym, ap, arith}
 use Rattle.std.specs.Prelude.{true}
-use Rattle.delaunay_edit.specs.delaunay_legalization.CdtEdge.{is_constraint, with_mark}
-use Rattle.delaunay_edit.specs.delaunay_legalization.State.{state_of}
-use Rattle.delaunay_edit.specs.Releasing.{AddsConstraints}
-use Rattle.delaunay_edit.proofs.AddingPieces.{cleared_work}
-use Rattle.delaunay_edit.proofs.MovedEdges.{fewer_fit}
-use Rattle.delaunay_edit.proofs.Releasing.{added_left, constraints_added}
-use Rattle.delaunay_edit.specs.Constrained.{constraint_edges}
-use Rattle.delaunay_edit.specs.Counting.{IsCounted}
-use Rattle.delaunay_edit.proofs.EditingConstraints.{edges_marked}
+use Rattle.delaunay_legalization.specs.{is_constraint, state_of, with_mark}
+use Rattle.delaunay_edit.specs.{AddsConstraints, constraint_edges, IsCounted}
+use Rattle.delaunay_edit.proofs.{AddingSubconstraints.cleared_work, EditingConstraints.edges_marked}
+use Rattle.delaunay_edit.proofs.{MovedEdges.fewer_fit, WellFormed.is_delaunay}
 use Rattle.delaunay_edit.proofs.Recounted.{counted_added, few_counted}
-use Rattle.delaunay_edit.proofs.WellFormed.{is_delaunay}
+use Rattle.delaunay_edit.proofs.Releasing.{added_left, constraints_added}
 use Rattle.delaunay_interface.proofs.Kept.{held_of_same}
 use Rattle.delaunay_interface.proofs.constraint_edits.ConstrainedDelaunayTriangulation+V+DE+UE+F+L.join_path.Given.{Over}
-use Rattle.delaunay_interface.proofs.constraint_edits.ConstrainedDelaunayTriangulation+V+DE+UE+F+L.join_path.Goals.{After-legalize}
 use Rattle.delaunay_interface.proofs.constraint_edits.ConstrainedDelaunayTriangulation+V+DE+UE+F+L.join_path.Goals as goal
+use Rattle.delaunay_interface.proofs.constraint_edits.ConstrainedDelaunayTriangulation+V+DE+UE+F+L.join_path.Goals.{After-legalize}
 
 -- the path is added
 added : (g : Over) (c : After-legalize g) → AddsConstraints g.V.HasPosition.place is_constraint

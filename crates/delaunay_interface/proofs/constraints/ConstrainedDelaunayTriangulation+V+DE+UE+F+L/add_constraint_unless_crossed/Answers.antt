@@ -1,10 +1,9 @@
 use Rattle.std.proofs.Common.{◌∙◌, refl, sym}
 use Rattle.std.proofs.lemmas.Bool.{eqb-true}
 use Rattle.std.proofs.lemmas.Result.{err_from_is_err_and}
-use Rattle.delaunay_edit.proofs.JoinedPairs.{index_found}
 use Rattle.delaunay_edit.proofs.EditingConstraints.{nothing_added, path_added}
-use Rattle.delaunay_edit.proofs.OnePieceAdded.{edge_told, none_missing, none_to_itself}
-use Rattle.delaunay_edit.proofs.OnePieceAdded.{some_missing}
+use Rattle.delaunay_edit.proofs.{JoinedPairs.index_found, OneSubconstraintAdded.some_missing}
+use Rattle.delaunay_edit.proofs.OneSubconstraintAdded.{edge_told, none_missing, none_to_itself}
 use Rattle.delaunay_interface.proofs.constraints.ConstrainedDelaunayTriangulation+V+DE+UE+F+L.add_constraint_unless_crossed.Goals as goal
 
 pub returns-then-eq-clause-adds : goal.returns-then-eq-clause-adds

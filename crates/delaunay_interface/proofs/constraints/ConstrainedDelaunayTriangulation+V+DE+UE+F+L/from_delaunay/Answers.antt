@@ -1,11 +1,9 @@
 use Rattle.std.proofs.Common.{ap, refl, rules}
-use Rattle.delaunay_edit.specs.delaunay_legalization.CdtEdge.{is_constraint}
-use Rattle.delaunay_edit.specs.delaunay_legalization.State.{state_of}
-use Rattle.delaunay_edit.specs.Constrained.{IsFree, constraint_edges, none}
+use Rattle.delaunay_legalization.specs.{is_constraint, state_of}
+use Rattle.delaunay_edit.specs.{Constrained.IsFree, constraint_edges, none}
 use Rattle.delaunay_edit.proofs.Constrained.{other_data_as, unconstrained}
 use Rattle.delaunay_edit.proofs.ConstraintEdges.{legal_after, none_after, other_data}
-use Rattle.delaunay_edit.proofs.Recounted.{counted_none}
-use Rattle.delaunay_edit.proofs.WellFormed.{is_delaunay}
+use Rattle.delaunay_edit.proofs.{Recounted.counted_none, WellFormed.is_delaunay}
 use Rattle.delaunay_interface.proofs.Kept.{held_of_same}
 use Rattle.delaunay_interface.proofs.constraints.ConstrainedDelaunayTriangulation+V+DE+UE+F+L.from_delaunay.Goals as goal
 

@@ -1,7 +1,6 @@
 use Rattle.std.proofs.Common.{refl, inl}
-use Rattle.delaunay_edit.specs.delaunay_legalization.CdtEdge.{is_constraint}
-use Rattle.delaunay_edit.specs.Constrained.{constraint_edges}
-use Rattle.delaunay_edit.proofs.ConstraintEdges.{joined_by, fixed_if_joined}
+use Rattle.{delaunay_edit.specs.constraint_edges, delaunay_legalization.specs.is_constraint}
+use Rattle.delaunay_edit.proofs.ConstraintEdges.{fixed_if_joined, joined_by}
 use Rattle.delaunay_interface.proofs.constraints.ConstrainedDelaunayTriangulation+V+DE+UE+F+L.is_constraint_edge.Goals as goal
 
 pub returns-clause-marked : goal.returns-clause-marked

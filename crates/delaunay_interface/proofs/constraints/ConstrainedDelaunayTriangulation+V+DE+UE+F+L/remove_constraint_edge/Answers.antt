@@ -1,12 +1,9 @@
 use Rattle.std.proofs.Common.{ap, refl}
 use Rattle.std.proofs.lemmas.Result.{err_from_is_err_and}
-use Rattle.delaunay_edit.specs.delaunay_legalization.CdtEdge.{is_constraint}
-use Rattle.delaunay_edit.specs.Constrained.{constraint_edges}
-use Rattle.delaunay_edit.proofs.delaunay_legalization_lemmas.Questions.{both_ways}
+use Rattle.{delaunay_edit.specs.constraint_edges, delaunay_legalization.proofs.both_ways}
 use Rattle.delaunay_edit.proofs.EditingConstraints.{edge_freed, none_released}
-use Rattle.delaunay_edit.proofs.Recounted.{counted_released}
-use Rattle.delaunay_edit.proofs.WellFormed.{is_delaunay}
-use Rattle.delaunay_interface.proofs.Kept.{held_of_same}
+use Rattle.delaunay_edit.proofs.{Recounted.counted_released, WellFormed.is_delaunay}
+use Rattle.{delaunay_interface.proofs.Kept.held_of_same, delaunay_legalization.specs.is_constraint}
 use Rattle.delaunay_interface.proofs.constraints.ConstrainedDelaunayTriangulation+V+DE+UE+F+L.remove_constraint_edge.Goals as goal
 
 pub returns-then-not-is_constraint_edge-clause-releases :

@@ -1,14 +1,11 @@
 use Rattle.std.proofs.Common.{◌<◌, [], ◌∷◌, ◌++◌, ◌∙◌, ℕ, List, length, ap, inl, inr, refl, sym}
 use Rattle.std.proofs.lemmas.Bool.{eq-eqb, eqb-true}
-use Rattle.delaunay_edit.specs.half_edge_links.Mesh.{origin, rev}
-use Rattle.delaunay_edit.specs.delaunay_legalization.CdtEdge.{is_constraint}
-use Rattle.delaunay_edit.specs.delaunay_legalization.State.{state_of}
-use Rattle.delaunay_edit.proofs.delaunay_legalization_lemmas.Questions.{both_ways}
-use Rattle.delaunay_edit.proofs.JoinedPairs.{index_found}
-use Rattle.delaunay_edit.proofs.OnePiece.{joined_is_free}
-use Rattle.delaunay_edit.specs.Constrained.{constraint_edges}
+use Rattle.half_edge_links.specs.{origin, rev}
+use Rattle.delaunay_legalization.specs.{is_constraint, state_of}
+use Rattle.{delaunay_edit.specs.constraint_edges, delaunay_legalization.proofs.both_ways}
 use Rattle.delaunay_edit.proofs.EditingConstraints.{none_listed, path_is_there}
-use Rattle.delaunay_edit.proofs.OnePieceAdded.{edge_listed, list_renamed}
+use Rattle.delaunay_edit.proofs.{JoinedPairs.index_found, OneSubconstraint.joined_is_free}
+use Rattle.delaunay_edit.proofs.OneSubconstraintAdded.{edge_listed, list_renamed}
 use Rattle.delaunay_interface.proofs.constraints.ConstrainedDelaunayTriangulation+V+DE+UE+F+L.try_add_constraint.Goals as goal
 
 pub returns-then-eq-clause-path : goal.returns-then-eq-clause-path

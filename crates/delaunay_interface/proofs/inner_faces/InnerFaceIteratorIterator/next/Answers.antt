@@ -1,5 +1,5 @@
 use Rattle.std.proofs.Common.{◌<◌, ◌≤◌, length}
-use Rattle.delaunay_edit.proofs.half_edge_dcel_lemmas.Taken.{rest_holds}
+use Rattle.half_edge_dcel.proofs.Taken.{rest_holds}
 use Rattle.delaunay_interface.proofs.inner_faces.InnerFaceIteratorIterator.next.Goals as goal
 
 pub invariant_of-self : goal.invariant_of-self

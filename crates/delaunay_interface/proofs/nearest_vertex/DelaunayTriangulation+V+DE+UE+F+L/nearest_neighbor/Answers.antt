@@ -1,7 +1,7 @@
 use Rattle.std.proofs.Common.{[], sym, subst, ap, ◌∙◌, arith}
 use Rattle.std.proofs.lemmas.List.{length-map}
-use Rattle.delaunay_edit.specs.plane.Delaunay.{IsConstrainedDelaunay}
-use Rattle.delaunay_edit.specs.delaunay_legalization.State.{state_of, triangulation_of}
+use Rattle.plane.specs.{IsConstrainedDelaunay}
+use Rattle.delaunay_legalization.specs.{state_of, triangulation_of}
 use Rattle.delaunay_interface.proofs.nearest_vertex.DelaunayTriangulation+V+DE+UE+F+L.nearest_neighbor.Goals as goal
 
 pub nearest_by_neighbors-nearest-requires-clause-delaunay :

@@ -1,11 +1,10 @@
 use Rattle.std.proofs.Common.{ap}
-use Rattle.delaunay_edit.specs.delaunay_legalization.State.{state_of}
-use Rattle.delaunay_edit.specs.Counting.{IsCounted}
+use Rattle.delaunay_edit.specs.{IsCounted}
 use Rattle.delaunay_edit.proofs.Delaunay.{counted_empty, none_without_edges}
-use Rattle.delaunay_edit.proofs.WellFormed.{is_delaunay}
+use Rattle.{delaunay_edit.proofs.WellFormed.is_delaunay, delaunay_legalization.specs.state_of}
 use Rattle.delaunay_interface.proofs.shared_calls.TriangulationCoreTriangulation.clear.Given.{Over}
-use Rattle.delaunay_interface.proofs.shared_calls.TriangulationCoreTriangulation.clear.Goals.{After-clear}
 use Rattle.delaunay_interface.proofs.shared_calls.TriangulationCoreTriangulation.clear.Goals as goal
+use Rattle.delaunay_interface.proofs.shared_calls.TriangulationCoreTriangulation.clear.Goals.{After-clear}
 
 -- there is no constraint
 counted : (g : Over) (c : After-clear g) → IsCounted g.V.HasPosition.place

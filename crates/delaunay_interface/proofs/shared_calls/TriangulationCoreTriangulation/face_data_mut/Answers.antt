@@ -1,9 +1,7 @@
 use Rattle.std.proofs.Common.{◌≡◌, ◌∙◌, ℕ, zero, suc, refl, ap}
-use Rattle.delaunay_edit.specs.half_edge_dcel.Contents.{Contents}
-use Rattle.delaunay_edit.specs.half_edge_dcel.Writing.{with_face}
-use Rattle.delaunay_edit.specs.Writing.{with_face_data}
+use Rattle.half_edge_dcel.specs.{Contents, with_face}
+use Rattle.{delaunay_edit.specs.with_face_data, delaunay_interface.proofs.Kept.held_of_same}
 use Rattle.delaunay_edit.proofs.OtherData.{counted_with_face, face_written}
-use Rattle.delaunay_interface.proofs.Kept.{held_of_same}
 use Rattle.delaunay_interface.proofs.shared_calls.TriangulationCoreTriangulation.face_data_mut.Goals as goal
 
 -- other data of a face leave the vertices

@@ -1,5 +1,4 @@
-use Rattle.delaunay_edit.proofs.Delaunay.{counted_empty}
-use Rattle.delaunay_edit.proofs.WellFormed.{is_delaunay}
+use Rattle.delaunay_edit.proofs.{Delaunay.counted_empty, WellFormed.is_delaunay}
 use Rattle.delaunay_interface.proofs.shared_calls.TriangulationCoreTriangulation.new.Goals as goal
 
 pub invariant_of-result : goal.invariant_of-result

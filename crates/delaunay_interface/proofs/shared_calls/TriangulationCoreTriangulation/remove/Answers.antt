@@ -1,19 +1,16 @@
 use Rattle.std.proofs.Common.{◌*◌, ◌≤◌, ◌∙◌, length, sym, ap, arith}
 use Rattle.std.proofs.lemmas.Bool.{eqb-true}
 use Rattle.std.proofs.lemmas.Option.{IfSome_then}
-use Rattle.delaunay_edit.specs.delaunay_legalization.State.{state_of}
-use Rattle.delaunay_edit.proofs.MovedEdges.{fewer_fit}
-use Rattle.delaunay_edit.proofs.delaunay_vertices_lemmas.Passing.{fails_only_at, passes_but}
-use Rattle.delaunay_edit.proofs.EmptyRound.{none_counted}
+use Rattle.delaunay_vertices.proofs.Passing.{fails_only_at, passes_but}
+use Rattle.delaunay_edit.proofs.{EmptyRound.none_counted, Removing.fewer_left, Removing.sites_left}
 use Rattle.delaunay_edit.proofs.FreeRemoval.{free_circles, sides_settle}
-use Rattle.delaunay_edit.proofs.Removing.{fewer_left, sites_left}
-use Rattle.delaunay_edit.proofs.Settling.{IsTakenOut, can_settle, taken_out}
-use Rattle.delaunay_edit.proofs.WellFormed.{is_delaunay}
+use Rattle.delaunay_edit.proofs.{MovedEdges.fewer_fit, WellFormed.is_delaunay}
+use Rattle.delaunay_edit.proofs.Settling.{can_settle, IsTakenOut, taken_out}
 use Rattle.delaunay_interface.proofs.Held.{held_after_removal, held_are_sites, removed_is_site}
-use Rattle.delaunay_interface.proofs.Held.{swapped_is_site}
+use Rattle.{delaunay_interface.proofs.Held.swapped_is_site, delaunay_legalization.specs.state_of}
 use Rattle.delaunay_interface.proofs.shared_calls.TriangulationCoreTriangulation.remove.Given.{Over}
-use Rattle.delaunay_interface.proofs.shared_calls.TriangulationCoreTriangulation.remove.Goals.{After-settle}
 use Rattle.delaunay_interface.proofs.shared_calls.TriangulationCoreTriangulation.remove.Goals as goal
+use Rattle.delaunay_interface.proofs.shared_calls.TriangulationCoreTriangulation.remove.Goals.{After-settle}
 
 -- what the removal, and the flips after it, make of the mesh
 taken : (g : Over) (c : After-settle g) → IsTakenOut g.V.HasPosition.place

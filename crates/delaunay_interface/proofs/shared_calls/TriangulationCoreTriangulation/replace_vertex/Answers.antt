@@ -1,13 +1,10 @@
 use Rattle.std.proofs.Common.{ap}
-use Rattle.delaunay_edit.specs.delaunay_legalization.State.{state_of}
-use Rattle.delaunay_edit.specs.Counting.{IsCounted}
-use Rattle.delaunay_edit.proofs.Delaunay.{counted_overwritten}
-use Rattle.delaunay_edit.proofs.Overwriting.{overwriting_replaces}
-use Rattle.delaunay_edit.proofs.WellFormed.{is_delaunay}
-use Rattle.delaunay_interface.proofs.Held.{held_overwritten}
+use Rattle.delaunay_edit.proofs.{Delaunay.counted_overwritten, Overwriting.overwriting_replaces}
+use Rattle.{delaunay_edit.proofs.WellFormed.is_delaunay, delaunay_edit.specs.IsCounted}
+use Rattle.{delaunay_interface.proofs.Held.held_overwritten, delaunay_legalization.specs.state_of}
 use Rattle.delaunay_interface.proofs.shared_calls.TriangulationCoreTriangulation.replace_vertex.Given.{Over}
-use Rattle.delaunay_interface.proofs.shared_calls.TriangulationCoreTriangulation.replace_vertex.Goals.{After-update_vertex}
 use Rattle.delaunay_interface.proofs.shared_calls.TriangulationCoreTriangulation.replace_vertex.Goals as goal
+use Rattle.delaunay_interface.proofs.shared_calls.TriangulationCoreTriangulation.replace_vertex.Goals.{After-update_vertex}
 
 -- there are as many constraints
 counted : (g : Over) (c : After-update_vertex g) → IsCounted g.V.HasPosition.place

@@ -1,7 +1,6 @@
 use Rattle.std.proofs.Common.{ap, subst, sym}
-use Rattle.delaunay_edit.specs.delaunay_legalization.State.{state_of}
-use Rattle.delaunay_edit.specs.Counting.{IsCounted}
-use Rattle.delaunay_interface.proofs.Kept.{held_of_same}
+use Rattle.delaunay_edit.specs.{IsCounted}
+use Rattle.{delaunay_interface.proofs.Kept.held_of_same, delaunay_legalization.specs.state_of}
 use Rattle.delaunay_interface.proofs.shared_calls.TriangulationCoreTriangulation.with_capacity.Goals as goal
 
 pub invariant_of-made : goal.invariant_of-made

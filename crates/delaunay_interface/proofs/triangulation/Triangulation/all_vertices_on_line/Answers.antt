@@ -2,12 +2,10 @@ use Rattle.std.proofs.Common.{◌≡◌, ℕ, length, eqb, refl, sym, ap, ◌∙
 use Rattle.std.specs.Prelude.{◌↔◌, IsTrue}
 use Rattle.std.proofs.lemmas.Bool.{eq-eqb, eqb-true}
 use Rattle.std.proofs.lemmas.List.{nil_from_length}
-use Rattle.delaunay_edit.specs.plane.Side.{left, on}
-use Rattle.delaunay_edit.specs.plane.Tiling.{Triangulation, IsTiling, vertex}
-use Rattle.delaunay_edit.proofs.plane_theorems.Delaunay.Circles.EmptyCircles.{no_face}
-use Rattle.delaunay_edit.proofs.plane_theorems.Delaunay.Tilings.Ground.{tiling}
-use Rattle.delaunay_edit.proofs.Counts.{count_of_faces}
-use Rattle.delaunay_interface.specs.Views.{AreOnLine}
+use Rattle.plane.specs.{IsTiling, left, on, Triangulation, vertex}
+use Rattle.plane_theorems.proofs.Delaunay.Circles.EmptyCircles.{no_face}
+use Rattle.plane_theorems.proofs.Delaunay.Tilings.Ground.{tiling}
+use Rattle.{delaunay_edit.proofs.Counts.count_of_faces, delaunay_interface.specs.Views.AreOnLine}
 use Rattle.delaunay_interface.proofs.triangulation.Triangulation.all_vertices_on_line.Goals as goal
 
 -- all vertices are on one line where there is no face, and nowhere else

@@ -1,9 +1,9 @@
 use Rattle.std.proofs.Common.{◌≡◌, ◌*◌, ◌+◌, ◌∙◌, length, ap, arith}
-use Rattle.delaunay_edit.specs.delaunay_legalization.Drawn.{outer_of}
-use Rattle.delaunay_edit.proofs.HullSizes.{sides_and_outer, counts_outer}
+use Rattle.delaunay_legalization.specs.{outer_of}
+use Rattle.delaunay_edit.proofs.HullSizes.{counts_outer, sides_and_outer}
 use Rattle.delaunay_interface.proofs.triangulation.Triangulation.convex_hull_size.Given.{Over}
-use Rattle.delaunay_interface.proofs.triangulation.Triangulation.convex_hull_size.Goals.{After-num_inner_faces}
 use Rattle.delaunay_interface.proofs.triangulation.Triangulation.convex_hull_size.Goals as goal
+use Rattle.delaunay_interface.proofs.triangulation.Triangulation.convex_hull_size.Goals.{After-num_inner_faces}
 
 -- the directed edges are the sides of faces and the outer edges
 ways : (g : Over) (c : After-num_inner_faces g)

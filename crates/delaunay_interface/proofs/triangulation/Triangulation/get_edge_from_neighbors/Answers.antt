@@ -1,11 +1,10 @@
 use Rattle.std.proofs.Common.{◌≡◌, ℕ, Option, Some, None, refl}
 use Rattle.std.specs.Prelude.{IfSome, IfNone, MatchOption}
 use Rattle.std.specs.Borrow.{Bor}
-use Rattle.delaunay_edit.specs.half_edge_dcel.Contents.{Contents}
-use Rattle.delaunay_edit.specs.half_edge_links.Mesh.{origin, rev}
-use Rattle.delaunay_edit.specs.half_edge_dcel.declared.edge.DirectedEdgeHandle.{DirectedEdgeHandle}
-use Rattle.delaunay_edit.specs.delaunay_legalization.State.{state_of}
-use Rattle.delaunay_interface.specs.Views.{AreNotJoined, IsEdgeBetween}
+use Rattle.half_edge_links.specs.{origin, rev}
+use Rattle.half_edge_dcel.specs.{Contents, DirectedEdgeHandle}
+use Rattle.delaunay_legalization.specs.{state_of}
+use Rattle.delaunay_interface.specs.{AreNotJoined, IsEdgeBetween}
 use Rattle.delaunay_interface.proofs.triangulation.Triangulation.get_edge_from_neighbors.Goals as goal
 
 -- an edge that a mesh has, or that it has none, said of the triangulation that it holds

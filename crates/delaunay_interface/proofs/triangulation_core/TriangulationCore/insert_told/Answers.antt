@@ -3,24 +3,18 @@ use Rattle.std.proofs.Common.{arith}
 use Rattle.std.specs.Prelude.{Ok}
 use Rattle.std.proofs.lemmas.Bool.{eqb-true}
 use Rattle.std.proofs.lemmas.Result.{err_from_is_err_and}
-use Rattle.delaunay_edit.specs.delaunay_legalization.State.{state_of}
-use Rattle.delaunay_edit.specs.half_edge_links.Room.{HasRoomFor}
-use Rattle.delaunay_edit.specs.Counting.{IsCounted}
-use Rattle.delaunay_edit.specs.Edits.{AppendsVertex, CanAppend, InsertsVertex}
-use Rattle.delaunay_edit.proofs.delaunay_location_lemmas.Walking.{apart_elsewhere}
-use Rattle.delaunay_edit.proofs.Delaunay.{counted_overwritten}
-use Rattle.delaunay_edit.proofs.EmptyRound.{none_counted}
+use Rattle.{delaunay_legalization.specs.state_of, delaunay_location.proofs.Walking.apart_elsewhere}
+use Rattle.delaunay_edit.specs.{Edits.AppendsVertex, Edits.CanAppend, InsertsVertex, IsCounted}
+use Rattle.delaunay_edit.proofs.{Delaunay.counted_overwritten, Overwriting.overwriting_replaces}
+use Rattle.delaunay_edit.proofs.{EmptyRound.none_counted, Vertices.here_if_on_vertex}
 use Rattle.delaunay_edit.proofs.Inserting.{appended, overwritten, refused, refused_far}
-use Rattle.delaunay_edit.proofs.Overwriting.{overwriting_replaces}
-use Rattle.delaunay_edit.proofs.Recounted.{few_counted}
-use Rattle.delaunay_edit.proofs.Vertices.{here_if_on_vertex}
-use Rattle.delaunay_edit.proofs.WellFormed.{is_delaunay}
+use Rattle.delaunay_edit.proofs.{Recounted.few_counted, WellFormed.is_delaunay}
 use Rattle.delaunay_interface.proofs.Held.{held_after_insertion, held_are_sites, held_overwritten}
-use Rattle.delaunay_interface.proofs.Kept.{held_of_same}
+use Rattle.{delaunay_interface.proofs.Kept.held_of_same, half_edge_links.specs.HasRoomFor}
 use Rattle.delaunay_interface.proofs.triangulation_core.TriangulationCore.insert_told.Given.{Over}
-use Rattle.delaunay_interface.proofs.triangulation_core.TriangulationCore.insert_told.Goals.{After-reserve_for_vertices}
-use Rattle.delaunay_interface.proofs.triangulation_core.TriangulationCore.insert_told.Goals.{After-insert_at-more}
 use Rattle.delaunay_interface.proofs.triangulation_core.TriangulationCore.insert_told.Goals as goal
+use Rattle.delaunay_interface.proofs.triangulation_core.TriangulationCore.insert_told.Goals.{After-insert_at-more}
+use Rattle.delaunay_interface.proofs.triangulation_core.TriangulationCore.insert_told.Goals.{After-reserve_for_vertices}
 
 -- ---- a vertex is there
 pub update_vertex-requires : goal.update_vertex-requires

@@ -1,5 +1,5 @@
 use Rattle.std.proofs.Common.{◌∙◌, refl, arith}
-use Rattle.delaunay_interface.proofs.delaunay_legalization_lemmas.Questions.{both_ways}
+use Rattle.delaunay_legalization.proofs.{both_ways}
 use Rattle.delaunay_journal.proofs.SingleEdits.{edge_joined_by, joined_by_edge, pair_joined}
 use Rattle.delaunay_journal.proofs.SingleEdits.{pair_released, unjoined_is_free}
 use Rattle.delaunay_journal.proofs.replayable.ConstrainedDelaunayTriangulationReplayable.change_pair.Goals as goal

@@ -1,5 +1,5 @@
 use Rattle.std.proofs.Common.{sym}
-use Rattle.delaunay_legalization.proofs.AmongSides.{listing_begins, listing_goes_on, listing_ends}
+use Rattle.delaunay_legalization.proofs.AmongSides.{listing_begins, listing_ends, listing_goes_on}
 use Rattle.delaunay_legalization.proofs.edge_set.EdgeSet.list_again.Goals as goal
 
 pub loop-i-init : goal.loop-i-init

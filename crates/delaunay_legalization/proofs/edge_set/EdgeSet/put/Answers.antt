@@ -1,9 +1,8 @@
 use Rattle.std.proofs.Common.{arith, refl}
 use Rattle.std.proofs.lemmas.List.{length-set}
-use Rattle.delaunay_legalization.proofs.MeshLegal.{gains_last, gains_none}
-use Rattle.delaunay_legalization.proofs.Bits.{one_bit_more}
+use Rattle.delaunay_legalization.proofs.{Bits.one_bit_more, EdgeSets.one_flagged_more}
 use Rattle.delaunay_legalization.proofs.EdgeSets.{listed_by, not_listed_by, one_fits}
-use Rattle.delaunay_legalization.proofs.EdgeSets.{one_flagged_more}
+use Rattle.delaunay_legalization.proofs.MeshLegal.{gains_last, gains_none}
 use Rattle.delaunay_legalization.proofs.edge_set.EdgeSet.put.Goals as goal
 
 pub returns-then-word-index-eq1 : goal.returns-then-word-index-eq1

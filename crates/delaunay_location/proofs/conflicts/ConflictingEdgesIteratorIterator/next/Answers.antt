@@ -1,6 +1,6 @@
 use Rattle.std.proofs.Common.{arith, rules}
-use Rattle.delaunay_location.proofs.ConflictSearch.{searching_begins, searching_goes_on}
-use Rattle.delaunay_location.proofs.ConflictSearch.{searching_ends, found}
+use Rattle.delaunay_location.proofs.ConflictSearch.{found, searching_begins, searching_ends}
+use Rattle.delaunay_location.proofs.ConflictSearch.{searching_goes_on}
 use Rattle.delaunay_location.proofs.conflicts.ConflictingEdgesIteratorIterator.next.Goals as goal
 
 pub loop-item-init : goal.loop-item-init

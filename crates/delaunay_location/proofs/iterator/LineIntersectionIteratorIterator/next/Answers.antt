@@ -1,9 +1,8 @@
 use Rattle.std.proofs.Common.{rules, arith}
-use Rattle.delaunay_location.specs.delaunay_core.Place.{place_of}
-use Rattle.delaunay_location.proofs.SegmentTests.{unless}
-use Rattle.delaunay_location.proofs.Turn.{IsAfterItem, IsItemIn, alone_after, apart_after, at_item}
-use Rattle.delaunay_location.proofs.Turn.{counts_more, edge_found, gives_some, overlap_found}
-use Rattle.delaunay_location.proofs.Turn.{ready_after, vertex_found}
+use Rattle.{delaunay_core.specs.place_of, delaunay_location.proofs.SegmentTests.unless}
+use Rattle.delaunay_location.proofs.Turn.{alone_after, apart_after, at_item, counts_more}
+use Rattle.delaunay_location.proofs.Turn.{edge_found, gives_some, IsAfterItem, IsItemIn}
+use Rattle.delaunay_location.proofs.Turn.{overlap_found, ready_after, vertex_found}
 use Rattle.delaunay_location.proofs.iterator.LineIntersectionIteratorIterator.next.Goals as goal
 
 pub after_crossing-next-requires : goal.after_crossing-next-requires

@@ -1,5 +1,4 @@
-use Rattle.delaunay_interface.specs.delaunay_core.Place.{place_of}
-use Rattle.delaunay_shapes.proofs.Shapes.{rectangle_begins}
+use Rattle.{delaunay_core.specs.place_of, delaunay_shapes.proofs.Shapes.rectangle_begins}
 use Rattle.delaunay_queries.proofs.Calls.{lower_corner, same_corners, upper_corner}
 use Rattle.delaunay_queries.proofs.float_triangulation.FloatTriangulation.get_vertices_in_rectangle.Goals as goal
 

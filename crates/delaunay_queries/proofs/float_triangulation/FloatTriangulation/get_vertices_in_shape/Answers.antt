@@ -1,4 +1,4 @@
-use Rattle.delaunay_queries.proofs.Calls.{vertices_found, kept_in_mesh, sites_in_mesh}
+use Rattle.delaunay_queries.proofs.Calls.{kept_in_mesh, sites_in_mesh, vertices_found}
 use Rattle.delaunay_queries.proofs.float_triangulation.FloatTriangulation.get_vertices_in_shape.Goals as goal
 
 pub vertices_in_shape-requires-clause-kept : goal.vertices_in_shape-requires-clause-kept

@@ -1,6 +1,6 @@
 use Rattle.std.proofs.Common.{◌≡◌, ◌∙◌, set, ap, sym}
 use Rattle.std.proofs.lemmas.Result.{on_ok_weaker}
-use Rattle.delaunay_interface.specs.half_edge_links.Mesh.{face, rev, next, prev, face_edge}
+use Rattle.half_edge_links.specs.{face, face_edge, next, prev, rev}
 use Rattle.delaunay_queries.proofs.Searching.{crossing_passes, crossing_steps, edge_there}
 use Rattle.delaunay_queries.proofs.search.LayerSearch.cross.Goals as goal
 

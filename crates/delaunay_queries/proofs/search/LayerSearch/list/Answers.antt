@@ -1,5 +1,5 @@
 use Rattle.std.proofs.Common.{ℕ, ◌/◌, ◌∙◌, refl, ap}
-use Rattle.delaunay_queries.proofs.Searching.{counted, not_counted, listed_now, listed_later}
+use Rattle.delaunay_queries.proofs.Searching.{counted, listed_later, listed_now, not_counted}
 use Rattle.delaunay_queries.proofs.search.LayerSearch.list.Goals as goal
 
 pub returns-in_ok-push-clause-lists : goal.returns-in_ok-push-clause-lists

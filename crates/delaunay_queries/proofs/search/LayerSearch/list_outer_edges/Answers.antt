@@ -1,10 +1,8 @@
 use Rattle.std.proofs.Common.{◌<◌, ◌≡◌, ◌∙◌, length, arith, ap, sym, subst}
-use Rattle.delaunay_interface.specs.half_edge_links.Mesh.{face}
-use Rattle.delaunay_queries.specs.Search.{PutsIn}
+use Rattle.{delaunay_queries.specs.PutsIn, half_edge_links.specs.face}
 use Rattle.delaunay_queries.proofs.Searching.{puts_more, puts_no_more, puts_none}
-use Rattle.delaunay_queries.proofs.search.LayerSearch.list_outer_edges.Goals.{then-is_outer_edge+in_ok-list}
-use Rattle.delaunay_queries.proofs.search.LayerSearch.list_outer_edges.Goals.{else-is_outer_edge}
 use Rattle.delaunay_queries.proofs.search.LayerSearch.list_outer_edges.Goals as goal
+use goal.{else-is_outer_edge, then-is_outer_edge+in_ok-list}
 
 pub loop-index-init : goal.loop-index-init
 loop-index-init g c = puts_none c.args.dcel.now.mesh

@@ -1,5 +1,4 @@
-use Rattle.delaunay_queries.specs.Search.{PutsIn}
-use Rattle.delaunay_queries.proofs.Searching.{IsOuterBelow}
+use Rattle.{delaunay_queries.proofs.Searching.IsOuterBelow, delaunay_queries.specs.PutsIn}
 use Rattle.delaunay_queries.proofs.search.LayerSearch.list_outer_edges.Given as goal
 
 abbrev pub invariant-loop-index : goal.invariant-loop-index

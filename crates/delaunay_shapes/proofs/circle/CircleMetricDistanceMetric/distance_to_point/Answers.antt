@@ -1,9 +1,6 @@
 use Rattle.std.proofs.Common.{rules}
-use Rattle.delaunay_location.specs.plane.Fraction.{whole}
-use Rattle.delaunay_location.proofs.plane.Nearer.{gap_not_negative}
-use Rattle.delaunay_location.specs.delaunay_core.Place.{place_of}
-use Rattle.delaunay_shapes.proofs.Circles.{rim_inside}
-use Rattle.delaunay_shapes.proofs.Rims.{rim_fits, rim_is}
+use Rattle.{delaunay_core.specs.place_of, plane.proofs.gap_not_negative, plane.specs.whole}
+use Rattle.delaunay_shapes.proofs.{Circles.rim_inside, Rims.rim_fits, Rims.rim_is}
 use Rattle.delaunay_shapes.proofs.circle.CircleMetricDistanceMetric.distance_to_point.Goals as goal
 
 pub overflow_sub-result : goal.overflow_sub-result

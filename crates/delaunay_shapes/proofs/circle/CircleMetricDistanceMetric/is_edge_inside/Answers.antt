@@ -1,4 +1,4 @@
-use Rattle.delaunay_location.specs.delaunay_core.Place.{place_of}
+use Rattle.delaunay_core.specs.{place_of}
 use Rattle.delaunay_shapes.proofs.Circles.{near_answer, near_inside}
 use Rattle.delaunay_shapes.proofs.circle.CircleMetricDistanceMetric.is_edge_inside.Goals as goal
 

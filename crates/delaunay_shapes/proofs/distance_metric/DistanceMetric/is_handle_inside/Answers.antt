@@ -1,5 +1,5 @@
 use Rattle.std.proofs.Common.{map}
-use Rattle.delaunay_shapes.proofs.Handles.{start_is, end_is, ends_told}
+use Rattle.delaunay_shapes.proofs.Handles.{end_is, ends_told, start_is}
 use Rattle.delaunay_shapes.proofs.distance_metric.DistanceMetric.is_handle_inside.Goals as goal
 
 pub is_edge_inside-requires-clause-start_covered : goal.is_edge_inside-requires-clause-start_covered

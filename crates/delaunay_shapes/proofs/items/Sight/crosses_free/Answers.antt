@@ -1,4 +1,4 @@
-use Rattle.delaunay_shapes.proofs.Crossed.{second_decides, not_crossed, crossed_within}
+use Rattle.delaunay_shapes.proofs.Crossed.{crossed_within, not_crossed, second_decides}
 use Rattle.delaunay_shapes.proofs.items.Sight.crosses_free.Goals as goal
 
 pub returns-then-is_free_unless_on : goal.returns-then-is_free_unless_on

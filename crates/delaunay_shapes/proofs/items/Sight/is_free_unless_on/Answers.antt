@@ -1,4 +1,4 @@
-use Rattle.delaunay_location.proofs.delaunay_legalization_lemmas.Questions.{both_ways}
+use Rattle.delaunay_legalization.proofs.{both_ways}
 use Rattle.delaunay_shapes.proofs.items.Sight.is_free_unless_on.Goals as goal
 
 pub returns-else-is_on_line : goal.returns-else-is_on_line

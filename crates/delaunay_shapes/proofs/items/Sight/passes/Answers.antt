@@ -1,7 +1,6 @@
 use Rattle.std.proofs.Common.{◌∙◌, ap, sym}
-use Rattle.delaunay_location.specs.Items.{mesh_of}
+use Rattle.{delaunay_location.specs.mesh_of, delaunay_shapes.proofs.Crossed.overlap_item}
 use Rattle.delaunay_shapes.proofs.Crossed.{along_iff, crossed_within, crossing_item, iff_through}
-use Rattle.delaunay_shapes.proofs.Crossed.{overlap_item}
 use Rattle.delaunay_shapes.proofs.items.Sight.passes.Goals as goal
 
 pub returns-in-EdgeIntersection : goal.returns-in-EdgeIntersection

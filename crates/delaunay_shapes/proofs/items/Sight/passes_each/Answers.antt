@@ -1,8 +1,7 @@
 use Rattle.std.proofs.Common.{◌∙◌, ap}
-use Rattle.delaunay_location.proofs.delaunay_legalization_lemmas.Questions.{both_ways}
-use Rattle.delaunay_shapes.proofs.Crossed.{false_tells, true_tells}
-use Rattle.delaunay_shapes.proofs.Walks.{walking_begins, walking_goes_on, item_mesh}
-use Rattle.delaunay_shapes.proofs.Walks.{stops_at, walking_ends}
+use Rattle.delaunay_legalization.proofs.{both_ways}
+use Rattle.delaunay_shapes.proofs.{Crossed.false_tells, Crossed.true_tells, Walks.walking_goes_on}
+use Rattle.delaunay_shapes.proofs.Walks.{item_mesh, stops_at, walking_begins, walking_ends}
 use Rattle.delaunay_shapes.proofs.items.Sight.passes_each.Goals as goal
 
 pub loop-item-init : goal.loop-item-init

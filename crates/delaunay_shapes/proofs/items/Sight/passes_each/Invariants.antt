@@ -1,5 +1,4 @@
-use Rattle.delaunay_shapes.specs.Passing.{Passes}
-use Rattle.delaunay_shapes.proofs.Walks.{IsWalking}
+use Rattle.{delaunay_shapes.proofs.Walks.IsWalking, delaunay_shapes.specs.Passing.Passes}
 use Rattle.delaunay_shapes.proofs.items.Sight.passes_each.Given as goal
 
 abbrev pub invariant-loop-item : goal.invariant-loop-item

@@ -1,7 +1,7 @@
 use Rattle.std.proofs.Common.{◌≡◌, ◌∙◌, ◌/◌, ◌-◌, suc, get_or, sym, arith}
 use Rattle.std.proofs.lemmas.Bool.{le-ltb}
 use Rattle.std.proofs.lemmas.List.{get_or_past}
-use Rattle.delaunay_shapes.specs.Marks.{has_mark}
+use Rattle.delaunay_shapes.specs.{has_mark}
 use Rattle.delaunay_shapes.proofs.Marking.{entry_read, mark_read, no_page, page_read}
 use Rattle.delaunay_shapes.proofs.marks.Marks.is_marked.Goals as goal
 

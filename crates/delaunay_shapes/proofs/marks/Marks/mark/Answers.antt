@@ -1,8 +1,8 @@
 use Rattle.std.proofs.Common.{◌≡◌, ◌∙◌, set, ap, subst, arith}
 use mathlib.Core.Bool.{true}
 use Rattle.std.specs.Prelude.{cond, nat_eq}
-use Rattle.delaunay_shapes.specs.Marks.{has_mark, tests_below}
-use Rattle.delaunay_shapes.proofs.Marking.{one_more, one_mark_more}
+use Rattle.{delaunay_shapes.specs.has_mark, delaunay_shapes.specs.Marks.tests_below}
+use Rattle.delaunay_shapes.proofs.Marking.{one_mark_more, one_more}
 use Rattle.delaunay_shapes.proofs.marks.Marks.mark.Goals as goal
 
 pub returns : goal.returns

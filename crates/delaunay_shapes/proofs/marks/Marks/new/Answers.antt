@@ -1,5 +1,5 @@
 use Rattle.std.proofs.Common.{refl}
-use Rattle.delaunay_shapes.specs.Marks.{has_mark}
+use Rattle.delaunay_shapes.specs.{has_mark}
 use Rattle.delaunay_shapes.proofs.Marking.{no_page, no_places, none_passes}
 use Rattle.delaunay_shapes.proofs.marks.Marks.new.Goals as goal
 

@@ -1,4 +1,4 @@
-use Rattle.delaunay_shapes.proofs.Rectangles.{between_told, beside_told}
+use Rattle.delaunay_shapes.proofs.Rectangles.{beside_told, between_told}
 use Rattle.delaunay_shapes.proofs.rectangle.RectangleMetric.has.Goals as goal
 
 pub returns-then-lies_between : goal.returns-then-lies_between

@@ -1,7 +1,7 @@
 use Rattle.std.proofs.Common.{◌∙◌, sym}
-use Rattle.delaunay_shapes.proofs.Rectangles.{start_meets, end_meets}
-use Rattle.delaunay_shapes.proofs.rectangle.RectangleMetric.meets.Goals.{then-has, else-has}
+use Rattle.delaunay_shapes.proofs.Rectangles.{end_meets, start_meets}
 use Rattle.delaunay_shapes.proofs.rectangle.RectangleMetric.meets.Goals as goal
+use goal.{else-has, then-has}
 
 pub returns-then-has-2 : goal.returns-then-has-2
 returns-then-has-2 g c = elim c.if-has.branch [

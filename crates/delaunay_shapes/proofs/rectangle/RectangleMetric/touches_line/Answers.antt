@@ -1,5 +1,5 @@
 use Rattle.std.proofs.Common.{arith}
-use Rattle.delaunay_location.specs.delaunay_core.Place.{place_of}
+use Rattle.delaunay_core.specs.{place_of}
 use Rattle.delaunay_shapes.proofs.rectangle.RectangleMetric.touches_line.Goals as goal
 
 pub side_of-lower_left-requires-clause-corner_covered :

@@ -1,8 +1,7 @@
 use Rattle.std.proofs.Common.{◌∙◌, ap, rules}
-use Rattle.delaunay_location.specs.delaunay_core.Place.{place_of}
-use Rattle.delaunay_location.proofs.delaunay_core_lemmas.Projections.{gap_passes}
-use Rattle.delaunay_shapes.proofs.Distances.{IsNearestIn, nearest_in_range, nearest_value}
-use Rattle.delaunay_shapes.proofs.Distances.{nearest_distance, nearest_inside}
+use Rattle.{delaunay_core.proofs.Projections.gap_passes, delaunay_core.specs.place_of}
+use Rattle.delaunay_shapes.proofs.Distances.{IsNearestIn, nearest_distance, nearest_in_range}
+use Rattle.delaunay_shapes.proofs.Distances.{nearest_inside, nearest_value}
 use Rattle.delaunay_shapes.proofs.rectangle.RectangleMetricDistanceMetric.distance_to_point.Goals as goal
 
 pub returns : goal.returns

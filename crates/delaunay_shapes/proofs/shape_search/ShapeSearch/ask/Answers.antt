@@ -1,6 +1,5 @@
 use Rattle.std.proofs.Common.{◌∙◌, sym, ap, get_or, false}
-use Rattle.delaunay_shapes.proofs.Asking.{asked_before}
-use Rattle.delaunay_shapes.proofs.Handles.{not_asked}
+use Rattle.delaunay_shapes.proofs.{Asking.asked_before, Handles.not_asked}
 use Rattle.delaunay_shapes.proofs.shape_search.ShapeSearch.ask.Goals as goal
 
 pub ask_new-requires-clause-new : goal.ask_new-requires-clause-new

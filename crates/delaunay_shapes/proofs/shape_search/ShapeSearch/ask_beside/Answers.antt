@@ -1,6 +1,5 @@
-use Rattle.delaunay_shapes.proofs.Asking.{asked_both}
+use Rattle.delaunay_shapes.proofs.{Asking.asked_both, Handles.after_is, Handles.before_is}
 use Rattle.delaunay_shapes.proofs.FirstEdges.{on_ok}
-use Rattle.delaunay_shapes.proofs.Handles.{after_is, before_is}
 use Rattle.delaunay_shapes.proofs.shape_search.ShapeSearch.ask_beside.Goals as goal
 
 pub returns : goal.returns

@@ -1,6 +1,5 @@
 use Rattle.std.proofs.Common.{ℕ, [], ◌∷◌, ◌++◌, ◌∙◌, ap}
-use Rattle.delaunay_shapes.proofs.Asking.{asked_inside, asked_outside}
-use Rattle.delaunay_shapes.proofs.Handles.{marked_by}
+use Rattle.delaunay_shapes.proofs.{Asking.asked_inside, Asking.asked_outside, Handles.marked_by}
 use Rattle.delaunay_shapes.proofs.shape_search.ShapeSearch.ask_new.Goals as goal
 
 pub returns-in_ok-push : goal.returns-in_ok-push

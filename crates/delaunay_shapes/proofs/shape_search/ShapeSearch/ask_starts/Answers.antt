@@ -1,7 +1,6 @@
 use Rattle.std.proofs.Common.{ℕ, ◌/◌, ◌∙◌, ap}
-use Rattle.delaunay_shapes.proofs.Asking.{ask_first, ask_more, ask_last}
-use Rattle.delaunay_shapes.proofs.Flooding.{half_of_even}
-use Rattle.delaunay_shapes.proofs.Starting.{begun_by_starts}
+use Rattle.delaunay_shapes.proofs.Asking.{ask_first, ask_last, ask_more}
+use Rattle.delaunay_shapes.proofs.{Flooding.half_of_even, Starting.begun_by_starts}
 use Rattle.delaunay_shapes.proofs.shape_search.ShapeSearch.ask_starts.Goals as goal
 
 pub loop-edge-init : goal.loop-edge-init

@@ -1,9 +1,7 @@
 use Rattle.std.proofs.Common.{ℕ, ◌<◌, get_or, map, subst, sym, ap}
-use Rattle.delaunay_shapes.specs.InShape.{undirected_of}
-use Rattle.delaunay_shapes.proofs.Asking.{none_asked}
-use Rattle.delaunay_shapes.proofs.Flooding.{begun_finds_all}
-use Rattle.delaunay_shapes.proofs.Searches.{search_of}
-use Rattle.delaunay_shapes.proofs.Spreading.{found_within}
+use Rattle.delaunay_shapes.specs.{undirected_of}
+use Rattle.delaunay_shapes.proofs.{Asking.none_asked, Searches.search_of}
+use Rattle.delaunay_shapes.proofs.{Flooding.begun_finds_all, Spreading.found_within}
 use Rattle.delaunay_shapes.proofs.shape_search.ShapeSearch.edges_from.Goals as goal
 
 pub ask_starts-requires : goal.ask_starts-requires

@@ -1,7 +1,6 @@
 use Rattle.std.proofs.Common.{ℕ, ◌*◌, ◌∙◌, ap, arith}
-use Rattle.delaunay_location.specs.half_edge_links.Mesh.{rev}
-use Rattle.delaunay_shapes.proofs.FirstEdges.{on_ok}
-use Rattle.delaunay_shapes.proofs.VertexFlood.{ends_kept}
+use Rattle.half_edge_links.specs.{rev}
+use Rattle.delaunay_shapes.proofs.{FirstEdges.on_ok, VertexFlood.ends_kept}
 use Rattle.delaunay_shapes.proofs.shape_search.ShapeSearch.keep_ends.Goals as goal
 
 pub undirected_edge-requires : goal.undirected_edge-requires

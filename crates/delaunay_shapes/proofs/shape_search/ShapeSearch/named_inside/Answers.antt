@@ -1,8 +1,8 @@
 use Rattle.std.proofs.Common.{◌∙◌, [], sym, arith}
 use Rattle.std.proofs.lemmas.List.{append-nil}
-use Rattle.delaunay_shapes.specs.InShape.{undirected_of}
+use Rattle.delaunay_shapes.specs.{undirected_of}
 use Rattle.delaunay_shapes.proofs.Searches.{found_in, place_in, search_of}
-use Rattle.delaunay_shapes.proofs.VertexFlood.{named_first, named_on, named_last, starts_at}
+use Rattle.delaunay_shapes.proofs.VertexFlood.{named_first, named_last, named_on, starts_at}
 use Rattle.delaunay_shapes.proofs.shape_search.ShapeSearch.named_inside.Goals as goal
 
 pub loop-index-init : goal.loop-index-init

@@ -1,5 +1,4 @@
-use Rattle.delaunay_shapes.specs.InShape.{undirected_of}
-use Rattle.delaunay_shapes.specs.ShapeSearch.{EnclosesVertex}
+use Rattle.delaunay_shapes.specs.{ShapeSearch.EnclosesVertex, undirected_of}
 use Rattle.delaunay_shapes.proofs.VertexFlood.{AreNamedAmong, IsAmongFirst}
 use Rattle.delaunay_shapes.proofs.shape_search.ShapeSearch.named_inside.Given as goal
 

@@ -1,18 +1,13 @@
 use Rattle.std.proofs.Common.{arith}
-use Rattle.delaunay_location.specs.half_edge_dcel.Rounds.{hull_left}
-use Rattle.delaunay_location.proofs.delaunay_legalization_lemmas.OneOutline.{one_outline}
-use Rattle.delaunay_location.proofs.delaunay_legalization_lemmas.OutlineGiven.{along_begins}
-use Rattle.delaunay_location.proofs.delaunay_legalization_lemmas.OutlineGiven.{along_next}
-use Rattle.delaunay_location.proofs.delaunay_legalization_lemmas.OutlineGiven.{along_goes_on}
-use Rattle.delaunay_location.proofs.delaunay_legalization_lemmas.OutlineGiven.{along_ends}
-use Rattle.delaunay_location.proofs.delaunay_legalization_lemmas.Questions.{both_ways}
-use Rattle.delaunay_shapes.proofs.Searches.{search_of}
+use Rattle.delaunay_legalization.proofs.{along_ends, along_goes_on, along_next, both_ways}
+use Rattle.delaunay_legalization.proofs.{one_outline, OutlineGiven.along_begins}
+use Rattle.{delaunay_shapes.proofs.Searches.search_of, half_edge_dcel.specs.hull_left}
 use Rattle.delaunay_shapes.proofs.shape_search.ShapeSearch.outer_edge.Goals as goal
 
 pub loop-edge-init : goal.loop-edge-init
 loop-edge-init g c =
-    let kept = c.placed.invariant.kept in
-    rw (← c.self.view_is, ← c.placed.view_is) (along_begins c.placed.inside.dcel
+    let kept = c.embedding.invariant.kept in
+    rw (← c.self.view_is, ← c.embedding.view_is) (along_begins c.embedding.inside.dcel
     (hull_left c.into_iter-edge-iterator.result) _ kept.valid
     (one_outline _ _ kept.valid kept.shape)
     (rw c.into_iter-edge-iterator.ensures.into_iter_gives c.convex_hull-edge-items.ensures))

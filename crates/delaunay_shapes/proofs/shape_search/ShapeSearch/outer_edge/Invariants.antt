@@ -1,8 +1,6 @@
 use Rattle.std.proofs.Common.{ℕ, ◌/◌}
-use Rattle.delaunay_location.specs.half_edge_dcel.Rounds.{hull_left}
-use Rattle.delaunay_location.proofs.delaunay_legalization_lemmas.OutlineGiven.{IsGoingAlong}
-use Rattle.delaunay_location.proofs.delaunay_legalization_lemmas.OutlineGiven.{indexes}
-use Rattle.delaunay_shapes.specs.ShapeSearch.{EnclosesEdge}
+use Rattle.delaunay_legalization.proofs.{indexes, IsGoingAlong}
+use Rattle.{delaunay_shapes.specs.ShapeSearch.EnclosesEdge, half_edge_dcel.specs.hull_left}
 use Rattle.delaunay_shapes.proofs.shape_search.ShapeSearch.outer_edge.Given as goal
 
 abbrev pub invariant-loop-edge : goal.invariant-loop-edge

@@ -1,8 +1,7 @@
 use Rattle.std.proofs.Common.{◌∙◌, arith}
 use Rattle.delaunay_shapes.proofs.Asking.{goes_on_twice}
-use Rattle.delaunay_shapes.proofs.Handles.{found_fits}
+use Rattle.delaunay_shapes.proofs.{Handles.found_fits, Spreading.spread_ends, Spreading.spread_one}
 use Rattle.delaunay_shapes.proofs.Searches.{found_in, place_in, search_of}
-use Rattle.delaunay_shapes.proofs.Spreading.{spread_ends, spread_one}
 use Rattle.delaunay_shapes.proofs.shape_search.ShapeSearch.spread.Goals as goal
 
 pub directed_edge-requires : goal.directed_edge-requires

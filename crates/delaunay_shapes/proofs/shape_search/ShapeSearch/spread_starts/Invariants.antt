@@ -1,6 +1,5 @@
 use Rattle.std.proofs.Common.{length}
-use Rattle.delaunay_shapes.specs.Flood.{IsSpreadTo, Spreads}
-use Rattle.delaunay_shapes.specs.ShapeSearch.{IsFloodFor}
+use Rattle.delaunay_shapes.specs.{IsFloodFor, IsSpreadTo, Spreads}
 use Rattle.delaunay_shapes.proofs.shape_search.ShapeSearch.spread_starts.Given as goal
 
 abbrev pub invariant-loop-index : goal.invariant-loop-index

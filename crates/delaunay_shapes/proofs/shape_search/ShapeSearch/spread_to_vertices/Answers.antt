@@ -1,9 +1,7 @@
 use Rattle.std.proofs.Common.{◌≡◌, ℕ, ◌∙◌, length, subst, sym, arith}
-use Rattle.delaunay_shapes.specs.Flood.{IsSpreadTo}
-use Rattle.delaunay_shapes.proofs.Asking.{goes_on_twice}
-use Rattle.delaunay_shapes.proofs.Handles.{found_fits}
+use Rattle.{delaunay_shapes.proofs.Asking.goes_on_twice, delaunay_shapes.specs.IsSpreadTo}
+use Rattle.delaunay_shapes.proofs.{Handles.found_fits, Spreading.spread_ends, Spreading.spread_one}
 use Rattle.delaunay_shapes.proofs.Searches.{found_in, place_in, search_of}
-use Rattle.delaunay_shapes.proofs.Spreading.{spread_ends, spread_one}
 use Rattle.delaunay_shapes.proofs.VertexFlood.{named_before, named_last, named_on, starts_at}
 use Rattle.delaunay_shapes.proofs.shape_search.ShapeSearch.spread_to_vertices.Goals as goal
 

@@ -1,7 +1,6 @@
 use Rattle.std.proofs.Common.{◌-◌, length}
-use Rattle.delaunay_shapes.specs.Flood.{IsSpreadTo, Spreads}
-use Rattle.delaunay_shapes.specs.InShape.{undirected_of}
-use Rattle.delaunay_shapes.specs.ShapeSearch.{EnclosesVertex, IsFloodFor}
+use Rattle.delaunay_shapes.specs.{IsFloodFor, IsSpreadTo, Spreads, undirected_of}
+use Rattle.delaunay_shapes.specs.ShapeSearch.{EnclosesVertex}
 use Rattle.delaunay_shapes.proofs.VertexFlood.{AreNamedAmong, IsAmongFirst}
 use Rattle.delaunay_shapes.proofs.shape_search.ShapeSearch.spread_to_vertices.Given as goal
 

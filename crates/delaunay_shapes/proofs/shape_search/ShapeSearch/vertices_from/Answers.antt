@@ -1,10 +1,8 @@
 use Rattle.std.proofs.Common.{◌∙◌, map, ap, arith}
 use Rattle.std.proofs.lemmas.List.{length-map}
-use Rattle.delaunay_shapes.specs.InShape.{undirected_of}
-use Rattle.delaunay_shapes.proofs.Asking.{none_asked}
-use Rattle.delaunay_shapes.proofs.Flooding.{begun_finds_all}
-use Rattle.delaunay_shapes.proofs.Searches.{search_of}
-use Rattle.delaunay_shapes.proofs.VertexFlood.{named_are_all}
+use Rattle.delaunay_shapes.specs.{undirected_of}
+use Rattle.delaunay_shapes.proofs.{Asking.none_asked, Searches.search_of}
+use Rattle.delaunay_shapes.proofs.{Flooding.begun_finds_all, VertexFlood.named_are_all}
 use Rattle.delaunay_shapes.proofs.shape_search.ShapeSearch.vertices_from.Goals as goal
 
 pub ask_starts-requires : goal.ask_starts-requires

@@ -1,4 +1,4 @@
-use Rattle.delaunay_vertices.proofs.Between.{reads_apart, between_tested, four_at_next}
+use Rattle.delaunay_vertices.proofs.Between.{between_tested, four_at_next, reads_apart}
 use Rattle.delaunay_vertices.proofs.Searching.{not_so}
 use Rattle.delaunay_vertices.proofs.choice.Spokes.edge_beside_line.Goals as goal
 
@@ -32,7 +32,7 @@ returns-then-is_strictly_within g c =
 pub returns-else-is_strictly_within : goal.returns-else-is_strictly_within
 returns-else-is_strictly_within g c =
     let four = rw (← c.self.view_is) at c.requires in
-    let kept = c.self.invariant.placed.kept in
+    let kept = c.self.invariant.embedding.kept in
     let told = between_tested c.self.invariant four.star c.ccw_edge-second.ensures.value
     c.ccw_edge-opposite.ensures.value c.start_of-centre.ensures.place c.end_of-from.ensures.place
     c.end_of-to.ensures.place c.is_strictly_within.ensures in

@@ -1,5 +1,5 @@
-use Rattle.delaunay_vertices.proofs.Searching.{not_so, seeking_begins, seeking_goes_on}
-use Rattle.delaunay_vertices.proofs.Searching.{seeking_has_found, seeking_ends}
+use Rattle.delaunay_vertices.proofs.Searching.{not_so, seeking_begins, seeking_ends}
+use Rattle.delaunay_vertices.proofs.Searching.{seeking_goes_on, seeking_has_found}
 use Rattle.delaunay_vertices.proofs.choice.Spokes.find_convex.Goals as goal
 
 pub loop-i-init : goal.loop-i-init

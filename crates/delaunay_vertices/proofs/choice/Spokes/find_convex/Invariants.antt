@@ -1,5 +1,4 @@
-use Rattle.delaunay_vertices.specs.Star.{IsConvexAt}
-use Rattle.delaunay_vertices.proofs.Searching.{IsSeeking}
+use Rattle.{delaunay_vertices.proofs.Searching.IsSeeking, delaunay_vertices.specs.IsConvexAt}
 use Rattle.delaunay_vertices.proofs.choice.Spokes.find_convex.Given as goal
 
 abbrev pub invariant-loop-i : goal.invariant-loop-i

@@ -1,6 +1,6 @@
 use Rattle.std.proofs.Common.{arith}
-use Rattle.delaunay_legalization.proofs.Questions.{both_ways}
-use Rattle.delaunay_vertices.proofs.Searching.{seeking_begins, seeking_goes_on, seeking_finds}
+use Rattle.delaunay_legalization.proofs.{both_ways}
+use Rattle.delaunay_vertices.proofs.Searching.{seeking_begins, seeking_finds, seeking_goes_on}
 use Rattle.delaunay_vertices.proofs.choice.Spokes.find_turnable.Goals as goal
 
 pub loop-i-init : goal.loop-i-init

@@ -1,6 +1,5 @@
 use Rattle.std.specs.Prelude.{IsFalse}
-use Rattle.delaunay_vertices.specs.Star.{IsTurnable}
-use Rattle.delaunay_vertices.proofs.Searching.{IsSeeking}
+use Rattle.{delaunay_vertices.proofs.Searching.IsSeeking, delaunay_vertices.specs.Star.IsTurnable}
 use Rattle.delaunay_vertices.proofs.choice.Spokes.find_turnable.Given as goal
 
 abbrev pub invariant-loop-i : goal.invariant-loop-i

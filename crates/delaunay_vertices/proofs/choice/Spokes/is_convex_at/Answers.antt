@@ -1,5 +1,4 @@
-use Rattle.delaunay_legalization.proofs.Questions.{both_ways}
-use Rattle.delaunay_vertices.proofs.Convex.{convex_read}
+use Rattle.{delaunay_legalization.proofs.both_ways, delaunay_vertices.proofs.Convex.convex_read}
 use Rattle.delaunay_vertices.proofs.choice.Spokes.is_convex_at.Goals as goal
 
 pub turns_left-requires : goal.turns_left-requires

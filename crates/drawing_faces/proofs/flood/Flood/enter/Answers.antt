@@ -1,6 +1,6 @@
 use Rattle.std.proofs.Common.{◌≡◌, ◌∙◌, set, ap, sym}
 use Rattle.std.proofs.lemmas.Result.{on_ok_weaker}
-use Rattle.delaunay_interface.specs.half_edge_links.Mesh.{face_edge, next, prev}
+use Rattle.half_edge_links.specs.{face_edge, next, prev}
 use Rattle.drawing_faces.proofs.Listing.{entered_before, entered_first, less_work, stands_at}
 use Rattle.drawing_faces.proofs.flood.Flood.enter.Goals as goal
 

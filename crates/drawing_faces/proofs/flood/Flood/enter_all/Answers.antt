@@ -1,5 +1,5 @@
 use Rattle.std.proofs.Common.{length}
-use Rattle.drawing_faces.proofs.Flooding.{begin_first, begin_more, begin_last, small_face}
+use Rattle.drawing_faces.proofs.Flooding.{begin_first, begin_last, begin_more, small_face}
 use Rattle.drawing_faces.proofs.flood.Flood.enter_all.Goals as goal
 
 pub loop-face-init : goal.loop-face-init

@@ -1,5 +1,5 @@
-use Rattle.half_edge_dcel.proofs.HoleSteps.{first_peelable, second_peelable, pendant_within}
-use Rattle.half_edge_dcel.proofs.HoleSteps.{pendant_removable, border_open, has_room, collapsed}
+use Rattle.half_edge_dcel.proofs.HoleSteps.{border_open, collapsed, first_peelable, has_room}
+use Rattle.half_edge_dcel.proofs.HoleSteps.{pendant_removable, pendant_within, second_peelable}
 use Rattle.half_edge_dcel.proofs.dcel.Dcel.collapse.Goals as goal
 
 pub peel-spoke-requires : goal.peel-spoke-requires

@@ -1,7 +1,7 @@
 use Rattle.std.proofs.Common.{◌∙◌, arith, rules}
 use Rattle.std.proofs.lemmas.Grind.{common_steps}
-use Rattle.half_edge_dcel.proofs.Fits.{fits_grown, fits_vertex, fits_beside, one_longer}
 use Rattle.half_edge_dcel.proofs.EdgeLists.{adds_edges, length-ends}
+use Rattle.half_edge_dcel.proofs.Fits.{fits_beside, fits_grown, fits_vertex, one_longer}
 use Rattle.half_edge_dcel.proofs.Outlines.{outer_changes}
 use Rattle.half_edge_dcel.proofs.dcel.Dcel.create_new_face_adjacent_to_edge.Goals as goal
 

@@ -1,6 +1,6 @@
 use Rattle.std.proofs.Common.{ap, length, rules}
-use Rattle.half_edge_dcel.proofs.Fits.{fits_grown, fits_closed}
 use Rattle.half_edge_dcel.proofs.EdgeLists.{adds_edges, length-ends}
+use Rattle.half_edge_dcel.proofs.Fits.{fits_closed, fits_grown}
 use Rattle.half_edge_dcel.proofs.dcel.Dcel.create_single_face_between_edge_and_next.Goals as goal
 
 pub invariant_of-self : goal.invariant_of-self

@@ -1,6 +1,6 @@
 use Rattle.std.proofs.Common.{arith}
-use Rattle.half_edge_dcel.proofs.StripSteps.{stripped_none, stripped_peelable, stripped_next}
-use Rattle.half_edge_dcel.proofs.StripSteps.{stripped_removable, strip_lost}
+use Rattle.half_edge_dcel.proofs.StripSteps.{strip_lost, stripped_next, stripped_none}
+use Rattle.half_edge_dcel.proofs.StripSteps.{stripped_peelable, stripped_removable}
 use Rattle.half_edge_dcel.proofs.dcel.Dcel.disconnect.Goals as goal
 
 pub loop-init : goal.loop-init

@@ -1,9 +1,9 @@
 use Rattle.std.proofs.Common.{◌≡◌, [], length, ◌∙◌, arith, rules}
 use Rattle.std.proofs.lemmas.Grind.{common_steps}
-use Rattle.half_edge_links.specs.Mesh.{Mesh}
-use Rattle.half_edge_dcel.proofs.Fits.{fits_grown_edge, fits_vertex, fits_hung, one_longer}
+use Rattle.half_edge_links.specs.{Mesh}
 use Rattle.half_edge_dcel.proofs.EdgeLists.{adds_edges, length-ends}
-use Rattle.half_edge_dcel.proofs.Outlines.{outer_changes, empty_list, edge_into_kept, no_faces_hung}
+use Rattle.half_edge_dcel.proofs.Fits.{fits_grown_edge, fits_hung, fits_vertex, one_longer}
+use Rattle.half_edge_dcel.proofs.Outlines.{edge_into_kept, empty_list, no_faces_hung, outer_changes}
 use Rattle.half_edge_dcel.proofs.dcel.Dcel.extend_line.Goals as goal
 
 pub invariant_of-self : goal.invariant_of-self

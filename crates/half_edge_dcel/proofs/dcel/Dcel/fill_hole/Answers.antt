@@ -1,6 +1,6 @@
 use Rattle.std.proofs.Common.{arith}
 use Rattle.half_edge_dcel.proofs.HoleFilled.{hole_filled_by}
-use Rattle.half_edge_dcel.proofs.TurnedEdge.{turned_none, turned_next, turned_can, turned_wheel}
+use Rattle.half_edge_dcel.proofs.TurnedEdge.{turned_can, turned_next, turned_none, turned_wheel}
 use Rattle.half_edge_dcel.proofs.dcel.Dcel.fill_hole.Goals as goal
 
 pub loop-init : goal.loop-init

@@ -1,5 +1,5 @@
 use Rattle.std.proofs.Common.{◌≡◌, ◌*◌, ◌/◌, refl, arith, rules}
-use Rattle.half_edge_dcel.proofs.EdgeLists.{edges_of-set, along-even}
+use Rattle.half_edge_dcel.proofs.EdgeLists.{along-even, edges_of-set}
 use Rattle.half_edge_dcel.proofs.dcel.Dcel.flip_cw.Goals as goal
 
 pub flip-requires : goal.flip-requires

@@ -1,8 +1,7 @@
 use Rattle.std.proofs.Common.{◌∙◌, rules, arith}
 use Rattle.std.proofs.lemmas.Grind.{common_steps}
-use Rattle.half_edge_dcel.proofs.Fits.{fits_grown, fits_vertex, fits_inserted, one_longer}
-use Rattle.half_edge_dcel.proofs.EdgeLists.{adds_edges, length-ends}
-use Rattle.half_edge_dcel.proofs.Outlines.{keeps_outer}
+use Rattle.half_edge_dcel.proofs.{EdgeLists.adds_edges, EdgeLists.length-ends, Outlines.keeps_outer}
+use Rattle.half_edge_dcel.proofs.Fits.{fits_grown, fits_inserted, fits_vertex, one_longer}
 use Rattle.half_edge_dcel.proofs.dcel.Dcel.insert_into_triangle.Goals as goal
 
 pub invariant_of-self : goal.invariant_of-self

@@ -1,4 +1,4 @@
-use Rattle.half_edge_dcel.proofs.LineSteps.{left_removable, left_hangs, middle_left}
+use Rattle.half_edge_dcel.proofs.LineSteps.{left_hangs, left_removable, middle_left}
 use Rattle.half_edge_dcel.proofs.dcel.Dcel.join_neighbours.Goals as goal
 
 pub remove_edge-requires : goal.remove_edge-requires

@@ -1,5 +1,5 @@
 use Rattle.std.proofs.Common.{sym, rules}
-use Rattle.half_edge_dcel.proofs.LineSteps.{end_removable, end_hangs, end_left, is_middle}
+use Rattle.half_edge_dcel.proofs.LineSteps.{end_hangs, end_left, end_removable, is_middle}
 use Rattle.half_edge_dcel.proofs.dcel.Dcel.leave_line.Goals as goal
 
 pub next_spoke-other-requires : goal.next_spoke-other-requires

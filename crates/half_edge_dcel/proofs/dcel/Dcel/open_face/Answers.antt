@@ -1,6 +1,5 @@
 use Rattle.std.proofs.Common.{rules}
-use Rattle.half_edge_links.specs.Mesh.{Mesh}
-use Rattle.half_edge_dcel.proofs.TakenEdges.{gives_face}
+use Rattle.{half_edge_dcel.proofs.TakenEdges.gives_face, half_edge_links.specs.Mesh}
 use Rattle.half_edge_dcel.proofs.dcel.Dcel.open_face.Goals as goal
 
 pub returns : goal.returns

@@ -1,5 +1,5 @@
 use Rattle.half_edge_links.proofs.Removing.Conditions.{full_wheel}
-use Rattle.half_edge_links.proofs.Removing.WheelLemmas.{inner_z, a_in, z_in}
+use Rattle.half_edge_links.proofs.Removing.WheelLemmas.{a_in, inner_z, z_in}
 use Rattle.half_edge_dcel.proofs.dcel.Dcel.open_third.Goals as goal
 
 pub next_spoke-third-requires : goal.next_spoke-third-requires

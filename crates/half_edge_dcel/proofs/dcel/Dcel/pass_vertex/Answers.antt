@@ -1,6 +1,5 @@
 use Rattle.std.proofs.Common.{refl, rules}
-use Rattle.half_edge_links.proofs.Lists.Rev.{rev_within}
-use Rattle.half_edge_dcel.proofs.LineSteps.{passable}
+use Rattle.{half_edge_dcel.proofs.LineSteps.passable, half_edge_links.proofs.rev_within}
 use Rattle.half_edge_dcel.proofs.dcel.Dcel.pass_vertex.Goals as goal
 
 pub half_edge-left-requires : goal.half_edge-left-requires

@@ -1,5 +1,5 @@
 use Rattle.std.proofs.Common.{arith, rules}
-use Rattle.half_edge_links.specs.Mesh.{Mesh}
+use Rattle.half_edge_links.specs.{Mesh}
 use Rattle.half_edge_dcel.proofs.TakenEdges.{loses_edge, loses_face_at, takes_edge}
 use Rattle.half_edge_dcel.proofs.dcel.Dcel.peel.Goals as goal
 

@@ -1,5 +1,5 @@
 use Rattle.std.proofs.Common.{rules}
-use Rattle.half_edge_links.specs.Mesh.{Mesh}
+use Rattle.half_edge_links.specs.{Mesh}
 use Rattle.half_edge_dcel.proofs.TakenEdges.{loses_edge, takes_edge}
 use Rattle.half_edge_dcel.proofs.dcel.Dcel.remove_edge.Goals as goal
 

@@ -1,8 +1,7 @@
 use Rattle.std.proofs.Common.{arith, refl, ap, rules, ◌≡◌, length}
 use Rattle.std.proofs.lemmas.Grind.{common_steps}
-use Rattle.half_edge_links.specs.Mesh.{Mesh}
-use Rattle.half_edge_dcel.proofs.Fits.{fits_grown_edge, fits_connected}
-use Rattle.half_edge_dcel.proofs.Outlines.{no_faces}
+use Rattle.half_edge_links.specs.{Mesh}
+use Rattle.half_edge_dcel.proofs.{Fits.fits_connected, Fits.fits_grown_edge, Outlines.no_faces}
 use Rattle.half_edge_dcel.proofs.dcel.Dcel.setup_initial_two_vertices.Goals as goal
 
 pub invariant_of-self : goal.invariant_of-self

@@ -1,10 +1,9 @@
 use Rattle.std.proofs.Common.{sym, rules, ◌∙◌, arith}
 use Rattle.std.proofs.lemmas.Grind.{common_steps}
 use Rattle.std.proofs.lemmas.List.{length-set}
-use Rattle.half_edge_dcel.proofs.Fits.{fits_grown_edge, fits_vertex, fits_hung, fits_slid}
-use Rattle.half_edge_dcel.proofs.Fits.{one_longer}
 use Rattle.half_edge_dcel.proofs.EdgeLists.{adds_edges, edges_of-set, length-ends}
-use Rattle.half_edge_dcel.proofs.Outlines.{outer_changes}
+use Rattle.half_edge_dcel.proofs.Fits.{fits_grown_edge, fits_hung, fits_slid, fits_vertex}
+use Rattle.half_edge_dcel.proofs.{Fits.one_longer, Outlines.outer_changes}
 use Rattle.half_edge_dcel.proofs.dcel.Dcel.split_edge_when_all_vertices_on_line.Goals as goal
 
 pub invariant_of-self : goal.invariant_of-self

@@ -1,9 +1,8 @@
 use Rattle.std.proofs.Common.{◌∙◌, rules, arith}
 use Rattle.std.proofs.lemmas.Grind.{common_steps}
+use Rattle.half_edge_dcel.proofs.EdgeLists.{length-ends, move_edge_data, splits_edge}
 use Rattle.half_edge_dcel.proofs.Fits.{fits_beside, fits_flipped, fits_moved, fits_vertex}
-use Rattle.half_edge_dcel.proofs.Fits.{one_longer}
-use Rattle.half_edge_dcel.proofs.EdgeLists.{splits_edge, length-ends, move_edge_data}
-use Rattle.half_edge_dcel.proofs.Outlines.{outer_changes}
+use Rattle.half_edge_dcel.proofs.{Fits.one_longer, Outlines.outer_changes}
 use Rattle.half_edge_dcel.proofs.dcel.Dcel.split_half_edge.Goals as goal
 
 pub invariant_of-self : goal.invariant_of-self

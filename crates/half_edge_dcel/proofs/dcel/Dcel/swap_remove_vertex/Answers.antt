@@ -1,5 +1,5 @@
 use Rattle.std.proofs.Common.{refl}
-use Rattle.half_edge_links.specs.Mesh.{Mesh}
+use Rattle.half_edge_links.specs.{Mesh}
 use Rattle.half_edge_dcel.proofs.Dropped.{edges_dropped, faces_dropped, outline_dropped}
 use Rattle.half_edge_dcel.proofs.dcel.Dcel.swap_remove_vertex.Goals as goal
 

@@ -1,6 +1,6 @@
 use Rattle.std.proofs.Common.{refl, rules}
-use Rattle.half_edge_links.proofs.Removing.Conditions.{between_faces}
-use Rattle.half_edge_dcel.proofs.Hubs.{turnable, turn_corners}
+use Rattle.half_edge_links.proofs.{between_faces}
+use Rattle.half_edge_dcel.proofs.Hubs.{turn_corners, turnable}
 use Rattle.half_edge_dcel.proofs.dcel.Dcel.turn_away.Goals as goal
 
 pub flip-requires : goal.flip-requires

@@ -1,9 +1,7 @@
 use Rattle.std.proofs.Common.{◌∙◌, arith}
-use Rattle.half_edge_dcel.proofs.Walks.{none_after, one_less}
-use Rattle.half_edge_dcel.proofs.BothEnds.{round_before}
-use Rattle.half_edge_dcel.proofs.rounds.CircularIteratorDoubleEndedIterator.next_back.Goals.{then-walk}
-use Rattle.half_edge_dcel.proofs.rounds.CircularIteratorDoubleEndedIterator.next_back.Goals.{else-walk}
+use Rattle.half_edge_dcel.proofs.{BothEnds.round_before, Walks.none_after, Walks.one_less}
 use Rattle.half_edge_dcel.proofs.rounds.CircularIteratorDoubleEndedIterator.next_back.Goals as goal
+use goal.{else-walk, then-walk}
 
 pub invariant_of-self-2 : goal.invariant_of-self-2
 invariant_of-self-2 g c =

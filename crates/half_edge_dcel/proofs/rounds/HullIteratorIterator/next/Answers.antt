@@ -1,8 +1,8 @@
 use Rattle.std.proofs.Common.{◌∙◌, arith}
-use Rattle.half_edge_dcel.specs.half_edge_links.Mesh.{next}
-use Rattle.half_edge_dcel.proofs.Walks.{none_after, one_less, goes_on}
-use Rattle.half_edge_dcel.proofs.rounds.HullIteratorIterator.next.Goals.{then-walk, else-walk}
+use Rattle.half_edge_links.specs.{next}
+use Rattle.half_edge_dcel.proofs.Walks.{goes_on, none_after, one_less}
 use Rattle.half_edge_dcel.proofs.rounds.HullIteratorIterator.next.Goals as goal
+use goal.{else-walk, then-walk}
 
 pub invariant_of-self-2 : goal.invariant_of-self-2
 invariant_of-self-2 g c =

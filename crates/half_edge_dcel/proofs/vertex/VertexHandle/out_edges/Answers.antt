@@ -1,6 +1,5 @@
 use Rattle.std.proofs.Common.{sym}
-use Rattle.half_edge_dcel.proofs.Ranges.{out_edge-within}
-use Rattle.half_edge_dcel.proofs.Loops.{goes_round}
+use Rattle.half_edge_dcel.proofs.{Loops.goes_round, Ranges.out_edge-within}
 use Rattle.half_edge_dcel.proofs.vertex.VertexHandle.out_edges.Goals as goal
 
 pub from-requires : goal.from-requires

@@ -1,6 +1,5 @@
 use Rattle.std.proofs.Common.{sym}
-use Rattle.half_edge_dcel.proofs.Ranges.{outer_edge-within}
-use Rattle.half_edge_dcel.proofs.Loops.{goes_along}
+use Rattle.half_edge_dcel.proofs.{Loops.goes_along, Ranges.outer_edge-within}
 use Rattle.half_edge_dcel.proofs.views.DcelMeshViews.convex_hull.Goals as goal
 
 pub from-requires : goal.from-requires

@@ -1,9 +1,8 @@
 use Rattle.std.proofs.Common.{◌≡◌, ◌+◌, ◌∙◌, ℕ, sym, refl, arith}
-use Rattle.half_edge_dcel.specs.half_edge_links.Mesh.{prev}
-use Rattle.half_edge_dcel.specs.half_edge_links.Peel.{spoke}
+use Rattle.half_edge_links.specs.{prev, spoke}
+use Rattle.half_edge_dcel.proofs.Joined.{missed_all, missed_more, none_joined, spoke-starts}
+use Rattle.half_edge_dcel.proofs.Joined.{spoke-within, turned_end, turned_spoke}
 use Rattle.half_edge_dcel.proofs.Ranges.{out_edge-within}
-use Rattle.half_edge_dcel.proofs.Joined.{turned_spoke, turned_end, spoke-within, spoke-starts}
-use Rattle.half_edge_dcel.proofs.Joined.{missed_more, missed_all, none_joined}
 use Rattle.half_edge_dcel.proofs.views.DcelMeshViews.get_edge_from_neighbors.Goals as goal
 
 pub loop-init : goal.loop-init

@@ -1,6 +1,5 @@
 use Rattle.std.proofs.Common.{◌≡◌, ◌≢◌, ◌<◌, ℕ, length}
-use Rattle.half_edge_dcel.specs.half_edge_links.Mesh.{origin, rev}
-use Rattle.half_edge_dcel.specs.half_edge_links.Peel.{spoke}
+use Rattle.half_edge_links.specs.{origin, rev, spoke}
 use Rattle.half_edge_dcel.proofs.views.DcelMeshViews.get_edge_from_neighbors.Given as goal
 
 abbrev pub invariant-loop : goal.invariant-loop

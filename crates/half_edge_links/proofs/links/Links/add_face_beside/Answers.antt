@@ -1,7 +1,6 @@
 use Rattle.std.proofs.Common.{ap, sym, ◌∙◌, arith}
-use Rattle.half_edge_links.specs.Mesh.{origin, rev}
-use Rattle.half_edge_links.proofs.Growing.FaceBeside.{differs_alone}
-use Rattle.half_edge_links.proofs.Growing.Grown.{adds_face_beside}
+use Rattle.half_edge_links.specs.{origin, rev}
+use Rattle.half_edge_links.proofs.{Growing.FaceBeside.differs_alone, Growing.Grown.adds_face_beside}
 use Rattle.half_edge_links.proofs.Sound.Parts.{rev_of_even}
 use Rattle.half_edge_links.proofs.links.Links.add_face_beside.Goals as goal
 

@@ -1,11 +1,8 @@
 use Rattle.std.proofs.Common.{◌+◌, ap, arith}
-use Rattle.half_edge_links.specs.Grow.{closed}
+use Rattle.{half_edge_links.proofs.Growing.Close.corner, half_edge_links.specs.closed}
+use Rattle.half_edge_links.proofs.{Growing.Grown.closes_corner, Views.joined_in, Views.round_stored}
 use Rattle.half_edge_links.proofs.Sound.Valid.{valid_as, valid_closed}
-use Rattle.half_edge_links.proofs.Growing.Close.{corner}
-use Rattle.half_edge_links.proofs.Growing.Grown.{closes_corner}
-use Rattle.half_edge_links.proofs.Stored.Hung.{shows_closed}
-use Rattle.half_edge_links.proofs.Stored.Shown.{length_shown}
-use Rattle.half_edge_links.proofs.Views.{joined_in, round_stored}
+use Rattle.half_edge_links.proofs.{Stored.Hung.shows_closed, Stored.Shown.length_shown}
 use Rattle.half_edge_links.proofs.links.Links.close.Goals as goal
 
 pub half_edge-second-requires : goal.half_edge-second-requires

@@ -1,9 +1,9 @@
 use Rattle.std.proofs.Common.{arith}
 use Rattle.half_edge_links.specs.Remove.{loop_closed}
-use Rattle.half_edge_links.proofs.Removing.CloseSound.{round, closes}
-use Rattle.half_edge_links.proofs.Sound.Valid.{valid_loop_closed}
+use Rattle.half_edge_links.proofs.Removing.CloseSound.{closes, round}
 use Rattle.half_edge_links.proofs.Removing.ShrinkTriangles.{triangles_closed}
-use Rattle.half_edge_links.proofs.Removing.TakenLists.{ends_loop_closed, closes_outer}
+use Rattle.half_edge_links.proofs.Removing.TakenLists.{closes_outer, ends_loop_closed}
+use Rattle.half_edge_links.proofs.Sound.Valid.{valid_loop_closed}
 use Rattle.half_edge_links.proofs.links.Links.close_face.Goals as goal
 
 pub set_loop_face-requires : goal.set_loop_face-requires

@@ -1,10 +1,7 @@
 use Rattle.std.proofs.Common.{refl, sym, subst}
-use Rattle.half_edge_links.proofs.Views.{mesh_in}
-use Rattle.half_edge_links.specs.Mesh.{connected}
-use Rattle.half_edge_links.specs.Hull.{HasOneOutline}
-use Rattle.half_edge_links.proofs.Stored.Written.{shows_first}
-use Rattle.half_edge_links.proofs.Sound.Valid.{valid_as, valid_connected}
-use Rattle.half_edge_links.proofs.OuterLoop.Outline.{outline_connected}
+use Rattle.half_edge_links.specs.{connected, HasOneOutline}
+use Rattle.half_edge_links.proofs.{OuterLoop.Outline.outline_connected, Stored.Written.shows_first}
+use Rattle.half_edge_links.proofs.{Sound.Valid.valid_as, Sound.Valid.valid_connected, Views.mesh_in}
 use Rattle.half_edge_links.proofs.links.Links.connect.Goals as goal
 
 pub returns-clause-mesh : goal.returns-clause-mesh

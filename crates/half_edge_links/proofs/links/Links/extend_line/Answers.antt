@@ -1,6 +1,5 @@
 use Rattle.std.proofs.Common.{◌∙◌, sym}
-use Rattle.half_edge_links.proofs.Growing.SplitLine.{into_outer}
-use Rattle.half_edge_links.proofs.Growing.Grown.{extends_line}
+use Rattle.half_edge_links.proofs.{Growing.Grown.extends_line, Growing.SplitLine.into_outer}
 use Rattle.half_edge_links.proofs.links.Links.extend_line.Goals as goal
 
 pub hang-requires-clause-outer : goal.hang-requires-clause-outer

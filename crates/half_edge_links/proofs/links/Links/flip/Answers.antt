@@ -1,20 +1,15 @@
 use Rattle.std.proofs.Common.{ap, arith, ◌∙◌}
-use Rattle.half_edge_links.proofs.Views.{mesh_in, round_stored}
-use Rattle.half_edge_links.specs.Mesh.{Mesh, origin, rev}
-use Rattle.half_edge_links.proofs.Lists.Rev.{rev-rev}
-use Rattle.half_edge_links.specs.Flip.{flip_by, flipped}
-use Rattle.half_edge_links.proofs.Sound.Triangles.{triangle_at, six_round}
-use Rattle.half_edge_links.proofs.Stored.Joined.{joined_sound, loop_of_three}
-use Rattle.half_edge_links.proofs.Stored.Shown.{length_shown}
-use Rattle.half_edge_links.proofs.Stored.Turned.{shows_turned}
-use Rattle.half_edge_links.proofs.Faces.FlipLemmas.{flips_is}
-use Rattle.half_edge_links.proofs.Removing.Conditions.{turns_between}
-use Rattle.half_edge_links.proofs.Sound.Valid.{valid_as, valid_flipped}
-use Rattle.half_edge_links.proofs.Faces.FlipTriangles.{triangles_flipped}
-use Rattle.half_edge_links.proofs.Faces.KeepsOuter.{outer_flipped_is}
-use Rattle.half_edge_links.proofs.Sound.EndsKept.{ends_flipped_is}
-use Rattle.half_edge_links.proofs.OuterLoop.Outline.{outline_flipped}
 use Rattle.std.proofs.lemmas.List.{length-set}
+use Rattle.half_edge_links.specs.{flip_by, flipped, Mesh, origin, rev}
+use Rattle.half_edge_links.proofs.{Faces.FlipLemmas.flips_is, Faces.FlipTriangles.triangles_flipped}
+use Rattle.half_edge_links.proofs.{Faces.KeepsOuter.outer_flipped_is, Stored.Turned.shows_turned}
+use Rattle.half_edge_links.proofs.{Lists.Rev.rev-rev, Removing.Conditions.turns_between}
+use Rattle.half_edge_links.proofs.{OuterLoop.Outline.outline_flipped, Stored.Shown.length_shown}
+use Rattle.half_edge_links.proofs.Sound.EndsKept.{ends_flipped_is}
+use Rattle.half_edge_links.proofs.Sound.Triangles.{six_round, triangle_at}
+use Rattle.half_edge_links.proofs.Sound.Valid.{valid_as, valid_flipped}
+use Rattle.half_edge_links.proofs.Stored.Joined.{joined_sound, loop_of_three}
+use Rattle.half_edge_links.proofs.Views.{mesh_in, round_stored}
 use Rattle.half_edge_links.proofs.links.Links.flip.Goals as goal
 
 pub half_edge-twin-requires : goal.half_edge-twin-requires

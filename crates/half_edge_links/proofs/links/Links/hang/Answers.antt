@@ -1,10 +1,8 @@
 use Rattle.std.proofs.Common.{ap, arith}
-use Rattle.half_edge_links.specs.Grow.{hung}
+use Rattle.half_edge_links.specs.{hung}
+use Rattle.half_edge_links.proofs.{Growing.Grown.hangs_edge, Stored.Hung.shows_hung}
 use Rattle.half_edge_links.proofs.Sound.Valid.{valid_as, valid_hung}
-use Rattle.half_edge_links.proofs.Growing.Grown.{hangs_edge}
-use Rattle.half_edge_links.proofs.Stored.Hung.{shows_hung}
-use Rattle.half_edge_links.proofs.Stored.Shown.{length_shown}
-use Rattle.half_edge_links.proofs.Views.{joined_in, round_stored}
+use Rattle.half_edge_links.proofs.{Stored.Shown.length_shown, Views.joined_in, Views.round_stored}
 use Rattle.half_edge_links.proofs.links.Links.hang.Goals as goal
 
 pub half_edge-end-requires : goal.half_edge-end-requires

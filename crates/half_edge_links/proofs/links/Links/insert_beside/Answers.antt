@@ -1,13 +1,10 @@
 use Rattle.std.proofs.Common.{arith}
-use Rattle.half_edge_links.specs.Insert.{insert_by, inserted}
-use Rattle.half_edge_links.proofs.Faces.InsertLemmas.{inserts_is}
-use Rattle.half_edge_links.proofs.Sound.Valid.{valid_as, valid_inserted}
+use Rattle.half_edge_links.specs.{insert_by, inserted}
+use Rattle.half_edge_links.proofs.{Faces.InsertLemmas.inserts_is, Stored.Joined.loop_of_three}
 use Rattle.half_edge_links.proofs.Faces.InsertTriangles.{triangles_inserted}
-use Rattle.half_edge_links.proofs.Faces.KeepsOuter.{outer_inserted}
-use Rattle.half_edge_links.proofs.Sound.EndsKept.{ends_inserted_is}
-use Rattle.half_edge_links.proofs.OuterLoop.Outline.{outline_inserted}
-use Rattle.half_edge_links.proofs.Stored.Joined.{loop_of_three}
-use Rattle.half_edge_links.proofs.Sound.Triangles.{triangle_at}
+use Rattle.half_edge_links.proofs.{Faces.KeepsOuter.outer_inserted, Sound.EndsKept.ends_inserted_is}
+use Rattle.half_edge_links.proofs.{OuterLoop.Outline.outline_inserted, Sound.Triangles.triangle_at}
+use Rattle.half_edge_links.proofs.Sound.Valid.{valid_as, valid_inserted}
 use Rattle.half_edge_links.proofs.links.Links.insert_beside.Goals as goal
 
 pub fan_edges-requires-clause-triangle : goal.fan_edges-requires-clause-triangle

@@ -1,8 +1,7 @@
 use Rattle.std.proofs.Common.{◌-◌, arith}
-use Rattle.half_edge_links.specs.Remove.{opened}
-use Rattle.half_edge_links.proofs.Removing.OpenSound.{opens, in_loop, swap_remove_default}
-use Rattle.half_edge_links.proofs.Sound.Valid.{valid_opened}
-use Rattle.half_edge_links.proofs.Removing.TakenLists.{removes_triangle, ends_opened, opens_outer}
+use Rattle.half_edge_links.proofs.Removing.OpenSound.{in_loop, opens, swap_remove_default}
+use Rattle.half_edge_links.proofs.Removing.TakenLists.{ends_opened, opens_outer, removes_triangle}
+use Rattle.{half_edge_links.proofs.Sound.Valid.valid_opened, half_edge_links.specs.Remove.opened}
 use Rattle.half_edge_links.proofs.links.Links.open_face.Goals as goal
 
 pub set_loop_face-requires-2 : goal.set_loop_face-requires-2

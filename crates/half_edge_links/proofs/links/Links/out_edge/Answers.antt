@@ -1,6 +1,6 @@
 use Rattle.std.proofs.Common.{refl, sym}
 use Rattle.half_edge_links.specs.VertexList.{named_by}
-use Rattle.half_edge_links.proofs.Lists.VertexLists.{named_at, named_some, length_out_edges}
+use Rattle.half_edge_links.proofs.Lists.VertexLists.{length_out_edges, named_at, named_some}
 use Rattle.half_edge_links.proofs.links.Links.out_edge.Goals as goal
 
 pub returns-then-edge-clause-value : goal.returns-then-edge-clause-value

@@ -1,8 +1,7 @@
 use Rattle.std.proofs.Common.{arith}
-use Rattle.half_edge_links.specs.Pass.{passed}
-use Rattle.half_edge_links.proofs.Growing.Passing.{beside, passed_places, passes}
-use Rattle.half_edge_links.proofs.Growing.Passing.{valid_passed, ends_passed_is, outline_passed}
-use Rattle.half_edge_links.proofs.Sound.Valid.{valid_as}
+use Rattle.half_edge_links.proofs.Growing.Passing.{beside, ends_passed_is, outline_passed}
+use Rattle.half_edge_links.proofs.Growing.Passing.{passed_places, passes, valid_passed}
+use Rattle.{half_edge_links.proofs.Sound.Valid.valid_as, half_edge_links.specs.Pass.passed}
 use Rattle.half_edge_links.proofs.links.Links.pass.Goals as goal
 
 pub half_edge-k-requires : goal.half_edge-k-requires

@@ -1,11 +1,10 @@
 use Rattle.std.proofs.Common.{ap, rules}
-use Rattle.half_edge_links.specs.declared.records.HalfEdge.{HalfEdge}
-use Rattle.half_edge_links.specs.Peel.{Peels}
+use Rattle.half_edge_links.specs.{HalfEdge, Peels}
+use Rattle.half_edge_links.proofs.OuterLoop.OutlineTaken.{outline_peeled}
 use Rattle.half_edge_links.proofs.Removing.Conditions.{hull_edge, removable}
 use Rattle.half_edge_links.proofs.Removing.PeelLemmas.{removable_opened}
-use Rattle.half_edge_links.proofs.Removing.TakenLists.{peels_triangle, peels_ends, peels_outer}
 use Rattle.half_edge_links.proofs.Removing.RemoveSound.{sound_removed}
-use Rattle.half_edge_links.proofs.OuterLoop.OutlineTaken.{outline_peeled}
+use Rattle.half_edge_links.proofs.Removing.TakenLists.{peels_ends, peels_outer, peels_triangle}
 use Rattle.half_edge_links.proofs.links.Links.peel.Goals as goal
 
 pub remove_edge-requires : goal.remove_edge-requires

@@ -1,6 +1,5 @@
 use Rattle.std.proofs.Common.{◌∙◌, ap}
-use Rattle.half_edge_links.specs.declared.records.StoredEdge.{StoredEdge}
-use Rattle.half_edge_links.proofs.Stored.Keeps.{corner_at}
+use Rattle.{half_edge_links.proofs.Stored.Keeps.corner_at, half_edge_links.specs.StoredEdge}
 use Rattle.half_edge_links.proofs.links.Links.prev_origin.Goals as goal
 
 pub returns-clause-value : goal.returns-clause-value

@@ -1,7 +1,6 @@
 use Rattle.std.proofs.Common.{arith}
+use Rattle.half_edge_links.proofs.{Lists.VertexLists.pushed_vertex, Sound.Valid.valid_with_vertex}
 use Rattle.half_edge_links.proofs.Views.{mesh_in}
-use Rattle.half_edge_links.proofs.Lists.VertexLists.{pushed_vertex}
-use Rattle.half_edge_links.proofs.Sound.Valid.{valid_with_vertex}
 use Rattle.half_edge_links.proofs.links.Links.push_vertex.Goals as goal
 
 pub invariant_of-self : goal.invariant_of-self

@@ -1,22 +1,15 @@
 use Rattle.std.proofs.Common.{◌≡◌, ◌+◌, ◌-◌, ◌∙◌, List, sym, ap}
 use Rattle.std.proofs.Common.{ℕ, ◌<◌, Bool, true, false, if◌then◌else◌, Some, None, arith}
 use Rattle.std.proofs.lemmas.List.{length-set}
-use Rattle.half_edge_links.proofs.Views.{mesh_in}
-use Rattle.half_edge_links.specs.EdgeList.{shown}
-use Rattle.half_edge_links.proofs.Stored.Shown.{length_shown}
-use Rattle.half_edge_links.specs.Mesh.{Mesh, edge_at, rev}
-use Rattle.half_edge_links.specs.declared.records.HalfEdge.{HalfEdge}
-use Rattle.half_edge_links.specs.Remove.{with_unlinked, unlinked, filled}
-use Rattle.half_edge_links.specs.VertexList.{IsNameable}
-use Rattle.half_edge_links.specs.declared.room.TheConstants.{MAX_ELEMENTS}
-use Rattle.half_edge_links.proofs.Removing.Conditions.{unlinkable}
-use Rattle.half_edge_links.proofs.Removing.RemoveSound.{joined_unlinked, unlinked_places}
-use Rattle.half_edge_links.proofs.Removing.RemoveSound.{read_unlinked}
-use Rattle.half_edge_links.proofs.Removing.RemoveSound.{removes, sound_removed}
-use Rattle.half_edge_links.proofs.Sound.Valid.{valid_removed}
-use Rattle.half_edge_links.proofs.Removing.ShrinkTriangles.{triangles_removed}
-use Rattle.half_edge_links.proofs.Removing.TakenLists.{removes_ends, removes_outer}
+use Rattle.half_edge_links.specs.{edge_at, HalfEdge, MAX_ELEMENTS, Mesh, rev, shown, unlinked}
+use Rattle.half_edge_links.specs.{Remove.filled, VertexList.IsNameable, with_unlinked}
 use Rattle.half_edge_links.proofs.OuterLoop.OutlineTaken.{outline_removed}
+use Rattle.half_edge_links.proofs.{Removing.Conditions.unlinkable, Sound.Valid.valid_removed}
+use Rattle.half_edge_links.proofs.Removing.RemoveSound.{joined_unlinked, read_unlinked, removes}
+use Rattle.half_edge_links.proofs.Removing.RemoveSound.{sound_removed, unlinked_places}
+use Rattle.half_edge_links.proofs.{Removing.ShrinkTriangles.triangles_removed, Views.mesh_in}
+use Rattle.half_edge_links.proofs.Removing.TakenLists.{removes_ends, removes_outer}
+use Rattle.half_edge_links.proofs.Stored.Shown.{length_shown}
 use Rattle.half_edge_links.proofs.links.Links.remove_edge.Goals as goal
 
 pub half_edge-twin-requires : goal.half_edge-twin-requires

@@ -1,8 +1,7 @@
 use Rattle.std.proofs.Common.{arith}
-use Rattle.half_edge_links.specs.Grow.{slid}
+use Rattle.half_edge_links.specs.{slid}
+use Rattle.half_edge_links.proofs.Growing.Slide.{ends_slid, outline_slid, slid_places, slides, tail}
 use Rattle.half_edge_links.proofs.Sound.Valid.{valid_as, valid_slid}
-use Rattle.half_edge_links.proofs.Growing.Slide.{tail, slid_places, slides}
-use Rattle.half_edge_links.proofs.Growing.Slide.{outline_slid, ends_slid}
 use Rattle.half_edge_links.proofs.links.Links.slide.Goals as goal
 
 pub half_edge-there-requires : goal.half_edge-there-requires

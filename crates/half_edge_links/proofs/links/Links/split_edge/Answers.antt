@@ -1,6 +1,7 @@
-use Rattle.half_edge_links.proofs.Faces.SplitLemmas.{flippable_inserted, corners_inserted}
-use Rattle.half_edge_links.proofs.Faces.SplitLemmas.{splits_triangles_is, kept_twice, ends_split}
-use Rattle.half_edge_links.proofs.Removing.Conditions.{turns_between, between_faces}
+use Rattle.half_edge_links.proofs.Faces.SplitLemmas.{corners_inserted, ends_split}
+use Rattle.half_edge_links.proofs.Faces.SplitLemmas.{flippable_inserted, kept_twice}
+use Rattle.half_edge_links.proofs.Faces.SplitLemmas.{splits_triangles_is}
+use Rattle.half_edge_links.proofs.Removing.Conditions.{between_faces, turns_between}
 use Rattle.half_edge_links.proofs.links.Links.split_edge.Goals as goal
 
 pub flip-requires : goal.flip-requires

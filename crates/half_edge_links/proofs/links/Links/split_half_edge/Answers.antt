@@ -1,10 +1,8 @@
 use Rattle.std.proofs.Common.{rules}
-use Rattle.half_edge_links.specs.Mesh.{Mesh}
-use Rattle.half_edge_links.proofs.Growing.HalfSplit.{twin_outer, flippable_beside, corners_beside}
+use Rattle.half_edge_links.proofs.Growing.HalfSplit.{corners_beside, flippable_beside, half_splits}
 use Rattle.half_edge_links.proofs.Growing.HalfSplit.{half_splits_triangles, replaced_kept}
-use Rattle.half_edge_links.proofs.Growing.HalfSplit.{half_splits}
-use Rattle.half_edge_links.proofs.Removing.Conditions.{between_faces}
-use Rattle.half_edge_links.proofs.Sound.EndsKept.{ends_half}
+use Rattle.half_edge_links.proofs.{Growing.HalfSplit.twin_outer, Removing.Conditions.between_faces}
+use Rattle.{half_edge_links.proofs.Sound.EndsKept.ends_half, half_edge_links.specs.Mesh}
 use Rattle.half_edge_links.proofs.links.Links.split_half_edge.Goals as goal
 
 pub add_face_beside-requires-clause-outer : goal.add_face_beside-requires-clause-outer

@@ -1,17 +1,13 @@
 use Rattle.std.proofs.Common.{◌≡◌, ◌-◌, length, ap, sym, ◌∙◌, refl, rules, arith}
-use Rattle.half_edge_links.proofs.Views.{mesh_in}
-use Rattle.half_edge_links.proofs.Stored.Shown.{length_shown}
-use Rattle.half_edge_links.specs.Mesh.{Mesh, IsAlone, out_edge}
+use Rattle.half_edge_links.specs.{IsAlone, Mesh, out_edge, VertexList.TakesVertex}
+use Rattle.half_edge_links.proofs.{Lists.OneOrbit.one_orbit, Sound.Valid.valid_moved}
+use Rattle.half_edge_links.proofs.Lists.VertexLists.{length_out_edges, takes_vertex}
+use Rattle.half_edge_links.proofs.{OuterLoop.OutlineTaken.outline_moved, Stored.Shown.length_shown}
+use Rattle.half_edge_links.proofs.Removing.TakenLists.{moves_ends, moves_outer, moves_triangles}
 use Rattle.half_edge_links.proofs.Removing.VertexSound.{can_walk, moves_vertex}
-use Rattle.half_edge_links.proofs.Sound.Valid.{valid_moved}
-use Rattle.half_edge_links.proofs.Lists.OneOrbit.{one_orbit}
-use Rattle.half_edge_links.proofs.Removing.TakenLists.{moves_triangles, moves_ends, moves_outer}
-use Rattle.half_edge_links.proofs.OuterLoop.OutlineTaken.{outline_moved}
-use Rattle.half_edge_links.specs.VertexList.{TakesVertex}
-use Rattle.half_edge_links.proofs.Lists.VertexLists.{takes_vertex, length_out_edges}
-use Rattle.half_edge_links.proofs.links.Links.swap_remove_vertex.Given.{Over}
-use Rattle.half_edge_links.proofs.links.Links.swap_remove_vertex.Goals.{After-swap_remove}
+use Rattle.half_edge_links.proofs.{links.Links.swap_remove_vertex.Given.Over, Views.mesh_in}
 use Rattle.half_edge_links.proofs.links.Links.swap_remove_vertex.Goals as goal
+use goal.{After-swap_remove}
 
 -- the vertex is taken out of the list
 taken : (g : Over) (c : After-swap_remove g) → TakesVertex c.self.inside.vertices.items

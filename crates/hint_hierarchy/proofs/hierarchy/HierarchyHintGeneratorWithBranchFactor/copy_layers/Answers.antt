@@ -1,4 +1,4 @@
-use Rattle.hint_hierarchy.specs.Layers.{positions}
+use Rattle.hint_hierarchy.specs.{positions}
 use Rattle.hint_hierarchy.proofs.Held.{held_at, pushed_within}
 use Rattle.hint_hierarchy.proofs.hierarchy.HierarchyHintGeneratorWithBranchFactor.copy_layers.Goals as goal
 

@@ -1,5 +1,4 @@
-use Rattle.delaunay_interface.specs.plane.Hint.{IsAtMost}
-use Rattle.hint_hierarchy.specs.Layers.{IsHeld}
+use Rattle.{hint_hierarchy.specs.Layers.IsHeld, plane.specs.IsAtMost}
 use Rattle.hint_hierarchy.proofs.hierarchy.HierarchyHintGeneratorWithBranchFactor.copy_layers.Given as goal
 
 abbrev pub invariant-loop-layer : goal.invariant-loop-layer

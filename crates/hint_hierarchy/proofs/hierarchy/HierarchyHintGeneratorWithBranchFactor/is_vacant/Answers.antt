@@ -1,4 +1,4 @@
-use Rattle.hint_hierarchy.specs.Layers.{positions}
+use Rattle.hint_hierarchy.specs.{positions}
 use Rattle.hint_hierarchy.proofs.Held.{sites_at, vacant_if_all, vacant_one_more}
 use Rattle.hint_hierarchy.proofs.hierarchy.HierarchyHintGeneratorWithBranchFactor.is_vacant.Goals as goal
 

@@ -1,6 +1,5 @@
-use Rattle.delaunay_interface.specs.delaunay_core.Place.{place_of}
-use Rattle.hint_hierarchy.specs.Layers.{positions}
-use Rattle.hint_hierarchy.proofs.Held.{IsVacantBelow}
+use Rattle.delaunay_core.specs.{place_of}
+use Rattle.{hint_hierarchy.proofs.Held.IsVacantBelow, hint_hierarchy.specs.positions}
 use Rattle.hint_hierarchy.proofs.hierarchy.HierarchyHintGeneratorWithBranchFactor.is_vacant.Given as goal
 
 abbrev pub invariant-loop-layer : goal.invariant-loop-layer

@@ -1,7 +1,6 @@
 use Rattle.std.specs.Prelude.{◌≡◌, Some}
-use Rattle.delaunay_interface.specs.delaunay_core.Held.{place_if}
-use Rattle.hint_hierarchy.specs.Layers.{positions}
-use Rattle.hint_hierarchy.proofs.Held.{IsChanged}
+use Rattle.delaunay_core.specs.{place_if}
+use Rattle.{hint_hierarchy.proofs.Held.IsChanged, hint_hierarchy.specs.positions}
 use Rattle.hint_hierarchy.proofs.hierarchy.HierarchyHintGeneratorWithBranchFactor.remove_upwards.Given as goal
 
 abbrev pub invariant-loop-level : goal.invariant-loop-level

@@ -1,6 +1,6 @@
 use Rattle.std.proofs.Common.{arith}
 use Rattle.std.proofs.lemmas.List.Elements.{All-contains}
-use Rattle.delaunay_interface.specs.delaunay_core.Place.{place_of}
+use Rattle.delaunay_core.specs.{place_of}
 use Rattle.hint_hierarchy.proofs.Told.{element_is_listed, of_then_with, sites_of}
 use Rattle.hint_hierarchy.proofs.hierarchy.HierarchyHintGeneratorWithBranchFactorHintGenerator.initialize_from_triangulation.Goals as goal
 

@@ -1,6 +1,5 @@
-use Rattle.delaunay_interface.specs.plane.Hint.{IsAtMostOf}
-use Rattle.delaunay_interface.specs.delaunay_core.Held.{places}
-use Rattle.hint_hierarchy.specs.Layers.{IsHeld}
+use Rattle.plane.specs.{IsAtMostOf}
+use Rattle.{delaunay_core.specs.Held.places, hint_hierarchy.specs.Layers.IsHeld}
 use Rattle.hint_hierarchy.proofs.hierarchy.HierarchyHintGeneratorWithBranchFactorHintGenerator.initialize_from_triangulation.Given as goal
 
 abbrev pub invariant-loop-position : goal.invariant-loop-position

@@ -1,6 +1,5 @@
 use Rattle.std.proofs.Common.{inl}
-use Rattle.delaunay_interface.specs.delaunay_core.Place.{place_of}
-use Rattle.delaunay_interface.proofs.Held.{was_listed}
+use Rattle.{delaunay_core.specs.place_of, delaunay_interface.proofs.Held.was_listed}
 use Rattle.hint_hierarchy.proofs.layer.Layer.first_position.Goals as goal
 
 pub returns-in-Some : goal.returns-in-Some

@@ -1,6 +1,4 @@
-use Rattle.hint_hierarchy.proofs.Edited.{inserted_at_most}
-use Rattle.hint_hierarchy.proofs.Filtered.{HasBit}
-use Rattle.hint_hierarchy.proofs.Held.{all_with}
+use Rattle.hint_hierarchy.proofs.{Edited.inserted_at_most, Filtered.HasBit, Held.all_with}
 use Rattle.hint_hierarchy.proofs.layer.Layer.insert.Goals as goal
 
 pub invariant_of-self-in-Ok : goal.invariant_of-self-in-Ok

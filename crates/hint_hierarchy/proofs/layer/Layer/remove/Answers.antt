@@ -1,5 +1,4 @@
-use Rattle.hint_hierarchy.proofs.Edited.{removed_at_most}
-use Rattle.hint_hierarchy.proofs.Filtered.{filtered_after}
+use Rattle.hint_hierarchy.proofs.{Edited.removed_at_most, Filtered.filtered_after}
 use Rattle.hint_hierarchy.proofs.layer.Layer.remove.Goals as goal
 
 pub invariant_of-self : goal.invariant_of-self

@@ -1,7 +1,6 @@
 use Rattle.std.specs.Prelude.{Ok, ⊤}
-use Rattle.delaunay_interface.specs.delaunay_core.Place.{place_of}
-use Rattle.hint_hierarchy.proofs.Edited.{copied}
-use Rattle.hint_hierarchy.proofs.Told.{same_place}
+use Rattle.delaunay_core.specs.{place_of}
+use Rattle.{hint_hierarchy.proofs.Edited.copied, hint_hierarchy.proofs.Told.same_place}
 use Rattle.hint_hierarchy.proofs.layer.Layer.try_clone.Goals as goal
 
 pub returns : goal.returns

@@ -1,6 +1,5 @@
 use Rattle.std.proofs.Common.{subst, sym}
-use Rattle.decimal_numbers.specs.Value.{SpellsValue}
-use Rattle.mesh_files.proofs.Numbers.{exact_kept}
+use Rattle.{decimal_numbers.specs.Value.SpellsValue, mesh_files.proofs.Numbers.exact_kept}
 use Rattle.mesh_files.proofs.drawing.Drawing.number.Goals as goal
 
 pub returns-in-Ok-clause-written : goal.returns-in-Ok-clause-written

@@ -1,5 +1,5 @@
-use Rattle.mesh_files.proofs.geojson.GeoState.close.Goals.{in-Some-outer, in-None-outer}
 use Rattle.mesh_files.proofs.geojson.GeoState.close.Goals as goal
+use goal.{in-None-outer, in-Some-outer}
 
 pub returns : goal.returns
 returns c = λ tokens rest shape drawn. elim c.match-outer-2.branch [

@@ -1,7 +1,6 @@
 use Rattle.std.proofs.Common.{◌∙◌, ◌∷◌, sym}
 use Rattle.json.specs.Token.{number}
-use Rattle.mesh_files.proofs.PositionRuns.{runs_same}
-use Rattle.mesh_files.proofs.TokenRuns.{height_kept, height_read}
+use Rattle.mesh_files.proofs.{PositionRuns.runs_same, TokenRuns.height_kept, TokenRuns.height_read}
 use Rattle.mesh_files.proofs.geojson.GeoState.take_height.Goals as goal
 
 pub returns : goal.returns

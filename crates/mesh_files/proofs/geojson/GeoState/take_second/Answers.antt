@@ -1,5 +1,4 @@
-use Rattle.mesh_files.proofs.PositionRuns.{runs_same}
-use Rattle.mesh_files.proofs.TokenRuns.{second_read}
+use Rattle.mesh_files.proofs.{PositionRuns.runs_same, TokenRuns.second_read}
 use Rattle.mesh_files.proofs.geojson.GeoState.take_second.Goals as goal
 
 pub returns : goal.returns

@@ -1,5 +1,5 @@
-use Rattle.mesh_files.proofs.geojson.GeoState.take_step.Goals.{in-Next, in-Kind, in-Property, in-List}
 use Rattle.mesh_files.proofs.geojson.GeoState.take_step.Goals as goal
+use goal.{in-Kind, in-List, in-Next, in-Property}
 
 pub returns : goal.returns
 returns c = elim c.match-step.branch [

@@ -1,10 +1,8 @@
 use Rattle.std.proofs.Common.{IfSome, subst, sym}
 use Rattle.std.specs.Prelude.{Option}
-use Rattle.mesh_files.specs.Runs.{DrawsRuns, IsPosition}
-use Rattle.mesh_files.specs.declared.shapes.GeoPosition.{GeoPosition}
-use Rattle.mesh_files.specs.declared.shapes.OpenLine.{OpenLine}
+use Rattle.mesh_files.specs.{declared.shapes.OpenLine.OpenLine, DrawsRuns, GeoPosition, IsPosition}
 use Rattle.mesh_files.proofs.shapes.Shape.add.Goals as goal
-use Rattle.mesh_files.proofs.shapes.Shape.add.Goals.{in-Some-last+in_ok-draw-2, in_default-last}
+use goal.{in-Some-last+in_ok-draw-2, in_default-last}
 
 pub returns : goal.returns
 returns c = λ tokens is has drawn.

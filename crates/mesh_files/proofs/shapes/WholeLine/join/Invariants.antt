@@ -1,4 +1,4 @@
-use Rattle.mesh_files.specs.Drawn.{SameNumbers}
+use Rattle.mesh_files.specs.{SameNumbers}
 use Rattle.mesh_files.proofs.shapes.WholeLine.join.Given as goal
 
 abbrev pub invariant-loop-next : goal.invariant-loop-next

@@ -1,5 +1,5 @@
 use Rattle.std.proofs.Common.{◌≡◌}
-use Rattle.mesh_files.specs.Rows.{rows_of}
+use Rattle.mesh_files.specs.{rows_of}
 use Rattle.mesh_files.proofs.words.WordLines.next_line.Given as goal
 
 abbrev pub invariant-loop : goal.invariant-loop

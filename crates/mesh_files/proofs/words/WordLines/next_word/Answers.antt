@@ -1,5 +1,6 @@
 use Rattle.std.proofs.Common.{sym, ◌∙◌}
-use Rattle.mesh_files.proofs.WordRows.{next_word_is, no_word_left, comment_left, first_some, first_none}
+use Rattle.mesh_files.proofs.WordRows.{comment_left, first_none, first_some, next_word_is}
+use Rattle.mesh_files.proofs.WordRows.{no_word_left}
 use Rattle.mesh_files.proofs.words.WordLines.next_word.Goals as goal
 
 pub returns-in_default-clause-found : goal.returns-in_default-clause-found

@@ -1,10 +1,7 @@
 use Rattle.std.proofs.Common.{refl}
-use Rattle.triangulate_run.specs.Reply.{reply_text}
-use Rattle.triangulate_run.proofs.Stages.{answered_so}
+use Rattle.{triangulate_run.proofs.Stages.answered_so, triangulate_run.specs.reply_text}
 use Rattle.triangulate_run.proofs.engine.PointEngine.answer.Goals as goal
-use Rattle.triangulate_run.proofs.engine.PointEngine.answer.Goals.{in-Constrain, in-Line}
-use Rattle.triangulate_run.proofs.engine.PointEngine.answer.Goals.{in_default+in-Faces-1}
-use Rattle.triangulate_run.proofs.engine.PointEngine.answer.Goals.{in_default+in-BadLine-1}
+use goal.{in-Constrain, in-Line, in_default+in-BadLine-1, in_default+in-Faces-1}
 
 pub returns-clause-answered : goal.returns-clause-answered
 returns-clause-answered g c = elim c.match-command.branch [

@@ -1,9 +1,7 @@
 use Rattle.std.proofs.Common.{◌≡◌, [], refl, sym, ◌∙◌, ap, inl, inr}
-use Rattle.delaunay_edit.specs.delaunay_core.declared.math.InsertionError.TheVariants.{OutOfMemory}
-use Rattle.triangulate_run.specs.declared.reply.Reply.TheVariants.{NoVertex, Refused}
-use Rattle.triangulate_run.specs.Engine.{stage_of}
-use Rattle.triangulate_run.specs.Reply.{reply_text}
-use Rattle.triangulate_run.proofs.Stages.{joins_there}
+use Rattle.{delaunay_core.specs.OutOfMemory, triangulate_run.proofs.Stages.joins_there}
+use Rattle.triangulate_run.specs.{Refused, reply_text, stage_of}
+use Rattle.triangulate_run.specs.declared.reply.Reply.TheVariants.{NoVertex}
 use Rattle.triangulate_run.proofs.engine.PointEngine.constrain.Goals as goal
 
 pub returns-in_default-clause-answered : goal.returns-in_default-clause-answered

@@ -1,7 +1,6 @@
 use Rattle.std.proofs.Common.{ap, sym, subst}
-use Rattle.delaunay_edit.specs.Constrained.{none, constraint_edges}
-use Rattle.triangulate_run.specs.Engine.{stage_of}
-use Rattle.triangulate_run.specs.Stage.{Fits}
+use Rattle.delaunay_edit.specs.{constraint_edges, none}
+use Rattle.triangulate_run.specs.{Fits, stage_of}
 use Rattle.triangulate_run.proofs.Stages.{fits}
 use Rattle.triangulate_run.proofs.engine.PointEngine.recall_invariant.Goals as goal
 

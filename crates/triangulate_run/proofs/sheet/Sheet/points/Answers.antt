@@ -1,6 +1,5 @@
 use Rattle.std.proofs.Common.{◌≡◌, rules}
-use Rattle.triangulate_run.specs.declared.table.TheConstants.{G_POINTS, B_POINTS, R_POINTS}
-use Rattle.triangulate_run.specs.declared.table.TheConstants.{L_POINTS, X_POINTS}
+use Rattle.triangulate_run.specs.{B_POINTS, G_POINTS, L_POINTS, R_POINTS, X_POINTS}
 use Rattle.triangulate_run.specs.Sheet.{points_of}
 use Rattle.triangulate_run.proofs.Found.{all_listed, all_listed_sites}
 use Rattle.triangulate_run.proofs.sheet.Sheet.points.Goals as goal

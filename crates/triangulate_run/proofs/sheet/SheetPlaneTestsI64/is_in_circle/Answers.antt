@@ -1,6 +1,5 @@
 use Rattle.std.proofs.Common.{rules}
-use Rattle.triangulate_run.proofs.Found.{at_found}
-use Rattle.triangulate_run.proofs.Truth.{inside_from}
+use Rattle.triangulate_run.proofs.{Found.at_found, Truth.inside_from}
 use Rattle.triangulate_run.proofs.sheet.SheetPlaneTestsI64.is_in_circle.Goals as goal
 
 pub returns-in-Some : goal.returns-in-Some

@@ -1,6 +1,5 @@
 use Rattle.std.proofs.Common.{rules}
-use Rattle.triangulate_run.proofs.Found.{at_found}
-use Rattle.triangulate_run.proofs.Truth.{side_from}
+use Rattle.{triangulate_run.proofs.Found.at_found, triangulate_run.proofs.Truth.side_from}
 use Rattle.triangulate_run.proofs.sheet.SheetPlaneTestsI64.side.Goals as goal
 
 pub returns-then-is_some : goal.returns-then-is_some

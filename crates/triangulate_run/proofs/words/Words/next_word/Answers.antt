@@ -1,8 +1,8 @@
 use Rattle.std.proofs.Common.{length, arith, ap, ◌≡◌, ◌∙◌, sym, drop, ◌∷◌, take, ◌-◌, ◌+◌}
 use Rattle.std.proofs.Common.{length-drop, rules}
 use Rattle.std.proofs.lemmas.List.{take_all}
-use Rattle.triangulate_run.specs.Grammar.{words_of}
-use Rattle.triangulate_run.proofs.WordsLemmas.{word_at, last_word}
+use Rattle.triangulate_run.specs.{words_of}
+use Rattle.triangulate_run.proofs.WordsLemmas.{last_word, word_at}
 use Rattle.triangulate_run.proofs.words.Words.next_word.Goals as goal
 
 pub returns-then-byte-eq32 : goal.returns-then-byte-eq32

@@ -1,0 +1,127 @@
+#!/usr/bin/env python3
+"""checks/ways.py PROGRAM: has test_parts find ways in random rooms, and looks that there is none
+exactly where no chain of positions joins the ends, that each way is a taut chain over vertices, and
+how long ways are beside the shortest.
+
+A room has segments between points of a grid of 5 by 5. Its free faces are those that the program
+prints, but each third. What comes out is judged by brute force in fractions: which vertices and
+ends see each other. Some ends are on vertices, some outside.
+"""
+import heapq
+import random
+import subprocess
+import sys
+from ast import literal_eval
+from math import dist
+
+from model.floor import is_in_sight
+
+ROOMS = 1500
+# The vertices are on even coordinates, so that ends are often on no vertex and no edge.
+SIDE = range(0, 10, 2)
+NEAR = range(-1, 10)
+
+
+def rooms():
+    """Each room: the ends of a way, and segments."""
+    chance = random.Random(20261201)
+    for _ in range(ROOMS):
+        grid = lambda: (chance.choice(SIDE), chance.choice(SIDE))
+        near = lambda: (chance.choice(NEAR), chance.choice(NEAR))
+        segments = [(grid(), grid()) for _ in range(chance.randrange(2, 15))]
+        vertices = [end for segment in segments for end in segment]
+        ends = [chance.choice(vertices) if chance.random() < 0.4 else near() for _ in range(2)]
+        yield *ends, segments
+
+
+class Sight:
+    """Which positions see each other through free faces. It is asked for once of each two."""
+
+    def __init__(self, faces):
+        self.free = [corners for index, corners in enumerate(faces, 1) if index % 3]
+        self.known = {}
+
+    def __call__(self, p, q):
+        both = min(p, q), max(p, q)
+        if both not in self.known:
+            self.known[both] = is_in_sight(*both, self.free)
+        return self.known[both]
+
+
+def shortest(start, end, vertices, sees):
+    """How long the shortest chain from one position over vertices to another is, if any joins them.
+    An end that sees not even itself is in no closed free face."""
+    if not sees(start, start) or not sees(end, end):
+        return None
+    left, done = [(0.0, start)], set()
+    while left:
+        length, here = heapq.heappop(left)
+        if here == end:
+            return length
+        if here in done:
+            continue
+        done.add(here)
+        for there in vertices | {end}:
+            if there not in done and sees(here, there):
+                heapq.heappush(left, (length + dist(here, there), there))
+    return None
+
+
+def fault(way, start, end, vertices, sees):
+    """What is wrong with a way, if anything is."""
+    if len(way) < 2 or way[0] != start or way[-1] != end:
+        return "its ends are others"
+    if not vertices.issuperset(way[1:-1]):
+        return "it turns at a position that is no vertex"
+    if not all(map(sees, way, way[1:])):
+        return "a leg is not in sight"
+    if any(map(sees, way, way[2:])):
+        return "it is not taut"
+    return None
+
+
+def judge(room, faces, way):
+    """What is wrong with what came of a room, if anything is, and how many times as long as the
+    shortest the way is."""
+    start, end, segments = room
+    vertices = {it for segment in segments for it in segment}
+    if not vertices.issuperset(corner for corners in faces for corner in corners):
+        return "a face has a corner that is no vertex", 1
+    sees = Sight(faces)
+    least = shortest(start, end, vertices, sees)
+    if way is None:
+        return "none, and yet a chain joins the ends" if least is not None else None, 1
+    if least is None:
+        return "a way, and yet no chain joins the ends", 1
+    length = sum(map(dist, way, way[1:]))
+    return fault(way, start, end, vertices, sees), length / least if least else 1
+
+
+def main(program):
+    given = list(rooms())
+    text = "".join(
+        f"way {start[0]} {start[1]} {end[0]} {end[1]} "
+        + " ".join(f"{a} {b} {c} {d}" for (a, b), (c, d) in segments) + "\n"
+        for start, end, segments in given
+    )
+    ran = subprocess.run([program], input=text, capture_output=True, text=True, timeout=1200)
+    if ran.returncode:
+        sys.exit(f"the program gave {ran.returncode}: {ran.stderr}")
+    rows, wrong, ratios, turns = iter(ran.stdout.splitlines()), 0, [], 0
+    for room in given:
+        faces, way = literal_eval(next(rows)), next(rows)
+        way = None if way == "none" else literal_eval(way)
+        reason, ratio = judge(room, faces, way)
+        if way:
+            ratios.append(ratio)
+            turns += len(way) - 2
+        if reason:
+            wrong += 1
+            print(f"{room}: {way}: {reason}")
+    print(f"{len(given)} rooms, {len(ratios)} ways that turn {turns} times, {wrong} wrong; of the "
+          f"shortest at most {max(ratios):.3f}, on average {sum(ratios) / len(ratios):.4f}")
+    sys.exit(1 if wrong or next(rows, None) is not None else 0)
+
+
+if __name__ == "__main__":
+    main(sys.argv[1])

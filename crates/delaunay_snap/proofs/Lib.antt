@@ -1,3 +1,0 @@
-pub mod Connections
-pub mod Steps
-pub mod Outcomes

@@ -1,8 +1,0 @@
-use Rattle.delaunay_snap.specs.Splits.{IsSplitting}
-use Rattle.delaunay_snap.proofs.splitting.add_constraints_and_split.Given as goal
-
-abbrev pub invariant-loop : goal.invariant-loop
-invariant-loop g l = IsSplitting g.T.Vertex.HasPosition.place
-    g.T.Constraints.ConstraintMarker.constraints (λ v. (p : _) × g.C.Fn.post l.make_vertex (p, tt) v)
-    (g.T.Triangulation.state l.fn.site) (g.T.Triangulation.state l.site) l.fn.segments.items
-    l.segments.items

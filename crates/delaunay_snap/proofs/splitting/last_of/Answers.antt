@@ -1,7 +1,0 @@
-use Rattle.std.proofs.Common.{◌∙◌}
-use Rattle.delaunay_snap.proofs.Outcomes.{last_of_list}
-use Rattle.delaunay_snap.proofs.splitting.last_of.Goals as goal
-
-pub returns : goal.returns
-returns c =
-    last_of_list c.args.segments.now c.copied.result (c.copied.ensures ∙ c.last.ensures.value)

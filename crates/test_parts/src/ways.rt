@@ -1,0 +1,105 @@
+//! A way from one position of a line to another. The other numbers of the line are segments, four
+//! numbers each: their ends become vertices, and each segment a constraint unless one crosses it. The
+//! inner faces whose index is no multiple of 3 are free.
+
+ghost use Rattle.std.specs.Prelude.{◌%◌, ◌==◌, not};
+
+use delaunay_core::math::validate_vertex;
+use delaunay_core::point::Point2;
+use delaunay_interface::{ConstrainedDelaunayTriangulation, Triangulation};
+use delaunay_journal::{PairEdit, Replayable};
+use delaunay_shapes::FreeFaces;
+use delaunay_ways::find_way;
+use exact_predicates::ExactTests;
+use half_edge_links::FixedFaceHandle;
+use std::alloc::{AllocError, Global};
+use test_reader::Call;
+
+// The faces whose index is no multiple of 3.
+struct TwoOfThree;
+
+impl FreeFaces for TwoOfThree {
+    ghost free = { λ _ face. not (face % 3 == 0) };
+
+    fn is_free(&self, face: FixedFaceHandle) -> bool {
+        face.index() % 3 != 0
+    }
+}
+
+// Inserts the ends of segments, and joins them where no constraint crosses.
+fn build<T: Replayable<Vertex = Point2<i64>>>(
+    site: &mut T,
+    ends: &[Point2<i64>],
+) -> anyhow::Result<()> {
+    let mut start = None;
+    for end in ends {
+        let end = site.insert(*end, &ExactTests)?;
+        match start.take() {
+            Some(start) => {
+                site.change_pair(PairEdit::Join(start, end), &ExactTests);
+            }
+            None => start = Some(end),
+        }
+    }
+    Ok(())
+}
+
+fn pair(position: &Point2<i64>) -> (i64, i64) {
+    (position.x, position.y)
+}
+
+// The corners of each inner face, in order.
+fn faces_of<T: Triangulation<Vertex = Point2<i64>>>(
+    site: &T,
+    alloc: Global,
+) -> Result<Vec<[(i64, i64); 3]>, AllocError> {
+    let mut faces = Vec::new(alloc);
+    for face in site.inner_faces() {
+        let [a, b, c] = face.vertices();
+        faces.push([pair(a.data()), pair(b.data()), pair(c.data())])?;
+    }
+    Ok(faces)
+}
+
+// A way by the coordinates of its positions.
+fn way_between<T: Triangulation<Vertex = Point2<i64>>>(
+    site: &T,
+    from: Point2<i64>,
+    to: Point2<i64>,
+    alloc: Global,
+) -> anyhow::Result<Option<Vec<(i64, i64)>>> {
+    validate_vertex(&from)?;
+    validate_vertex(&to)?;
+    site.recall_invariant();
+    let Some(way) = find_way(site, from, to, &TwoOfThree, &ExactTests, alloc)? else {
+        return Ok(None);
+    };
+    let mut pairs = Vec::new(alloc);
+    for position in way.iter() {
+        pairs.push(pair(position))?;
+    }
+    Ok(Some(pairs))
+}
+
+fn answer<T: Replayable<Vertex = Point2<i64>>>(
+    rt: &(impl Print + AllocGlobal),
+    site: &mut T,
+    call: &Call<'_>,
+) -> anyhow::Result<()> {
+    let positions = call.positions(rt.alloc())?;
+    let (from, to) = call.ends();
+    build(site, positions.get(2..).unwrap_or(&[]))?;
+    let faces = faces_of(site, rt.alloc())?;
+    println!(rt; "{faces:?}")?;
+    match way_between(site, from, to, rt.alloc())? {
+        Some(way) => println!(rt; "{way:?}")?,
+        None => println!(rt; "none")?,
+    }
+    Ok(())
+}
+
+/// Prints the corners of the inner faces, and the way, or `none`.
+pub fn tell_way(rt: &(impl Print + AllocGlobal), call: &Call<'_>) -> anyhow::Result<()> {
+    let mut site = ConstrainedDelaunayTriangulation::<Point2<i64>>::new(rt.alloc());
+    answer(rt, &mut site, call)
+}

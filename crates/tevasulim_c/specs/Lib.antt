@@ -1,0 +1,2 @@
+pub mod Whole
+pub use Whole.{EndsAtPoints, FirstAre, IsNamedOf}
