@@ -107,14 +107,14 @@ def lanes(most=8):
     return max(min(most, len(os.sched_getaffinity(0)), free // MEMORY), 1)
 
 
-def build(crate):
-    """Proves one library as the gate does, and stamps it. Gives whether it is proved, what was
-    said, and the seconds."""
+def build(crate, jobs=1):
+    """Proves one library as the gate does, by as many processes as may be, and stamps it. Gives
+    whether it is proved, what was said, and the seconds."""
     begin, crate = time.monotonic(), copy.copy(crate)
     before = crate.stamp()
     with tempfile.TemporaryFile("w+", errors="replace") as crate.out:
         try:
-            status = crate.build_rlib(["--jobs", "1"], anew=True)
+            status = crate.build_rlib(["--jobs", str(jobs)], anew=True)
         except SystemExit as error:
             status = error.code
         crate.out.seek(0)
@@ -136,12 +136,14 @@ def prove(named, tell=print):
     above = lambda crate: sum(crate in other.below() for other in named.values())
     done = {name for name, crate in named.items() if crate.is_built()}
     left = {name: crate for name, crate in named.items() if name not in done}
-    held = kit.lock([*named.values()])
-    with ThreadPoolExecutor(lanes()) as pool:
+    held, most = kit.lock([*named.values()]), lanes()
+    with ThreadPoolExecutor(most) as pool:
         while left or running:
             ready = [it for it in left.values() if all(b.name in done for b in it.below())]
+            # A crate that waits for nobody gets the processors that no other crate could take.
+            jobs = max(1, min(4, most // max(1, len(running) + len(ready))))
             for crate in sorted(ready, key=above, reverse=True):
-                running[pool.submit(build, left.pop(crate.name))] = crate.name
+                running[pool.submit(build, left.pop(crate.name), jobs)] = crate.name
             if not running:
                 failed += [*left]
                 break

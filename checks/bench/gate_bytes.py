@@ -1,12 +1,12 @@
 #!/usr/bin/env python3
-"""checks/bench/gate_bytes.py [--write] COMMAND..: runs a gate, as `rt ci --anew` or `./test`, and tells
-what each crate's proof took; checks/bench/gate_bytes.py [--write] --pid PID: the same of one that runs.
+"""checks/bench/gate_bytes.py [--write] COMMAND..: runs a gate, as `rt ci` or `./test`, and tells what
+each crate's proof took; checks/bench/gate_bytes.py [--write] --pid PID: the same of one that runs.
 
 The prover writes each module of a proof as a file under /tmp, in a folder that its process's number
 names. Their bytes are the same from run to run of one tree, while processor seconds differ by two
 and a half with what else the host does. So two trees are compared by bytes, or by seconds side by
-side. Of a crate that an earlier run on this machine has proved nothing is written: `--anew` proves
-all.
+side. Of a crate that an earlier run on this machine has proved nothing is written: with a kit that
+keeps such proofs, `rt ci --anew` proves all.
 
 It prints, crate by crate, the modules, their megabytes, processor seconds and the most memory; then
 the sums, the share of the time that the host took away (steal), and the longest chain of crates, in
