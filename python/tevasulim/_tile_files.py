@@ -301,7 +301,8 @@ class TileFiles:
         self, pieces: List[Piece], first: int, plan: Any, polygon: NDArray[Any], has_keys: bool
     ) -> List[Gathered]:
         """The same of the tiles from `first` on that a plan has, straight from all pieces."""
-        points = np.concatenate([np.asarray(it.points(), np.int32).reshape(-1, 2) for it in pieces])
+        parts = [np.asarray(it.points(), np.int32).reshape(-1, 2) for it in pieces]
+        points = np.concatenate([np.empty((0, 2), np.int32), *parts])
         each = enumerate(rows_by_tile(plan, points), first)
         words = polygon, has_keys
         return [self.keep(tile, points.take(rows, axis=0), rows, *words) for tile, rows in each]

@@ -43,7 +43,7 @@ def parts_of(given: Any) -> Iterator[Any]:
         if hasattr(part, "to_delayed"):
             yield from part.to_delayed()
         elif isinstance(part, (str, os.PathLike)):
-            yield from map(os.path.abspath, named(os.fspath(part)))
+            yield from (os.path.abspath(it) for it in named(os.fspath(part)))
         else:
             yield part
 
