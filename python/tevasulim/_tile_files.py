@@ -129,8 +129,11 @@ def parted(plan: Any, axes: Tuple[NDArray[Any], ...], rows: NDArray[Any]) -> Lis
         return [rows]
     axis, at, *both = plan
     is_high = axes[axis].take(rows) >= at
-    halves = [(half, are_in) for half, are_in in zip(both, (~is_high, is_high)) if half is not False]
-    return [it for half, are_in in halves for it in parted(half, axes, rows.compress(are_in))]
+    found = []
+    for half, are_in in zip(both, (~is_high, is_high)):
+        if half is not False:
+            found += parted(half, axes, rows.compress(are_in))
+    return found
 
 
 class Piece(NamedTuple):

@@ -62,8 +62,8 @@ def named(name: str) -> List[str]:
 
 
 def files_in(folder: str) -> List[str]:
-    """The files of a folder that are parts. Those that are hidden, that begin with an underscore, as
-    Parquet's own, or that belong to a layer are none; others are refused."""
+    """The files of a folder that are parts. Those that are hidden, that begin with an underscore,
+    as Parquet's own, or that belong to a layer are none; others are refused."""
     parts = []
     for name in sorted(os.listdir(folder), key=by_numbers):
         kind = ending(name)

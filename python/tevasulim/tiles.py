@@ -55,8 +55,8 @@ __all__ = ["triangulate_tiles", "neighbors", "TiledCells", "TileReport"]
 # How many points of all are looked at at most before the plane is cut, and of these for their hull,
 # of which so many corners are taken or somewhat more.
 SAMPLE, FOR_HULL, CORNERS = 200_000, 2_000, 64
-# How many points are few: this process surveys them by itself, and each worker reads all of them and
-# gathers the points of some tiles.
+# How many points are few: this process surveys them by itself, and each worker reads all of them
+# and gathers the points of some tiles.
 AT_ONCE = 2_000_000
 # How many points a tile has at least where there would be no tile for some workers.
 LEAST = 50_000
@@ -67,7 +67,8 @@ FEW = 5
 class TiledCells(NamedTuple):
     """The cells of each tile, as an array or the name of a .npy: int64 of shape (k, 3), the numbers
     of the corners counterclockwise from the least point on; what each tile did; and the name of the
-    run's index, a JSON file that names the files of its cells, or `None` without a folder.
+    run's index, a JSON file that names the files of its cells, and those of the parts in the order
+    in which points are numbered, or `None` without a folder.
 
     A number is the row of a point in all parts, so that what is known of points, as their heights,
     is had by `heights[cells]`."""
