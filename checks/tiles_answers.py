@@ -17,6 +17,7 @@ import dask
 import numpy as np
 from distributed import Client, LocalCluster
 
+import tevasulim.tiles
 from model.geometry import in_circle
 from tevasulim import CrossingError, NoSuchPointError, NotWholeError, TooLargeError, Triangulation
 from tevasulim._circles import are_zero
@@ -27,6 +28,9 @@ MOST = 2**29
 COUNT, ON_LINE, WORKERS, TILES = 100_000, 3_990, 4, (1, 4, 25, 100)
 FEWER = 20_000
 NO_SEGMENTS = np.empty((0, 2), np.int64)
+FEW_POINTS = tevasulim.tiles.AT_ONCE
+# One tile is one, however many workers there are.
+tevasulim.tiles.LEAST = 2 * COUNT
 SQUARE = [(0, 0), (4, 0), (5, 5), (0, 4)]
 
 
@@ -186,7 +190,9 @@ def check_neighbors(rows, beyond):
 
 
 def check(points, tiles, client, folder, wanted, segments=NO_SEGMENTS):
-    """Runs tiles over the points in three parts, one of them a file, and compares their cells."""
+    """Runs tiles over the points in three parts, one of them a file, and compares their cells. 25
+    tiles are cut and gathered as those of many points are."""
+    tevasulim.tiles.AT_ONCE = 0 if tiles == 25 else FEW_POINTS
     parts = np.array_split(points, 3)
     np.save(f"{folder}/part.npy", parts[1])
     parts[1] = f"{folder}/part.npy"
@@ -372,7 +378,7 @@ def check_habits(client, folder):
     """What a user of Dask expects: names of tasks on the dashboard; the command's progress, on
     standard error; tasks that need memory, of which workers were begun with so much; and two runs
     at the same time."""
-    names = {"survey", "cut", "gather", "cells_of_tile"}
+    names = {"survey", "cut", "gather", "gather_from", "cells_of_tile"}
     assert names <= client.run_on_scheduler(keys_of)
     points = np.random.default_rng(40).integers(0, 10**6, (3000, 2))
     np.save(f"{folder}/few.npy", points)

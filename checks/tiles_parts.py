@@ -1,6 +1,7 @@
 """Parts of each kind that tiles take, beside the same points as one array. A kind whose package is
 not there is passed over, which is said. It is run by checks/tiles.py, in Debian's Python."""
 import importlib.util
+import json
 import os
 import subprocess
 import sys
@@ -62,6 +63,58 @@ def check_tables(points, folder, wanted):
 SQUARE = [(0, 0), (4, 0), (5, 5), (0, 4)]
 
 
+def run_command(folder, *words):
+    """The names of the cells' files that the command writes, and the index beside them."""
+    words = "tiles", *words, "-q", "-o", f"{folder}/out", "--tile-size", str(SIZE)
+    command = [sys.executable, "-m", "tevasulim", *words]
+    run = subprocess.run(command, capture_output=True, text=True)
+    assert not run.returncode, run.stderr
+    names = run.stdout.split()
+    with open(f"{os.path.dirname(names[0])}/index.json", encoding="utf-8") as file:
+        return names, json.load(file)
+
+
+def refusal_of(folder, *words):
+    """What the command says of what it refuses."""
+    words = "tiles", *words, "-o", f"{folder}/out"
+    command = [sys.executable, "-m", "tevasulim", *words]
+    run = subprocess.run(command, capture_output=True, text=True)
+    assert run.returncode == 1 and not run.stdout, run
+    return run.stderr
+
+
+def check_folders(points, folder, wanted):
+    """A folder of parts, and a pattern: in the order of the numbers in the files' names."""
+    room = f"{folder}/room"
+    os.mkdir(room)
+    for number, part in enumerate(np.array_split(points, 11)):
+        rows = np.column_stack([np.arange(len(part)), part])
+        words = {"fmt": "%d", "delimiter": ",", "comments": ""}
+        np.savetxt(f"{room}/hill-{number}.csv", rows, header=",x,y", **words)
+    open(f"{room}/.hidden", "w").close()
+    open(f"{room}/_metadata", "w").close()
+    for name in room, f"{room}/hill-*.csv", f"{folder}/ro*m":
+        found, index = run_command(folder, name, "--header")
+        assert np.array_equal(rows_of(found), wanted)
+        assert index["parts"] == [f"{room}/hill-{number}.csv" for number in range(11)]
+    array = triangulate_tiles([points], SIZE, None, folder)
+    with open(array.index_file, encoding="utf-8") as file:
+        assert json.load(file)["parts"] == [None]
+    # Without x and y the first two columns that have a name are taken.
+    with open(f"{room}/hill-0.csv", encoding="utf-8") as file:
+        text = file.read()
+    with open(f"{folder}/east.csv", "w", encoding="utf-8") as file:
+        file.write(text.replace(",x,y", ",east,north", 1))
+    one, _ = run_command(folder, f"{folder}/east.csv", "--header")
+    two = triangulate_tiles([np.array_split(points, 11)[0]], SIZE)
+    assert np.array_equal(rows_of(one), rows_of(two.cells))
+    assert "no file has such a name" in refusal_of(folder, f"{room}/vale-*.csv")
+    os.mkdir(f"{folder}/empty")
+    assert "empty has no part" in refusal_of(folder, f"{folder}/empty")
+    open(f"{room}/hill.laz", "w").close()
+    assert "hill.laz is no part" in refusal_of(folder, room, "--header")
+
+
 def check_frames(points, folder, wanted):
     import dask.dataframe
     import pandas
@@ -72,25 +125,45 @@ def check_frames(points, folder, wanted):
     both = triangulate_tiles([frame[:FIRST], f"{folder}/others.xyz"], SIZE)
     for found in whole, parts, both:
         assert np.array_equal(rows_of(found.cells), wanted)
+    # What dask.dataframe wrote, with the index of its rows, and what it reads of it.
+    room, parts = f"{folder}/frame", dask.dataframe.from_pandas(frame, npartitions=12)
+    parts.to_csv(room)
+    found, index = run_command(folder, room, "--header")
+    assert np.array_equal(rows_of(found), wanted) and len(index["parts"]) == 12
+    assert index["parts"][-1] == f"{room}/11.part"
+    found, _ = run_command(folder, f"{room}/*.part", "--columns", "x,y")
+    assert np.array_equal(rows_of(found), wanted)
+    found = triangulate_tiles(dask.dataframe.read_csv(f"{room}/*.part"), SIZE)
+    assert np.array_equal(rows_of(found.cells), wanted)
     if not any(map(importlib.util.find_spec, ("pyarrow", "fastparquet"))):
         print("Parquet is passed over: neither pyarrow nor fastparquet is there")
         return
     frame.to_parquet(f"{folder}/all.parquet")
     found = triangulate_tiles(f"{folder}/all.parquet", SIZE)
     assert np.array_equal(rows_of(found.cells), wanted)
+    parts.to_parquet(f"{folder}/parquet")
+    found, _ = run_command(folder, f"{folder}/parquet")
+    assert np.array_equal(rows_of(found), wanted)
 
 
 def check_layers(points, folder, wanted):
     import geopandas
 
     places = geopandas.points_from_xy(*(points[:FIRST] / 100).T)
-    layer, out = f"{folder}/first.gpkg", f"{folder}/out"
+    layer, room = f"{folder}/first.gpkg", f"{folder}/layers"
     geopandas.GeoDataFrame(geometry=places).to_file(layer)
-    words = "tiles", layer, f"{folder}/others.csv", "--scale", "100", "--header", "-o", out
-    command = [sys.executable, "-m", "tevasulim", *words, "--tile-size", str(SIZE)]
-    run = subprocess.run(command, capture_output=True, text=True)
-    assert not run.returncode, run.stderr
-    assert np.array_equal(rows_of(run.stdout.split()), wanted)
+    words = layer, f"{folder}/others.csv", "--scale", "100", "--header"
+    assert np.array_equal(rows_of(run_command(folder, *words)[0]), wanted)
+    # A folder of layers, where files of one name are one part.
+    os.mkdir(room)
+    for name, some in ("a.shp", slice(FIRST)), ("b.geojson", slice(FIRST, None)):
+        places = geopandas.points_from_xy(*points[some].T)
+        geopandas.GeoDataFrame({"number": 0}, geometry=places, index=range(len(places))).to_file(
+            f"{room}/{name}", driver={"a.shp": None, "b.geojson": "GeoJSON"}[name]
+        )
+    found, index = run_command(folder, room)
+    assert np.array_equal(rows_of(found), wanted)
+    assert index["parts"] == [f"{room}/a.shp", f"{room}/b.geojson"]
 
 
 def check_parts():
@@ -99,6 +172,7 @@ def check_parts():
     with tempfile.TemporaryDirectory() as folder:
         write_parts(points, folder)
         check_tables(points, folder, wanted)
+        check_folders(points, folder, wanted)
         for module, check in ("pandas", check_frames), ("geopandas", check_layers):
             if importlib.util.find_spec(module):
                 check(points, folder, wanted)

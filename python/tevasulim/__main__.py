@@ -50,7 +50,8 @@ def add_input(it: argparse.ArgumentParser) -> None:
 
 def add_tiles(part: argparse.ArgumentParser) -> None:
     """What the command `tiles` takes."""
-    about = "a part of the points: a table, a .npy, a .parquet, or a layer that geopandas reads"
+    about = """a part of the points: a table, a .npy, a .parquet, or a layer that geopandas reads; a
+    folder of these, as dask.dataframe writes it; or a pattern, as 'hill-*.csv'"""
     part.add_argument("inputs", metavar="IN", nargs="+", help=about)
     part.add_argument("--header", action="store_true", help="the first row of a table has names")
     part.add_argument("--columns", help="the columns for x and y: their names, as x,y, or 0,1")

@@ -55,7 +55,7 @@ def circle_test(
 
 
 # How many faces are looked at together, so that what they need stays in a processor's cache.
-TOGETHER = 1 << 13
+TOGETHER = 1 << 14
 
 
 def disks(points: NDArray[Any], corners: NDArray[Any]) -> NDArray[Any]:
@@ -288,15 +288,14 @@ class Wanted(NamedTuple):
 
 def from_least(corners: NDArray[Any], keys: NDArray[Any]) -> List[NDArray[Any]]:
     """The corners of faces, each from the one with the least key on, as three columns."""
-    a, b, c = corners.astype(np.intp)
-    of_a, of_b, of_c = keys.take(a), keys.take(b), keys.take(c)
-    second = np.flatnonzero(of_b < np.minimum(of_a, of_c))
-    third = np.flatnonzero(of_c < np.minimum(of_a, of_b))
-    columns = []
-    for first, from_b, from_c in (a, b, c), (b, c, a), (c, a, b):
-        columns.append(first.copy())
-        columns[-1][second], columns[-1][third] = from_b.take(second), from_c.take(third)
-    return columns
+    count = corners.shape[1]
+    twice = np.concatenate([corners, corners[:2]]).astype(np.intp)
+    of_a, of_b, of_c = (keys.take(it) for it in twice[:3])
+    places = (of_b < np.minimum(of_a, of_c)).astype(np.intp)
+    places += 2 * (of_c < np.minimum(of_a, of_b))
+    places *= count
+    places += np.arange(count)
+    return [twice[k:].ravel().take(places) for k in range(3)]
 
 
 def least_of(corners: NDArray[Any], keys: NDArray[Any]) -> NDArray[Any]:

@@ -12,6 +12,8 @@ import numpy as np
 from ._types import NDArray
 
 TABLES = (".csv", ".txt", ".xyz", ".tsv", ".npy")
+# What is between columns, by the ending of a table's name; spaces elsewhere.
+COMMAS = {".csv": ",", ".part": ",", ".tsv": "\t"}
 # A table's first bytes may say that it is Unicode.
 ENCODING = "utf-8-sig"
 
@@ -29,7 +31,7 @@ def read_table(
         if array.ndim != 2:
             raise ValueError(f"{name} has the shape {array.shape}, but needs (n, 2) or (n, 3)")
         return np.asarray(array[:, picked(columns, None, name) or slice(at_most)], np.float64)
-    comma = {".csv": ",", ".tsv": "\t"}.get(name[name.rfind(".") :].lower())
+    comma = COMMAS.get(name[name.rfind(".") :].lower())
     names = first_row(name, comma)
     places = picked(columns, names, name)
     if columns and not all(it.strip().isdigit() for it in columns.split(",")):

@@ -105,6 +105,18 @@ def boxes_in(plan: Any, box: Box = PLANE) -> List[Box]:
     return boxes_in(low, parts[0]) + boxes_in(high, parts[1])
 
 
+def some_of(plan: Any, begin: int, end: int) -> Any:
+    """How the plane is cut, with False in the place of all tiles but those from `begin` up to
+    `end`."""
+    if end <= 0 or begin >= len(boxes_in(plan)):
+        return False
+    if plan is None:
+        return None
+    axis, at, low, high = plan
+    tiles = len(boxes_in(low))
+    return axis, at, some_of(low, begin, end), some_of(high, begin - tiles, end - tiles)
+
+
 def rows_by_tile(plan: Any, points: NDArray[Any]) -> List[NDArray[np.int64]]:
     """For each tile the rows of its points, in their order."""
     x, y = np.ascontiguousarray(points.T)
@@ -117,8 +129,11 @@ def parted(plan: Any, axes: Tuple[NDArray[Any], ...], rows: NDArray[Any]) -> Lis
         return [rows]
     axis, at, *both = plan
     is_high = axes[axis].take(rows) >= at
-    halves = rows.compress(~is_high), rows.compress(is_high)
-    return [it for half, some in zip(both, halves) for it in parted(half, axes, some)]
+    found = []
+    for half, are_in in zip(both, (~is_high, is_high)):
+        if half is not False:
+            found += parted(half, axes, rows.compress(are_in))
+    return found
 
 
 class Piece(NamedTuple):
@@ -272,9 +287,7 @@ class TileFiles:
     def gather(
         self, tile: int, parts: List[Tuple[int, int, int]], polygon: NDArray[Any], has_keys: bool
     ) -> Gathered:
-        """Gathers the points of a tile, each once with its least number, from parts with a begin
-        and an end, and their keys where points are looked up by them. Corners of a polygon are
-        given, so that what lies inside is no corner of the hull of all."""
+        """Gathers the points of a tile from what was cut: parts with a begin and an end."""
         points, numbers = (
             np.concatenate([self.rows(kind, part)[begin:end] for part, begin, end in parts])
             if parts
@@ -284,7 +297,31 @@ class TileFiles:
                 ("cut-numbers", np.empty(0, np.int64)),
             )
         )
-        # Parts come in the order of their numbers, so of equal points the least number is first.
+        return self.keep(tile, points, numbers, polygon, has_keys)
+
+    @freed_is_kept()
+    def gather_from(
+        self, pieces: List[Piece], first: int, plan: Any, polygon: NDArray[Any], has_keys: bool
+    ) -> List[Gathered]:
+        """The same of the tiles from `first` on that a plan has, straight from all pieces."""
+        parts = [np.asarray(it.points(), np.int32).reshape(-1, 2) for it in pieces]
+        points = np.concatenate([np.empty((0, 2), np.int32), *parts])
+        each = enumerate(rows_by_tile(plan, points), first)
+        words = polygon, has_keys
+        return [self.keep(tile, points.take(rows, axis=0), rows, *words) for tile, rows in each]
+
+    def keep(
+        self,
+        tile: int,
+        points: NDArray[Any],
+        numbers: NDArray[Any],
+        polygon: NDArray[Any],
+        has_keys: bool,
+    ) -> Gathered:
+        """Writes the points of a tile, each once with its least number, and their keys where points
+        are looked up by them. Points come in the order of their numbers. Corners of a polygon are
+        given, so that what lies inside is no corner of the hull of all."""
+        # Of equal points the least number is first.
         keys = near_keys(points) if has_keys else np.empty(0, np.uint64)
         order = np.argsort(keys, kind="stable") if has_keys else near_order_of_all(points)
         points = points.take(order, axis=0)

@@ -2,19 +2,27 @@
 pandas, geopandas and dask.dataframe, and arrays with names for their columns."""
 from __future__ import annotations
 
+import glob
 import os
+import re
 from typing import Any, Iterator, List, NamedTuple, Optional
 
 import numpy as np
 
 from ._needs import needed
 from ._numbers import point_list
-from ._tables import read_segments, read_table
+from ._tables import COMMAS, first_row, read_segments, read_table
 from ._types import NDArray
 from .errors import TevasulimError
 
-TABLES = ".csv", ".tsv", ".txt", ".xyz"
+# Dask writes a frame as a folder of tables .part, with commas.
+TABLES = ".csv", ".part", ".tsv", ".txt", ".xyz"
 PARQUET = ".parquet", ".pq"
+# Layers that are one file each, and the files beside these.
+LAYERS = ".fgb", ".geojson", ".gml", ".gpkg", ".json", ".kml", ".shp"
+BESIDE = ".cpg", ".crc", ".dbf", ".gfs", ".idx", ".prj", ".qix", ".qpj", ".sbn", ".sbx", ".shx"
+# Folders that geopandas reads as one file.
+FOLDERS = (".gdb",)
 
 
 class Reading(NamedTuple):
@@ -28,13 +36,54 @@ class Reading(NamedTuple):
 
 
 def parts_of(given: Any) -> Iterator[Any]:
-    """What was handed in, part by part: a frame of dask has several."""
+    """What was handed in, part by part: a frame of dask has several, and so have a folder and a
+    pattern."""
     alone = isinstance(given, (str, os.PathLike, np.ndarray)) or hasattr(given, "columns")
     for part in [given] if alone else given:
         if hasattr(part, "to_delayed"):
             yield from part.to_delayed()
+        elif isinstance(part, (str, os.PathLike)):
+            yield from (os.path.abspath(it) for it in named(os.fspath(part)))
         else:
-            yield os.path.abspath(part) if isinstance(part, (str, os.PathLike)) else part
+            yield part
+
+
+def named(name: str) -> List[str]:
+    """The files that a name stands for: itself, those of a folder, or those of a pattern; several
+    are in the order of their names, by the numbers in these."""
+    if os.path.isdir(name) and ending(name) not in FOLDERS:
+        return files_in(name)
+    if os.path.exists(name) or not glob.has_magic(name):
+        return [name]
+    found = sorted(glob.glob(name), key=by_numbers)
+    if not found:
+        raise FileNotFoundError(f"{name}: no file has such a name")
+    return [file for it in found for file in named(it)]
+
+
+def files_in(folder: str) -> List[str]:
+    """The files of a folder that are parts. Those that are hidden, that begin with an underscore,
+    as Parquet's own, or that belong to a layer are none; others are refused."""
+    parts = []
+    for name in sorted(os.listdir(folder), key=by_numbers):
+        kind = ending(name)
+        if name[0] in "._" or kind in BESIDE:
+            continue
+        if kind not in (".npy", *TABLES, *PARQUET, *LAYERS, *FOLDERS):
+            raise ValueError(
+                f"{os.path.join(folder, name)} is no part of points that is known by its ending: "
+                "name the files that are, as 'folder/*.csv'"
+            )
+        parts.append(os.path.join(folder, name))
+    if not parts:
+        raise FileNotFoundError(f"{folder} has no part of points")
+    return parts
+
+
+def by_numbers(name: str) -> List[Any]:
+    """A key of names in which 10 comes after 9."""
+    words = re.split("([0-9]+)", name)
+    return [(int(it), it) if i % 2 else (0, it) for i, it in enumerate(words)]
 
 
 def ending(name: str) -> str:
@@ -63,7 +112,8 @@ def coordinates_in(part: Any, reading: Reading) -> Any:
     if isinstance(part, str):
         kind = ending(part)
         if kind in TABLES:
-            return read_table(part, reading.columns, reading.header, 2)
+            columns = reading.columns or (columns_of(part) if reading.header else None)
+            return read_table(part, columns, reading.header, 2)
         if kind == ".npy":
             part = np.load(part, mmap_mode="r", allow_pickle=False)
         elif kind in PARQUET:
@@ -81,6 +131,17 @@ def coordinates_in(part: Any, reading: Reading) -> Any:
     if reading.columns and array.ndim == 2:
         return array[:, [int(it) for it in reading.columns.split(",")]]
     return array
+
+
+def columns_of(name: str) -> Optional[str]:
+    """The places of x and y in a table whose first row has names: of those that have these names,
+    or else of the first two that have a name. A frame's index is written without one."""
+    names = first_row(name, COMMAS.get(ending(name)))
+    for pair in ("x", "y"), ("X", "Y"):
+        if set(pair) <= set(names):
+            return ",".join(str(names.index(it)) for it in pair)
+    places = [str(place) for place, it in enumerate(names) if it]
+    return ",".join(places[:2]) or None
 
 
 def parquet(name: str) -> Any:

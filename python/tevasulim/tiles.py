@@ -34,7 +34,18 @@ from ._hull import hull_rows
 from ._runner import Runner
 from ._segments import NONE, longest_of
 from ._tile import Plan, TileReport, cells_of_tile
-from ._tile_files import TileFiles, boxes_in, is_plain, pieces_of, plan_of, survey
+from ._tile_files import (
+    Box,
+    Gathered,
+    Piece,
+    TileFiles,
+    boxes_in,
+    is_plain,
+    pieces_of,
+    plan_of,
+    some_of,
+    survey,
+)
 from ._tile_parts import TABLES, Reading, ending, parts_of, segments_in
 from ._types import NDArray
 from .errors import CrossingError, TevasulimError
@@ -44,6 +55,11 @@ __all__ = ["triangulate_tiles", "neighbors", "TiledCells", "TileReport"]
 # How many points of all are looked at at most before the plane is cut, and of these for their hull,
 # of which so many corners are taken or somewhat more.
 SAMPLE, FOR_HULL, CORNERS = 200_000, 2_000, 64
+# How many points are few: this process surveys them by itself, and each worker reads all of them
+# and gathers the points of some tiles.
+AT_ONCE = 2_000_000
+# How many points a tile has at least where there would be no tile for some workers.
+LEAST = 50_000
 # Of how many tiles a worker waits long for the others at the end.
 FEW = 5
 
@@ -51,7 +67,8 @@ FEW = 5
 class TiledCells(NamedTuple):
     """The cells of each tile, as an array or the name of a .npy: int64 of shape (k, 3), the numbers
     of the corners counterclockwise from the least point on; what each tile did; and the name of the
-    run's index, a JSON file that names the files of its cells, or `None` without a folder.
+    run's index, a JSON file that names the files of its cells, and those of the parts in the order
+    in which points are numbered, or `None` without a folder.
 
     A number is the row of a point in all parts, so that what is known of points, as their heights,
     is had by `heights[cells]`."""
@@ -82,10 +99,12 @@ def neighbors(cells: Sequence[Any]) -> List[NDArray[np.int64]]:
     return np.split(beyond, np.cumsum([len(it) for it in arrays])[:-1])
 
 
-def names_of(given: Any, files: TileFiles, runner: Runner, reading: Reading) -> List[str]:
-    """The points that were handed in, as names of .npy files. Workers read what is named, and this
-    process writes what it holds."""
-    tasks = [(part, i, reading) for i, part in enumerate(parts_of(given))]
+def names_of(
+    parts: List[Any], files: TileFiles, runner: Runner, reading: Reading
+) -> List[str]:
+    """The parts of the points, as names of .npy files. Workers read what is named, and this process
+    writes what it holds."""
+    tasks = [(part, i, reading) for i, part in enumerate(parts)]
     named = [it for it in tasks if isinstance(it[0], str) and not is_plain(it[0], reading)]
     named += [it for it in tasks if hasattr(it[0], "compute")]
     found = dict(zip((it[1] for it in named), runner.run(files.take, named)))
@@ -109,14 +128,52 @@ def cut_plane(
 ) -> Plan:
     """Cuts the plane into tiles, and gathers the points of each and the segments that may meet it:
     what each tile knows of all."""
-    pieces = [piece for name in names for piece in pieces_of(name)]
-    each = max(SAMPLE // max(len(pieces), 1), 1)
-    found = runner.run(survey, [(piece, each, tile_size) for piece in pieces])
-    counts = [count for count, _ in found]
-    sample = np.concatenate([np.empty((0, 2), np.int32), *(some for _, some in found)])
-    cuts = plan_of(sample, tile_count(sum(counts), tile_size, runner.workers()))
+    pieces, workers = [piece for name in names for piece in pieces_of(name)], runner.workers()
+    counts, sample = survey_of(pieces, tile_size, runner)
+    cuts = plan_of(sample, tile_count(sum(counts), tile_size, workers))
     boxes = boxes_in(cuts)
     firsts = np.cumsum([0, *counts]).tolist()
+    some = sample[:: max(len(sample) // FOR_HULL, 1)].astype(np.int64)
+    polygon = some[hull_rows(some)]
+    polygon = polygon[:: max(len(polygon) // CORNERS, 1)]
+    words = polygon, bool(of_segments)
+    if firsts[-1] <= AT_ONCE:
+        # Each worker gathers the points of as many tiles.
+        ends = sorted({len(boxes) * i // workers for i in range(workers + 1)})
+        tasks = [(pieces, i, some_of(cuts, i, k), *words) for i, k in zip(ends, ends[1:])]
+        gathered = [it for some in runner.run(files.gather_from, tasks) for it in some]
+    else:
+        gathered = cut_and_gather(pieces, firsts, cuts, words, runner, files)
+    of_names = [first for piece, first in zip(pieces, firsts) if piece.begin == 0]
+    of_names.append(firsts[-1])
+    placed = place_segments(of_segments, names, of_names, cuts, runner, files)
+    return plan_from(boxes, gathered, placed)
+
+
+def survey_of(
+    pieces: List[Piece], tile_size: int, runner: Runner
+) -> Tuple[List[int], NDArray[Any]]:
+    """How many points each piece has, and a sample of all."""
+    each = max(SAMPLE // max(len(pieces), 1), 1)
+    tasks = [(piece, each, tile_size) for piece in pieces]
+    if sum(AT_ONCE if it.end is None else it.end - it.begin for it in pieces) < AT_ONCE:
+        # This process has done it before others were asked.
+        found = [survey(*words) for words in tasks]
+    else:
+        found = runner.run(survey, tasks)
+    sample = np.concatenate([np.empty((0, 2), np.int32), *(some for _, some in found)])
+    return [count for count, _ in found], sample
+
+
+def cut_and_gather(
+    pieces: List[Piece],
+    firsts: List[int],
+    cuts: Any,
+    words: Tuple[Any, ...],
+    runner: Runner,
+    files: TileFiles,
+) -> List[Gathered]:
+    """Sorts each piece by tile, and gathers the points of each tile."""
     tasks = [(piece, i, firsts[i], cuts) for i, piece in enumerate(pieces)]
     begins = runner.run(files.cut, tasks)
     parts = [
@@ -125,24 +182,24 @@ def cut_plane(
             for i, part in enumerate(begins)
             if part[tile] < part[tile + 1]
         ]
-        for tile in range(len(boxes))
+        for tile in range(len(boxes_in(cuts)))
     ]
-    some = sample[:: max(len(sample) // FOR_HULL, 1)].astype(np.int64)
-    polygon = some[hull_rows(some)]
-    polygon = polygon[:: max(len(polygon) // CORNERS, 1)]
-    has_keys = bool(of_segments)
-    gathering = [(tile, part, polygon, has_keys) for tile, part in enumerate(parts)]
-    gathered = runner.run(files.gather, gathering)
+    gathered = runner.run(files.gather, [(tile, part, *words) for tile, part in enumerate(parts)])
     for i in range(len(pieces)):
         os.remove(files.name("cut-points", i))
         os.remove(files.name("cut-numbers", i))
+    return gathered
+
+
+def plan_from(
+    boxes: List[Box], gathered: List[Gathered], placed: List[Tuple[List[int], NDArray[Any]]]
+) -> Plan:
+    """What each tile knows of all, from what was gathered of each tile, and of the segments of each
+    part where those of each tile begin and the longest."""
     corners = np.concatenate([it.corners for it in gathered]).astype(np.int64)
     numbers = np.concatenate([it.numbers for it in gathered])
     rows = hull_rows(corners)
     bounds = np.stack([it.bounds for it in gathered])
-    of_names = [first for piece, first in zip(pieces, firsts) if piece.begin == 0]
-    of_names.append(firsts[-1])
-    placed = place_segments(of_segments, names, of_names, cuts, runner, files)
     longest = longest_of(np.concatenate([NONE, *(some for _, some in placed)]))
     of_boxes = np.array([[x[0], y[0], x[1], y[1]] for x, y in boxes])
     begins = [it for it, _ in placed]
@@ -155,8 +212,13 @@ def cut_plane(
 
 
 def tile_count(points: int, tile_size: int, workers: int) -> int:
-    """How many tiles there are: where each worker has few, so many that all have as many."""
-    tiles = max(-(-points // tile_size), 1)
+    """How many tiles there are: where each worker has few, so many that all have as many, but no
+    smaller ones than are worth a task.
+
+    >>> [tile_count(points, 100_000, 4) for points in (60_000, 200_000, 1_000_000, 3_000_000)]
+    [1, 4, 12, 30]
+    """
+    tiles = max(-(-points // tile_size), min(points // LEAST, workers), 1)
     return -(-tiles // workers) * workers if workers < tiles <= FEW * workers else tiles
 
 
@@ -209,10 +271,13 @@ def triangulate_tiles(
         Parts: an array of shape (n, 2), or one with names for its columns, as LAS has; a frame of
         pandas or geopandas; or the name of a file that each worker reaches: a .npy of such an
         array, a table (.csv, .tsv; .txt, .xyz: columns apart by spaces), a .parquet, or what
-        geopandas reads. The number of a point is its row in all parts after each other. Coordinates
-        are whole numbers from -2**29 to 2**29.
+        geopandas reads. A folder stands for all its files, as `to_csv` and `to_parquet` of
+        dask.dataframe write them, and a pattern ("hill-*.csv") for those that it fits, by the
+        numbers in their names. The number of a point is its row in all parts after each other, and
+        the index has their names in this order. Coordinates are whole numbers from -2**29 to 2**29.
     tile_size : int
-        About how many points a tile has. A worker needs about 1000 bytes for each.
+        About how many points a tile has; fewer where there would be no tile for some workers. A
+        worker needs about 1000 bytes for each.
     client : distributed.Client or concurrent.futures.Executor, optional
         What runs the tasks; without one, this process. A task that failed is run again, and a pool
         of processes that broke is begun again.
@@ -228,7 +293,7 @@ def triangulate_tiles(
         How many parts a unit has, as 100 for coordinates with two decimals: others are refused.
     columns : str, optional
         The columns of x and y, by names, as "east,north", or places, as "0,1"; without it x and y,
-        or the first two of a table without names.
+        or the first two of a table that has no such names.
     header : bool
         Whether the first row of a table has names, which `columns` by names says too.
     layer : str or int, optional
@@ -270,7 +335,8 @@ def triangulate_tiles(
     try:
         files = TileFiles(room)
         reading = Reading(columns, header, layer, scale)
-        given = names_of(points, files, runner, reading), segments_of(segments, files)
+        parts = list(parts_of(points))
+        given = names_of(parts, files, runner, reading), segments_of(segments, files)
         plan = cut_plane(*given, tile_size, runner, files)
         with open(files.name("plan", 0), "wb") as file:
             pickle.dump(plan, file)
@@ -280,7 +346,7 @@ def triangulate_tiles(
         names = [files.name("cells", tile) for tile in tiles]
         if folder is None:
             return TiledCells([np.load(name) for name in names], reports)
-        index = write_index(files, names, reports)
+        index = write_index(files, parts, names, reports)
     except BaseException:
         shutil.rmtree(room, ignore_errors=True)
         raise
@@ -291,8 +357,11 @@ def triangulate_tiles(
     return TiledCells(names, reports, index)
 
 
-def write_index(files: TileFiles, names: List[str], reports: List[TileReport]) -> str:
-    """Removes all files of a run but its cells, and writes the run's index beside these."""
+def write_index(
+    files: TileFiles, parts: List[Any], names: List[str], reports: List[TileReport]
+) -> str:
+    """Removes all files of a run but its cells, and writes the run's index beside these: the parts
+    of the points in their order, or null for one that was no file, and the tiles."""
     kept = {os.path.basename(name) for name in names}
     for name in set(os.listdir(files.folder)) - kept:
         os.remove(os.path.join(files.folder, name))
@@ -303,6 +372,7 @@ def write_index(files: TileFiles, names: List[str], reports: List[TileReport]) -
         del tile["crossing"]
     index = os.path.join(files.folder, "index.json")
     with open(f"{index}.part", "w", encoding="utf-8") as file:
-        json.dump({"version": 1, "tiles": tiles}, file, indent=1)
+        of_parts = [it if isinstance(it, str) else None for it in parts]
+        json.dump({"version": 1, "parts": of_parts, "tiles": tiles}, file, indent=1)
     os.replace(f"{index}.part", index)
     return index
