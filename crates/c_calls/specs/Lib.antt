@@ -9,6 +9,7 @@ pub mod Lists
 pub mod Words
 pub mod Layers
 pub mod Sight
+pub mod Ways
 pub mod Conflicts
 pub mod Shapes
 pub mod Calls
