@@ -5,12 +5,12 @@ use Rattle.std.proofs.Common.{get_or, map, refl, sym, ap, subst, inl, inr, arith
 use mathlib.Core.Path.{subst₂}
 use Rattle.std.specs.Prelude.{MatchOption, None, Option, Some}
 use Rattle.std.proofs.lemmas.List.{map-append, take_all, take_more}
-use Rattle.{delaunay_core.specs.place_of, delaunay_core.specs.Point2, delaunay_shapes.specs.by_place}
-use Rattle.delaunay_ways.specs.Ways.{IsTaut, IsWay}
-use Rattle.{plane.specs.Fraction, plane.specs.Point, plane.specs.Triangulation, plane.specs.whole}
+use Rattle.plane.specs.{Fraction, Point, Triangulation, whole}
 use Rattle.plane_theorems.specs.Ways.Chains.{IsChain, IsJoined}
-use Rattle.c_calls.specs.{plain_point, RawPoint, Sight.is_free_face, Sight.is_marked}
-use Rattle.c_calls.specs.Ways.{IsRawWay, raw_point}
+use Rattle.delaunay_shapes.specs.{by_place}
+use Rattle.delaunay_ways.specs.Ways.{IsWay}
+use Rattle.c_calls.specs.{is_free_face, is_marked, plain_point, raw_point, RawPoint}
+use Rattle.{c_calls.specs.Ways.IsRawWay, delaunay_core.specs.place_of, delaunay_core.specs.Point2}
 use Rattle.c_calls.proofs.{Seen.free_by_place, Seen.sight_same, Telling.IsTold, Telling.told_more}
 
 -- ---- the images of a list's elements are told
@@ -93,7 +93,10 @@ module _ {W : Type 0} (found : Option W) (items : W → List (Point2 ℤ)) (byte
     -- or that there is none
     pub no_way_told : found ≡ None → (points : List (Point2 ℤ)) → points ≡ []
         → IsRawWay t from to bytes (map raw_point points)
-    no_way_told e points empty = inl (ap (map raw_point) empty, λ joined. is_here None e
-        (joined_same t (is_marked bytes) (by_place (is_free_face bytes))
-        (λ n. sym (free_by_place bytes n)) (whole (plain_point from)) (whole (plain_point to))
-        joined))
+    no_way_told e points empty = inl (
+      ap (map raw_point) empty,
+      λ joined. is_here None e
+          (joined_same t (is_marked bytes) (by_place (is_free_face bytes))
+          (λ n. sym (free_by_place bytes n)) (whole (plain_point from)) (whole (plain_point to))
+          joined),
+    )

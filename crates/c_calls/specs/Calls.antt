@@ -8,10 +8,9 @@ use Rattle.c_calls.specs.{declared.raw.RawCounts.RawCounts, Layers.kept_marked, 
 use Rattle.c_calls.specs.Queries.{FindsKeptNearest, FindsLine, IsKeptPlace, ListsNumbers}
 use Rattle.c_calls.specs.Queries.{ListsPositions, ListsRawEdges, ListsRawFaces}
 use Rattle.c_calls.specs.{declared.raw.RawEdge.RawEdge, Shapes.FindsEdgesIn, Shapes.FindsVerticesIn}
-use Rattle.c_calls.specs.{declared.raw.RawBox.RawBox, declared.raw.RawFace.RawFace}
+use Rattle.c_calls.specs.{declared.raw.RawBox.RawBox, declared.raw.RawFace.RawFace, Ways.FindsWay}
 use Rattle.c_calls.specs.{declared.raw.RawPlace.RawPlace, declared.raw.RawSegment.RawSegment}
 use Rattle.c_calls.specs.{declared.raw.RawPoint.RawPoint, declared.raw.RawShape.RawShape}
-use Rattle.c_calls.specs.{Ways.FindsWay}
 use Rattle.c_calls.specs.declared.statuses.TheConstants.{ALREADY_OPEN, CLOSED, WELL}
 
 -- a closed handle was to be opened, and an open one refuses that

@@ -1,10 +1,9 @@
 -- What C is told of ways.
 use Rattle.std.specs.Prelude.{◌≡◌, ◌≢◌, ◌⊎◌, [], ℕ, ℤ, List, length, map}
+use Rattle.{plane.specs.Triangulation, plane.specs.whole, plane_theorems.specs.Ways.Chains.IsJoined}
 use Rattle.{delaunay_core.specs.Point2, delaunay_ways.specs.Ways.IsWay}
-use Rattle.{plane.specs.Triangulation, plane.specs.whole}
-use Rattle.plane_theorems.specs.Ways.Chains.{IsJoined}
-use Rattle.c_calls.specs.{declared.raw.RawPoint.RawPoint, Queries.MayAskLine, Sight.is_marked}
-use Rattle.c_calls.specs.Written.{Finding, plain_point}
+use Rattle.c_calls.specs.{Queries.MayAskLine, Sight.is_marked}
+use Rattle.c_calls.specs.{declared.raw.RawPoint.RawPoint, Written.Finding, Written.plain_point}
 use Rattle.c_calls.specs.declared.statuses.TheConstants.{OUT_OF_MEMORY, TOO_LARGE, UNEQUAL_LENGTHS}
 
 -- a point, for C

@@ -1,8 +1,7 @@
 //! Ways through free faces.
 ghost use Rattle.std.specs.Prelude.{◌≡◌, map, IfOk};
-ghost use Rattle.delaunay_legalization.specs.{triangulation_of};
-ghost use Rattle.c_calls.specs.{Kept.kept_place, Queries.MayAskLine, Ways.IsRawWay};
-ghost use Rattle.c_calls.specs.{Ways.raw_point, Written.Tells};
+ghost use Rattle.c_calls.specs.{Kept.kept_place, Queries.MayAskLine, Ways.IsRawWay, Ways.raw_point};
+ghost use Rattle.{c_calls.specs.Written.Tells, delaunay_legalization.specs.triangulation_of};
 
 use crate::lines::may_ask_line;
 use crate::queries::point_of;

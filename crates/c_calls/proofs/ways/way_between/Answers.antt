@@ -1,7 +1,6 @@
 use Rattle.std.proofs.Common.{ap}
-use Rattle.delaunay_legalization.specs.{triangulation_of}
-use Rattle.{c_calls.proofs.Guided.no_way_told, c_calls.proofs.Guided.way_told}
-use Rattle.c_calls.specs.{kept_place}
+use Rattle.{c_calls.specs.kept_place, delaunay_legalization.specs.triangulation_of}
+use Rattle.c_calls.proofs.Guided.{no_way_told, way_told}
 use Rattle.c_calls.proofs.ways.way_between.Goals as goal
 
 pub returns-in-Some : goal.returns-in-Some

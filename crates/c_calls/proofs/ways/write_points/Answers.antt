@@ -1,8 +1,8 @@
 use Rattle.std.proofs.Common.{◌∙◌, ◌+◌, List, length, map, take, set, sym, ap, subst, arith}
 use Rattle.std.specs.Prelude.{pos}
-use Rattle.c_calls.specs.{RawPoint, Ways.raw_point}
-use Rattle.c_calls.proofs.{Guided.images_all, Guided.images_more, Telling.all_told}
-use Rattle.c_calls.proofs.{Telling.IsTold, Telling.none_told}
+use Rattle.c_calls.specs.{raw_point, RawPoint}
+use Rattle.c_calls.proofs.Guided.{images_all, images_more}
+use Rattle.c_calls.proofs.Telling.{all_told, IsTold, none_told}
 use Rattle.c_calls.proofs.ways.write_points.Goals as goal
 
 pub loop-index-init : goal.loop-index-init

@@ -1,5 +1,5 @@
 use Rattle.std.proofs.Common.{map, take}
-use Rattle.{c_calls.proofs.Telling.IsTold, c_calls.specs.Ways.raw_point}
+use Rattle.{c_calls.proofs.Telling.IsTold, c_calls.specs.raw_point}
 use Rattle.c_calls.proofs.ways.write_points.Given as goal
 
 abbrev pub invariant-loop-index : goal.invariant-loop-index

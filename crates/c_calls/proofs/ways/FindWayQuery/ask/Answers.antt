@@ -1,7 +1,7 @@
 use Rattle.std.proofs.Common.{map, sym, subst, arith}
-use Rattle.{delaunay_legalization.specs.triangulation_of, delaunay_core.specs.Point2}
 use Rattle.std.specs.Prelude.{List, ℤ}
-use Rattle.c_calls.specs.{found, kept_place, Ways.IsRawWay, Ways.raw_point}
+use Rattle.{delaunay_core.specs.Point2, delaunay_legalization.specs.triangulation_of}
+use Rattle.c_calls.specs.{found, kept_place, raw_point, Ways.IsRawWay}
 use Rattle.c_calls.proofs.ways.FindWayQuery.ask.Goals as goal
 
 pub returns-in-Ok : goal.returns-in-Ok
