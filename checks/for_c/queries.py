@@ -118,7 +118,8 @@ class Queries:
         elif not in_range(p, q):
             expect(status, "TOO_LARGE", "way")
         else:
-            sees, vertices, what = Sight(self.free(marks)), set(self.points), f"the way from {p} to {q}"
+            sees, vertices = Sight(self.free(marks)), set(self.points)
+            what = f"the way from {p} to {q}"
             is_joined = shortest(p, q, vertices, sees) is not None
             expect((status, bool(way)), ("OK", is_joined), what)
             expect(fault(way, p, q, vertices, sees) if way else None, None, f"{what}: {way}")
