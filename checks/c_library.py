@@ -56,6 +56,9 @@ def queries():
     calls += [("faces", 9, c_uint32, ()), ("edges", 3, c_uint32, ())]
     calls += [("face_layers", 1, c_uint32, ()), ("line", 4, c_uint32, segment)]
     calls += [("conflicts", 2, c_uint32, segment)]
+    ends = (points_of([(0, 0)])[0], points_of([(4, 3)])[0])
+    free = words_of([1] * 4, c_uint8)
+    calls += [("way", 2, c_int32, (*ends, *free))]
     calls += [("faces_beyond", 1, c_uint8, (points_of([(0, 0), (4, 4)])[0],))]
     names = ("vertices_in", "edges_in")
     return calls + [(name, 1, c_uint32, (it,)) for name in names for it in shapes]
@@ -80,7 +83,7 @@ def try_lengths(library):
         for room in range(length):
             found = kept.all(name, width, *words, room=room, kind=kind)
             expect((found[0], found[2]), ("TOO_SHORT", length), f"{name} with room for {room}")
-            if name in ("line", "conflicts", "vertices_in", "edges_in"):
+            if name in ("line", "conflicts", "way", "vertices_in", "edges_in"):
                 expect(found[1], rows[:room], f"{name} with room for {room}")
     expect(kept.locate("locate", [(0, 0), (1, 1)], 2, room=1)[0], "TOO_SHORT", "locate")
     kept.close()
@@ -123,6 +126,8 @@ def try_refusals(library):
         ("NEGATIVE", kept.all("edges_in", 1, shape_of(0, (0, 0), (FAR, FAR), -1))[0]),
         ("NO_SUCH_KIND", kept.all("vertices_in", 1, shape_of(2, (0, 0), (0, 0), 0))[0]),
         ("TOO_LARGE", kept.all("line", 4, far[0], far[0])[0]),
+        ("TOO_LARGE", kept.way((0, 0), (0, MOST + 1), [1, 1])[0]),
+        ("UNEQUAL_LENGTHS", kept.way((0, 0), (1, 1), [1])[0]),
         ("NO_SUCH_VERTEX", kept.call("remove", 4)),
         ("NO_SUCH_POINT", library.status("triangulate", *drawn)),
         ("CROSSING", kept.call("constrain", 1, 3)),

@@ -346,6 +346,24 @@ tevasulim_status tevasulim_in_sight(tevasulim_triangulation *self, const tevasul
                                     const tevasulim_point *to, const uint8_t *is_free,
                                     size_t free_count, uint32_t *seen);
 
+/* Writes a way from one point to another through free faces: its points, the first at `from` and
+ * the last at `to`. Each point is in sight of the next, those between are at vertices, and none of
+ * them can be left out, since its two neighbours do not see each other. The way is short, but not
+ * always the shortest. It may run along sides of free faces, and pass a corner at which two of them
+ * meet.
+ *
+ * `*length` is 0 where there is no way, and else 2 or more. There is none exactly where no chain of
+ * points of any kind, each in sight of the next, joins the two. From a point in a closed free face
+ * to itself the way has this point twice.
+ *
+ * Face f is free where is_free[f] is not 0. TEVASULIM_UNEQUAL_LENGTHS: `free_count` is not the
+ * number of faces. TEVASULIM_TOO_LARGE: a coordinate is out of range. TEVASULIM_OUT_OF_MEMORY.
+ * TEVASULIM_TOO_SHORT: as many points as there is room for are written. */
+tevasulim_status tevasulim_way(tevasulim_triangulation *self, const tevasulim_point *from,
+                               const tevasulim_point *to, const uint8_t *is_free,
+                               size_t free_count, tevasulim_point *points, size_t room,
+                               size_t *length);
+
 /* Writes the vertices in a closed shape, each once, in no promised order. TEVASULIM_NO_SUCH_KIND:
  * the shape is of no kind. TEVASULIM_TOO_LARGE: a coordinate of the shape is out of range.
  * TEVASULIM_NEGATIVE: a circle's squared radius is negative. TEVASULIM_OUT_OF_MEMORY.

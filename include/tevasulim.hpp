@@ -267,6 +267,13 @@ public:
         return status;
     }
 
+    // `way` is empty where there is none.
+    Status way(Point from, Point to, Span<std::uint8_t> is_free, std::vector<Point> &way) const {
+        return detail::fill(way, 64, [&](auto... room) {
+            return tevasulim_way(&handle_, &from, &to, is_free.data(), is_free.size(), room...);
+        });
+    }
+
     Status vertices_in(Shape shape, std::vector<std::uint32_t> &vertices) const {
         return detail::fill(vertices, 64, [&](auto... room) {
             return tevasulim_vertices_in(&handle_, &shape, room...);
@@ -432,6 +439,11 @@ public:
         bool seen = false;
         detail::check(handle_.in_sight(from, to, is_free, seen));
         return seen;
+    }
+
+    // Empty where there is none.
+    std::vector<Point> way(Point from, Point to, Span<std::uint8_t> is_free) const {
+        return found<Point>([&](auto &way) { return handle_.way(from, to, is_free, way); });
     }
 
     std::vector<std::uint32_t> vertices_in(Shape shape) const {

@@ -57,6 +57,10 @@ class Word:
         self.name, self.make, self.keeps_part = name, make, keeps_part
 
 
+def all_free(kept):
+    return [1] * kept.counts()[1][2]
+
+
 def growing_calls():
     """Each call that takes memory, as it is made of a triangulation `kept` and a closed one."""
     room, length, at = (ctypes.c_uint32 * 900)(), ctypes.c_size_t(), ctypes.c_size_t()
@@ -75,6 +79,7 @@ def growing_calls():
         Word("release", lambda kept, other: kept.call("release", 1, 2)),
         Word("allow_constraints", lambda kept, other: kept.call("allow_constraints")),
         Word("face_layers", lambda kept, other: kept.all("face_layers", 1)[0]),
+        Word("way", lambda kept, other: kept.way((0, 0), (8, 8), all_free(kept))[0]),
         Word("triangulate", lambda kept, other: kept.library.status("triangulate", *drawn)),
     ]
     for kind in range(2):

@@ -66,6 +66,7 @@ CALLS = {
     "line": (KEPT, *SEGMENT, *WORDS, SIZE),
     "conflicts": (KEPT, *SEGMENT, *WORDS, SIZE),
     "in_sight": (KEPT, *SEGMENT, *BYTES, POINTER(c_uint32)),
+    "way": (KEPT, *SEGMENT, *BYTES, *POINTS, SIZE),
     "vertices_in": (KEPT, POINTER(Shape), *WORDS, SIZE),
     "edges_in": (KEPT, POINTER(Shape), *WORDS, SIZE),
     "triangulate": (*POINTS, *WORDS, *WORDS, SIZE, SIZE),
@@ -184,3 +185,8 @@ class Kept:
         seen = c_uint32(7)
         words = (points_of([p])[0], points_of([q])[0], *words_of(marks, c_uint8))
         return self.call("in_sight", *words, ctypes.byref(seen)), seen.value
+
+    def way(self, p, q, marks, room=400):
+        """A status and the points of a way."""
+        words = (points_of([p])[0], points_of([q])[0], *words_of(marks, c_uint8))
+        return self.all("way", 2, *words, room=room, kind=c_int32)[:2]

@@ -87,6 +87,11 @@ static void ask_with_statuses(Handle &site) {
     EXPECT(site.in_sight({0, 5}, {9, 5}, all, seen) == TEVASULIM_OK && seen);
     EXPECT(site.in_sight({0, 5}, {9, 5}, none_free, seen) == TEVASULIM_OK && !seen);
     EXPECT(site.in_sight({0, 5}, {9, 5}, {}, seen) == TEVASULIM_UNEQUAL_LENGTHS && !seen);
+    std::vector<Point> way;
+    EXPECT(site.way({0, 5}, {9, 5}, all, way) == TEVASULIM_OK && way.size() == 2);
+    EXPECT(way[0].x == 0 && way[0].y == 5 && way[1].x == 9 && way[1].y == 5);
+    EXPECT(site.way({0, 5}, {9, 5}, none_free, way) == TEVASULIM_OK && way.empty());
+    EXPECT(site.way({0, 5}, {9, 5}, {}, way) == TEVASULIM_UNEQUAL_LENGTHS && way.empty());
     Handle copy;
     EXPECT(site.copy_to(site) == TEVASULIM_ALREADY_OPEN);
     EXPECT(site.copy_to(copy) == TEVASULIM_OK && copy.clear() == TEVASULIM_OK);
@@ -150,6 +155,11 @@ static void call_with_exceptions() {
     EXPECT(site.line({0, 5}, {9, 5}).size() >= 4);
     EXPECT(site.conflicts({0, 5}, {9, 5}).size() == 2);
     EXPECT(site.in_sight({0, 5}, {9, 5}, std::vector<std::uint8_t>(10, 1)));
+    std::vector<std::uint8_t> outside(10);
+    std::transform(layers.begin(), layers.end(), outside.begin(), [](auto it) { return it == 0; });
+    const auto way = site.way({0, 4}, {9, 4}, outside);
+    EXPECT(way.size() >= 3 && way[0].x == 0 && way[0].y == 4);
+    EXPECT(site.way({4, 4}, {9, 4}, outside).empty());
     EXPECT(site.vertices_in(circle({3, 3}, 9)).size() == 3);
     EXPECT(!site.edges_in(rectangle({8, 1}, {9, 8})).empty());
     EXPECT(refusal([&] { site.in_sight({0, 0}, {1, 1}, {}); }) == TEVASULIM_UNEQUAL_LENGTHS);

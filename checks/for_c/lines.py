@@ -137,6 +137,15 @@ class Lines:
         """The segments between points of the line y = 0."""
         self.query_lines(*(it for x in range(first, last) for it in (x, 0)))
 
+    def query_ways(self, *numbers):
+        """The ways from each of some points to each, through all faces, and through those but each
+        third."""
+        count = len(self.asked.corners)
+        for marks in [1] * count, [int(k % 3 > 0) for k in range(count)]:
+            for p, q in product(points(numbers), repeat=2):
+                self.asked.way(p, q, marks)
+                self.queries += 1
+
     def query_circle(self, x, y, radius_2):
         self.asked.circle((x, y), radius_2)
         self.queries += 1

@@ -121,6 +121,11 @@ class List:
         self.asked.shape(2, p, q, 0)
         marks = [self.chance.choice([0, 1, 255]) for _ in self.asked.corners]
         self.asked.sight(p, q, marks + [1] * (self.chance.random() < 0.05))
+        if self.chance.random() < 0.02:
+            marks = [self.chance.choice([0, 1, 255, 1]) for _ in self.asked.corners]
+            marks += [1] * (self.chance.random() < 0.05)
+            self.say("a way through", marks)
+            self.asked.way(p, q, marks)
 
     def run(self):
         """How many edits there were."""

@@ -11,6 +11,7 @@ from model.geometry import (
 )
 from model.places import outer_sides, place_of
 from model.session import in_range
+from model.ways import Sight, fault, shortest
 
 # Where a point is, and what a line meets, by number.
 VERTEX, EDGE, FACE, OUTSIDE, NOWHERE = range(5)
@@ -106,9 +107,26 @@ class Queries:
         elif not in_range(p, q):
             expect(status, "TOO_LARGE", "in_sight")
         else:
-            free = [[self.points[i] for i in c] for c, mark in zip(self.corners, marks) if mark]
-            wanted = "OK", int(is_in_sight(p, q, free))
+            wanted = "OK", int(is_in_sight(p, q, self.free(marks)))
             expect((status, seen), wanted, f"the sight from {p} to {q}")
+
+    def way(self, p, q, marks):
+        """A way through the faces with marks, or none exactly where no chain joins its ends."""
+        status, way = self.kept.way(p, q, marks, self.room)
+        if len(marks) != len(self.corners):
+            expect(status, "UNEQUAL_LENGTHS", "way")
+        elif not in_range(p, q):
+            expect(status, "TOO_LARGE", "way")
+        else:
+            sees, vertices = Sight(self.free(marks)), set(self.points)
+            what = f"the way from {p} to {q}"
+            is_joined = shortest(p, q, vertices, sees) is not None
+            expect((status, bool(way)), ("OK", is_joined), what)
+            expect(fault(way, p, q, vertices, sees) if way else None, None, f"{what}: {way}")
+
+    def free(self, marks):
+        """The corners of each face with a mark."""
+        return [[self.points[i] for i in c] for c, mark in zip(self.corners, marks) if mark]
 
     # -- Shapes
 

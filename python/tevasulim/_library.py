@@ -90,6 +90,7 @@ CALLS = {
     "line": (MESH, POINTER(POINT), POINTER(POINT), *FOUND),
     "conflicts": (MESH, POINTER(POINT), POINTER(POINT), *FOUND),
     "in_sight": (MESH, POINTER(POINT), POINTER(POINT), *LIST, POINTER(c_uint32)),
+    "way": (MESH, POINTER(POINT), POINTER(POINT), *LIST, *FOUND),
     "vertices_in": (MESH, POINTER(Shape), *FOUND),
     "edges_in": (MESH, POINTER(Shape), *FOUND),
     "triangulate": (*LIST, *LIST, *LIST, SIZE, SIZE),

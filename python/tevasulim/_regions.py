@@ -1,8 +1,8 @@
-"""What constraints and polygons enclose, and what is seen past them."""
+"""What constraints and polygons enclose, what is seen past them, and ways round them."""
 from __future__ import annotations
 
 from ctypes import byref, c_uint32
-from typing import Any, Iterable, Iterator, List
+from typing import Any, Iterable, Iterator, List, Optional
 
 import numpy as np
 
@@ -15,7 +15,7 @@ from ._types import NDArray
 
 
 class Regions(Queries):
-    """Faces by what encloses them, and segments by what they cross."""
+    """Faces by what encloses them, segments by what they cross, and ways."""
 
     @property
     def layers(self) -> Ints:
@@ -77,23 +77,82 @@ class Regions(Queries):
         >>> tri.is_in_sight((1, 2), (3, 2)), tri.is_in_sight((1, 2), (3, 2), [True, False])
         (True, False)
         """
-        ends = np.stack([single(numbers_of(it)).astype(np.float64) for it in (start, end)])
+        ends = ends_of(start, end)
         with self._lock:
             self._ready()
-            count = self._counts().faces
-            mask = np.ones(count, bool) if free is None else unmasked(free, "the face")
-            if mask.dtype != bool or mask.shape != (count,):
-                raise ValueError(
-                    f"free has the type {mask.dtype} and the shape {mask.shape}, but needs one "
-                    f"bool for each of the {count} faces: make it anew after each edit"
-                )
-            asked = self._grid_now().asked(ends)
-            if asked.is_far is not None:
+            flags, words, seen = self._flags(free), self._words(ends), c_uint32()
+            if words is None:
                 return False
-            seen, flags = c_uint32(), np.ascontiguousarray(mask, np.uint8)
-            words = (byref(library.POINT(*it)) for it in asked.steps.tolist())
             self._call("in_sight", *words, *library.rows(flags), byref(seen))
             return bool(seen.value)
+
+    def way(self, start: Any, end: Any, free: Any = None) -> Optional[NDArray[Any]]:
+        """A way from one point to another through free faces.
+
+        Parameters
+        ----------
+        start, end : array_like of shape (2,)
+            The ends, which are rounded to the grid.
+        free : array_like of bool, of shape (f,), optional
+            Which faces are free. Without it all are.
+
+        Returns
+        -------
+        array of shape (n, 2) or None
+            The points of the way from `start` to `end`, as `points` has them. There are 2 at least.
+            Each is in sight of the next by `is_in_sight`, those between are points of the
+            triangulation, and none of them can be left out. The way is short, but not always the
+            shortest. `None` is given exactly where no chain of points of any kind, each in sight of
+            the next, joins the two: so it is where an end is in no free face.
+
+        Raises
+        ------
+        ValueError
+            `free` does not have one bool for each face.
+
+        Notes
+        -----
+        A way may run along the sides of free faces and through their corners, also past a corner
+        at which two free faces only meet.
+
+        Examples
+        --------
+        >>> import tevasulim
+        >>> square = [(0, 0), (9, 0), (9, 9), (0, 9), (4, 0), (5, 0), (5, 6), (4, 6)]
+        >>> tri = tevasulim.Triangulation(square, [(4, 7), (7, 6), (6, 5)])
+        >>> free = ~tri.faces_inside([(4, 0), (5, 0), (5, 6), (4, 6)])
+        >>> tri.way((1, 1), (8, 1), free).tolist()
+        [[1, 1], [4, 6], [5, 6], [8, 1]]
+        >>> tri.way((1, 1), (10, 1), free) is None
+        True
+        """
+        ends = ends_of(start, end)
+        with self._lock:
+            self._ready()
+            flags, words = self._flags(free), self._words(ends)
+            if words is None:
+                return None
+            given = (*words, *library.rows(flags))
+            steps = library.found(2, lambda *out: self._call("way", *given, *out))
+            return self._grid_now().points(steps.view(np.int32)) if len(steps) else None
+
+    def _flags(self, free: Any) -> NDArray[np.uint8]:
+        """A flag for each face: whether it is free."""
+        count = self._counts().faces
+        mask = np.ones(count, bool) if free is None else unmasked(free, "the face")
+        if mask.dtype != bool or mask.shape != (count,):
+            raise ValueError(
+                f"free has the type {mask.dtype} and the shape {mask.shape}, but needs one "
+                f"bool for each of the {count} faces: make it anew after each edit"
+            )
+        return np.ascontiguousarray(mask, np.uint8)
+
+    def _words(self, ends: Floats) -> Optional[List[Any]]:
+        """Two points for the library, or none where one is out of range."""
+        asked = self._grid_now().asked(ends)
+        if asked.is_far is not None:
+            return None
+        return [byref(library.POINT(*it)) for it in asked.steps.tolist()]
 
     def conflicts(self, start: int, end: int) -> Ints:
         """int32 array of shape (c, 2): the constraints that the segment between two points crosses,
@@ -110,6 +169,11 @@ class Regions(Queries):
             words = [byref(library.POINT(*it.tolist())) for it in ends]
             ask = lambda *out: self._call("conflicts", *words, *out)  # noqa: E731
             return self._named(library.found(2, ask))
+
+
+def ends_of(start: Any, end: Any) -> Floats:
+    """Two points as rows of an array."""
+    return np.stack([single(numbers_of(it)).astype(np.float64) for it in (start, end)])
 
 
 def rings_of(polygons: Any) -> Iterator[Floats]:

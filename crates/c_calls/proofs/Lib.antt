@@ -19,3 +19,4 @@ pub mod Found
 pub mod Walked
 pub mod Crossed
 pub mod Seen
+pub mod Guided

@@ -3,9 +3,8 @@
 use Rattle.std.proofs.Common.{◌≡◌, ◌∙◌, ◌+◌, ◌-◌, ℕ, Bool, false, eqb, List, ap, subst, arith}
 use Rattle.std.specs.Prelude.{IsTrue}
 use Rattle.std.proofs.lemmas.Bool.{cond-false, ne_eqb}
-use Rattle.plane_theorems.specs.{IsInSight}
-use Rattle.{delaunay_shapes.specs.by_place, plane.specs.Fraction, plane.specs.Triangulation}
-use Rattle.c_calls.specs.Sight.{is_free_face, is_marked}
+use Rattle.{plane.specs.Fraction, plane.specs.Triangulation, plane_theorems.specs.IsInSight}
+use Rattle.{c_calls.specs.is_free_face, c_calls.specs.is_marked, delaunay_shapes.specs.by_place}
 
 -- by its place in the list of inner faces a face is free where its byte is not 0
 pub free_by_place : (bytes : List ℕ) (n : ℕ) → by_place (is_free_face bytes) n ≡ is_marked bytes n

@@ -8,7 +8,7 @@ use Rattle.c_calls.specs.{declared.raw.RawCounts.RawCounts, Layers.kept_marked, 
 use Rattle.c_calls.specs.Queries.{FindsKeptNearest, FindsLine, IsKeptPlace, ListsNumbers}
 use Rattle.c_calls.specs.Queries.{ListsPositions, ListsRawEdges, ListsRawFaces}
 use Rattle.c_calls.specs.{declared.raw.RawEdge.RawEdge, Shapes.FindsEdgesIn, Shapes.FindsVerticesIn}
-use Rattle.c_calls.specs.{declared.raw.RawBox.RawBox, declared.raw.RawFace.RawFace}
+use Rattle.c_calls.specs.{declared.raw.RawBox.RawBox, declared.raw.RawFace.RawFace, Ways.FindsWay}
 use Rattle.c_calls.specs.{declared.raw.RawPlace.RawPlace, declared.raw.RawSegment.RawSegment}
 use Rattle.c_calls.specs.{declared.raw.RawPoint.RawPoint, declared.raw.RawShape.RawShape}
 use Rattle.c_calls.specs.declared.statuses.TheConstants.{ALREADY_OPEN, CLOSED, WELL}
@@ -104,3 +104,9 @@ TellsEdgesIn kept shape status was told old new = AsksOpen ((new ≡ old) × (to
 abbrev pub TellsInSight : Option AnyTriangulation → RawPoint → RawPoint → List ℕ → ℕ → ℕ → Type 0
 TellsInSight kept from to bytes status seen = MatchOption kept (status ≡ CLOSED)
     (λ k. FindsSight (kept_drawing k) from to bytes status seen)
+
+-- ---- ways
+abbrev pub TellsWay : Option AnyTriangulation → RawPoint → RawPoint → List ℕ → ℕ → ℕ → ℕ
+    → List RawPoint → List RawPoint → Type 0
+TellsWay kept from to bytes status was told old new = AsksOpen ((new ≡ old) × (told ≡ was))
+    (λ k. FindsWay (kept_drawing k) from to bytes status was told old new) status kept

@@ -9,6 +9,7 @@ pub mod Lists
 pub mod Words
 pub mod Layers
 pub mod Sight
+pub mod Ways
 pub mod Conflicts
 pub mod Shapes
 pub mod Calls
@@ -21,6 +22,8 @@ pub use Kept.{kept_place}
 pub use Links.{indexes_in}
 pub use Lists.{GivesNumbers, unnumbered_points}
 pub use Queries.{IsFaceEntry, IsMeeting}
+pub use Sight.{is_free_face, is_marked}
+pub use Ways.{raw_point}
 pub use Written.{Answered, found, IsAnswerAt, IsRawInRange, listed, plain_point, refused}
 pub use declared.kept.AnyTriangulation.{AnyTriangulation}
 pub use declared.kept.AnyTriangulation.TheVariants.{Constrained, Plain}

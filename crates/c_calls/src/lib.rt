@@ -22,6 +22,7 @@ mod shapes;
 mod sight;
 pub mod statuses;
 mod told;
+mod ways;
 mod words;
 
 pub use beyond::ListBeyond;
@@ -37,4 +38,5 @@ pub use raw::{
 };
 pub use shapes::{Edges, InShape, Part, Vertices};
 pub use sight::LookAlong;
+pub use ways::FindWay;
 pub use words::{ended_words_of, write_words};

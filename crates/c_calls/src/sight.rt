@@ -12,8 +12,8 @@ use std::alloc::Global;
 
 // Which inner faces are free: those whose byte is not 0.
 #[derive(Drop)]
-struct FreeBytes<'a> {
-    bytes: &'a [u8],
+pub(crate) struct FreeBytes<'a> {
+    pub(crate) bytes: &'a [u8],
 }
 
 impl<'a> FreeFaces for FreeBytes<'a> {

@@ -4,11 +4,12 @@ ghost use Rattle.c_calls.specs.Calls.{CopiesOpen, OpensClosed, TellsBeyond, Tell
 ghost use Rattle.c_calls.specs.Calls.{TellsCrossed, TellsEdges, TellsEdgesIn, TellsFaces};
 ghost use Rattle.c_calls.specs.Calls.{TellsInSight, TellsLayers, TellsLine, TellsNearest};
 ghost use Rattle.c_calls.specs.Calls.{TellsNumbers, TellsPlaces, TellsPositions, TellsVerticesIn};
+ghost use Rattle.c_calls.specs.Calls.{TellsWay};
 ghost use Rattle.{c_calls.specs.Words.TellsWords, tevasulim_c.specs.Whole.Triangulates};
 
 use crate::whole::triangulate;
 use c_calls::{
-    Edges, Handle, InShape, ListBeyond, ListConflicts, ListEdges, ListFaces, ListLayers,
+    Edges, FindWay, Handle, InShape, ListBeyond, ListConflicts, ListEdges, ListFaces, ListLayers,
     ListNumbers, ListPositions, Locate, LookAlong, RawBox, RawCounts, RawEdge, RawFace, RawMeeting,
     RawPlace, RawPoint, RawSegment, RawShape, Vertices, WalkLine,
 };
@@ -226,6 +227,28 @@ pub extern "C" fn tevasulim_in_sight(
         bytes,
     };
     handle.ask(alloc, &line, &mut [], seen)
+}
+
+#[unsafe(no_mangle)]
+pub extern "C" fn tevasulim_way(
+    alloc: Global,
+    handle: &mut Handle,
+    from: &RawPoint,
+    to: &RawPoint,
+    bytes: &[u8],
+    points: &mut [RawPoint],
+    length: &mut usize,
+) -> u32
+    ensures kept { handle.new.kept ≡ handle.old.kept }
+    ensures way { TellsWay handle.old.kept from.now to.now bytes.now result length.old length.new
+        points.old points.new }
+{
+    let query = FindWay {
+        from: *from,
+        to: *to,
+        bytes,
+    };
+    handle.ask(alloc, &query, points, length)
 }
 
 #[unsafe(no_mangle)]

@@ -1,4 +1,4 @@
-use Rattle.std.proofs.Common.{◌≡◌, ◌∙◌, ◌+◌, ℕ, ap, arith, sym, subst}
+use Rattle.std.proofs.Common.{◌∙◌, ◌+◌, ℕ, ap, arith, sym, subst}
 use Rattle.{c_calls.specs.kept_place, delaunay_interface.specs.Views.corners_at}
 use Rattle.c_calls.proofs.Disks.{corner_at, corners_in_range, corners_turn, passes_told, stays_told}
 use Rattle.{c_calls.proofs.Disks.told_same, c_calls.proofs.Disks.turn_same, plane.specs.InRange}

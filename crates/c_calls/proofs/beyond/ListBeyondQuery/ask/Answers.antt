@@ -1,4 +1,4 @@
-use Rattle.std.proofs.Common.{◌≡◌, refl, arith, subst}
+use Rattle.std.proofs.Common.{refl, arith, subst}
 use Rattle.delaunay_legalization.specs.{triangulation_of}
 use Rattle.c_calls.specs.{IsFlagAt, kept_place, listed}
 use Rattle.c_calls.proofs.Writing.{all_answered, none_answered, one_more}

@@ -2,8 +2,8 @@ use Rattle.std.proofs.Common.{refl, sym, inl, inr, subst, arith}
 use mathlib.Core.Path.{subst₂}
 use Rattle.{delaunay_core.specs.place_of, plane_theorems.specs.IsInSight}
 use Rattle.{delaunay_legalization.proofs.both_ways, delaunay_legalization.specs.triangulation_of}
-use Rattle.{c_calls.specs.kept_place, c_calls.specs.plain_point, delaunay_shapes.specs.by_place}
-use Rattle.c_calls.specs.Sight.{is_free_face, is_marked, sight_told}
+use Rattle.c_calls.specs.{is_free_face, is_marked, kept_place, plain_point}
+use Rattle.{c_calls.specs.Sight.sight_told, delaunay_shapes.specs.by_place}
 use Rattle.{c_calls.proofs.Seen.free_by_place, c_calls.proofs.Seen.sight_same, plane.specs.whole}
 use Rattle.c_calls.proofs.sight.LookAlongQuery.ask.Goals as goal
 
