@@ -134,6 +134,18 @@ def within_holes(drawing, faces):
     return found
 
 
+def in_polygons(drawing, faces):
+    """The numbers of the polygons, from 1, that the middle of each face is in."""
+    rings = [[[drawing.whole[k] for k in ring] for ring in polygon] for polygon in drawing.polygons]
+    found = {}
+    for face in faces:
+        corners = [drawing.whole[k] for k in face]
+        middle = tuple(Fraction(sum(numbers), 3) for numbers in zip(*corners))
+        found[face] = [number for number, polygon in enumerate(rings, 1)
+                       if sum(is_within(ring, middle) for ring in polygon) % 2]
+    return found
+
+
 def kept(points, walls, faces, holes, within=()):
     """The faces that no way past no wall leads to, from outside, from a hole or from others."""
     sides = {}
@@ -168,20 +180,40 @@ def read_obj(text):
 def read_ply(text):
     head, body = text.split("end_header\n")
     expect(head.startswith("ply\nformat ascii 1.0\n"), "ply: the head")
-    count, faces = (int(re.search(rf"element {name} (\d+)", head).group(1))
-                    for name in ("vertex", "face"))
+    count, faces, edges = (int((re.search(rf"element {name} (\d+)", head) or [0, 0])[1])
+                           for name in ("vertex", "face", "edge"))
     lines = body.splitlines()
-    expect(len(lines) == count + faces, "ply: the number of lines")
-    expect(all(line.startswith("3 ") for line in lines[count:]), "ply: faces")
+    expect(len(lines) == count + faces + edges, "ply: the number of lines")
+    expect(all(line.startswith("3 ") for line in lines[count:count + faces]), "ply: faces")
     return ([tuple(map(Fraction, line.split())) for line in lines[:count]],
-            [[int(word) for word in line.split()[1:]] for line in lines[count:]])
+            [[int(word) for word in line.split()[1:]] for line in lines[count:count + faces]])
+
+
+def walls_of(form, text):
+    """The constraints in an OBJ, a PLY or a picture of faces as GeoJSON, as they are written."""
+    if form == "obj":
+        return [[int(word) - 1 for word in line.split()[1:]] for line in text.splitlines()
+                if line.startswith("l ")]
+    if form == "ply":
+        count = int((re.search(r"element edge (\d+)", text) or [0, 0])[1])
+        return [list(map(int, line.split())) for line in text.splitlines()[-count:]] if count else []
+    return [[tuple(position[:2]) for position in feature["geometry"]["coordinates"]]
+            for feature in json.loads(text, parse_float=Fraction, parse_int=Fraction)["features"]
+            if feature["geometry"]["type"] == "LineString"]
 
 
 def read_table(text):
     head, *lines = text.splitlines()
-    expect(head == "a,b,c,area", "csv: the header")
+    expect(head in ("a,b,c,area", "a,b,c,area,polygon"), "csv: the header")
     rows = [line.split(",") for line in lines]
     return [[int(word) - 1 for word in row[:3]] for row in rows], [Fraction(r[3]) for r in rows]
+
+
+def polygons_of(text):
+    """The numbers of the polygons of each face of a table, by the face."""
+    rows = [line.split(",") for line in text.splitlines()[1:]]
+    return {turned([int(word) - 1 for word in row[:3]]): list(map(int, row[4].split()))
+            for row in rows}
 
 
 def read_numbered(text):
@@ -197,6 +229,8 @@ def read_geojson(text):
     expect(parsed["type"] == "FeatureCollection", "geojson: its type")
     rings = []
     for feature in parsed["features"]:
+        if feature["geometry"]["type"] == "LineString":
+            continue
         expect(feature["geometry"]["type"] == "Polygon", "geojson: a polygon")
         (ring,) = feature["geometry"]["coordinates"]
         expect(len(ring) == 4 and ring[0] == ring[3], "geojson: a closed ring")
@@ -261,7 +295,9 @@ def check_forms(name, drawing, walls, faces, words, text):
         if len(drawing.texts[0]) > 2:
             expect([p[2] for p in at] == [Fraction(t[2]) for t in drawing.texts], f"{name}: heights")
         expect(sorted(turned(f) for f in found) == wanted, f"{name}: {form} has other faces")
-        if wanted:
+        same_shapes(f"{name}: walls of {form}", walls_of(form, said), walls)
+        # meshio reads no edges of PLY
+        if wanted and not (form == "ply" and walls):
             MESHES.append((said, form, (len(points), len(wanted))))
     found, areas = read_table(run([*words, "--to", "csv"], text)[0])
     expect(sorted(map(turned, found)) == wanted, f"{name}: csv has other faces")
@@ -275,6 +311,7 @@ def check_forms(name, drawing, walls, faces, words, text):
     said, _ = run([*words, "--to", "geojson"], text)
     rings = read_geojson(said)
     same_shapes(f"{name}: geojson", rings, [[points[k] for k in face] for face in wanted])
+    same_shapes(f"{name}: lines", walls_of("geojson", said), [[points[k] for k in w] for w in walls])
     check_read_back(name, rings, said)
     check_picture(name, drawing, walls, wanted, run([*words, "--to", "svg"], text)[0])
 
@@ -282,8 +319,8 @@ def check_forms(name, drawing, walls, faces, words, text):
 def check_read_back(name, rings, text):
     """Faces that were written as GeoJSON are read as rings, which are faces of their points."""
     points, faces = read_obj(run(["--from", "geojson", "-q"], text)[0])
-    expect([p[:2] for p in points] == [corner for ring in rings for corner in ring],
-           f"{name}: other points are read back")
+    corners = [corner for ring in rings for corner in ring]
+    expect([p[:2] for p in points][:len(corners)] == corners, f"{name}: other points are read back")
     found = {tuple(sorted(points[k][:2] for k in face)) for face in faces}
     expect(all(tuple(sorted(ring)) in found for ring in rings), f"{name}: a ring is no face")
 
@@ -312,6 +349,9 @@ def check_read(name, drawing, words, text):
     faces = expected_faces(points, walls, written)
     check_forms(name, drawing, walls, faces, words, text)
     inside = kept(points, walls, faces, drawing.inner, within_holes(drawing, faces))
+    check_forms(f"{name}, layers", drawing, walls, inside, [*words, "--keep", "layers"], text)
+    if drawing.polygons:
+        inside = {face for face, polygons in in_polygons(drawing, faces).items() if polygons}
     check_forms(f"{name}, inside", drawing, walls, inside, [*words, "--keep", "inside"], text)
     return written
 
@@ -497,14 +537,24 @@ def check_inside(name, text):
                       [[[number[places[k]] for k in ring] for ring in polygon]
                        for polygon in drawing.polygons])
     words = ["--from", "geojson", "-q"]
-    written, inside = ([[number[places[k]] for k in face]
-                        for face in read_obj(run([*words, *keep], text)[0])[1]]
-                       for keep in ((), ("--keep", "inside")))
+    written, layers, inside = ([[number[places[k]] for k in face]
+                                for face in read_obj(run([*words, *keep], text)[0])[1]]
+                               for keep in ((), ("--keep", "layers"), ("--keep", "inside")))
     walls = pieces(drawing.whole, drawing.segments)
     faces = expected_faces(drawing.whole, walls, written)
-    wanted = kept(drawing.whole, walls, faces, (), within_holes(drawing, faces))
     expect(len(written) == len(faces), f"{name}: all faces")
-    expect({turned(face) for face in inside} == wanted and len(inside) == len(wanted), name)
+    wanted = kept(drawing.whole, walls, faces, (), within_holes(drawing, faces))
+    expect(sorted(map(turned, layers)) == sorted(wanted), f"{name}: layers")
+    polygons = in_polygons(drawing, faces)
+    wanted = {face for face, numbers in polygons.items() if numbers}
+    expect(sorted(map(turned, inside)) == sorted(wanted), f"{name}: inside")
+    said = polygons_of(run([*words, "--compact", "--to", "csv"], text)[0])
+    expect(said == polygons, f"{name}: {said}, not {polygons}")
+    features = json.loads(run([*words, "--to", "geojson"], text)[0])["features"]
+    said = [feature["properties"]["polygon"] for feature in features
+            if feature["geometry"]["type"] == "Polygon"]
+    wanted = [polygons[turned(face)] for face in written]
+    expect(said == [it[0] if len(it) == 1 else it for it in wanted], f"{name}: properties")
 
 
 def check_holes():
@@ -523,7 +573,8 @@ def check_holes():
     # a ring with no area has nothing within
     flat = multi_polygon([[[[0, 0], [9, 0], [9, 9], [0, 9]], [[2, 2], [4, 4], [6, 6]]]])
     words = ["--from", "geojson", "-q"]
-    expect(run([*words, "--keep", "inside"], flat) == run(words, flat), "a ring with no area")
+    for keep in "inside", "layers":
+        expect(run([*words, "--keep", keep], flat) == run(words, flat), "a ring with no area")
 
 
 def check_geojson():
@@ -555,7 +606,7 @@ def check_geojson():
 FAULTS = [
     # the words, the text, and what is told
     ([], "", "line 1: the file ends where a header is expected"),
-    ([], "a,b\n1,2\n", "line 1: there is no column named x: --x gives its name\n"),
+    ([], "a,b\n1,2\n", "line 1: there is no column named x: --x gives its name; the header is "),
     ([], "x,z\n1,2\n", "line 1: there is no column named y"),
     ([], "x,y\n1,2\n3\n", "line 3: the row has more or fewer fields than the first: quote"),
     ([], "x,y\n1,2\n3,four\n", "line 3: y is not a decimal number"),
@@ -585,8 +636,9 @@ FAULTS = [
     (["--from", "node"], "1 2 0 0\n1 0 y\n", "line 2: y is not a decimal number"),
     (["--from", "poly"], "2 2 0 0\n1 0 0\n2 1 1\n1 0\n1 1 3\n", "line 5: point 3 is used here"),
     (["--from", "poly"], "2 2 0 0\n1 0 0\n2 1 1\n1 0\n1 1 b\n", "line 5: a segment's end is not"),
-    (["--from", "poly"], "4 2 0 0\n1 0 0\n2 2 2\n3 0 2\n4 2 0\n2 0\n1 1 2\n2 3 4\n0\n",
-     "line 8: the segment crosses that of line 7"),
+    (["--from", "poly", "--crossing", "refuse"],
+     "4 2 0 0\n1 0 0\n2 2 2\n3 0 2\n4 2 0\n2 0\n1 1 2\n2 3 4\n0\n",
+     "line 8: the segment crosses that of line 7 at 1,1\n"),
     ([], 'x,y,note\n1,2,"a\n3,4,b\n5,6,c\n', "line 2: the quoted field that begins here does not"),
     ([], 'x,y\n0,0\n1,"' + "2\n" * 40000, "line 3: the quoted field that begins here does not end"),
     ([], '\ufeff"x,y\n' + "1,2\n" * 20000, "line 1: the quoted field that begins here does"),
@@ -598,7 +650,7 @@ GEOJSON_FAULTS = [
     ("", "line 1: the file ends where more of it is expected"),
     ('{"type":"Point",\n"coordinates":[1,2]\n\n', "line 2: the file ends where more of it"),
     ('{"type":"Point",\n"coordinates":[1 2]}', "line 2: this is not JSON, or it nests"),
-    ('{"type":"Point","coordinates":[1,2]}\n{}', "line 2: the end of the file is expected here"),
+    ('{"type":"Point","coordinates":[1,2]}\n{}', "line 2: the object has no member named type"),
     ('{"type":"Point","coordinates":[1,\n"2"]}', "line 2: y is missing"),
     ('{"type":"Point","coordinates":[1]}', "line 1: y is missing"),
     ('{"type":"Point","coordinates":[1,2,"3"]}', "line 1: a number is expected here"),
@@ -630,8 +682,6 @@ GEOJSON_FAULTS = [
     ('{"type":"FeatureCollection","features":[{"type":"Feature","geometry":'
      '{"type":"Point","coordinates":[0,0]}},{"type":"Feature","geometry":'
      '{"type":"Point","coordinates":[2e9,0]}}]}', "line 1, feature 2: x is too far from the others"),
-    ('{"type":"MultiLineString","coordinates":[[[0,0],[2,2]],\n[[0,2],[2,0]]]}',
-     "line 2: the segment crosses that of line 1"),
     ("[1,2]", "line 1: an object of GeoJSON is expected here"),
     ('{"a":' + "[" * 100000, "line 1: this is not JSON, or it nests more than 128 deep"),
     ('{"type":"GeometryCollection","geometries":[' * 200, "it nests more than 128 deep"),
@@ -656,8 +706,8 @@ def check_faults():
 def check_choices():
     """Crossing segments that are left out, rounded numbers, repeated points, few points."""
     text = "4 2 0 0\n1 0 0\n2 2 2\n3 0 2\n4 2 0\n2 0\n1 1 2\n2 3 4\n0\n"
-    said, error = run(["--from", "poly", "--skip-crossing", "--to", "svg"], text)
-    expect("line 8: the segment crosses that of line 7, and is left out" in error, error)
+    said, error = run(["--from", "poly", "--crossing", "skip", "--to", "svg"], text)
+    expect("line 8: the segment crosses that of line 7 at 1,1, and is left out" in error, error)
     expect(len(read_svg(said)[1]) == 1, "one of two crossing segments")
     said, error = run(["--round", "1"], "x,y\n0.04,0\n1.25,-1.25\n0,7e-30\n")
     expect("standard input: rounded 4 numbers to 1 digits behind the point, by at most 0.05\n"
@@ -717,27 +767,156 @@ def check_crossings():
     words = ["--from", "poly", "--to", "ele"]
     for segments, pairs in CROSSED:
         text = crossing_poly(segments)
-        told = [f"mesh: standard input: line {line}: the segment crosses that of line {other}"
+        told = [f"mesh: standard input: line {line}: the segment crosses that of line {other} at "
                 for line, other in pairs]
-        error = run(words, text, 1)[1]
-        expect(error == told[0] + "\n", error)
-        error = run([*words, "--skip-crossing"], text)[1]
+        error = run([*words, "--crossing", "refuse"], text, 1)[1]
+        expect(re.fullmatch(re.escape(told[0]) + r"\d,\d\n", error), error)
+        error = run([*words, "--crossing", "skip"], text)[1]
         lines = [line for line in error.splitlines() if "crosses" in line]
-        expect(lines == [line + ", and is left out" for line in told], error)
-        expect(not run([*words, "--skip-crossing", "-q"], text)[1], "--quiet")
+        expect([re.sub(r"\d,\d, and is left out$", "", line) for line in lines] == told, error)
+        expect(not run([*words, "--crossing", "skip", "-q"], text)[1], "--quiet")
     with tempfile.TemporaryDirectory() as folder:
         for name, text in (("points.csv", "x,y,line\n0,0,a\n4,4,a\n0,4,\n4,0,\n"),
                            ("lines.csv", "from,to\n3,4\n")):
             with open(f"{folder}/{name}", "w") as file:
                 file.write(text)
-        error = run(["--lines", f"{folder}/lines.csv", f"{folder}/points.csv"], status=1)[1]
+        words = ["--crossing", "refuse", "--lines", f"{folder}/lines.csv"]
+        error = run([*words, f"{folder}/points.csv"], status=1)[1]
         expect(f"{folder}/lines.csv: line 2: the segment crosses that of line 3 of "
-               f"{folder}/points.csv" in error, error)
+               f"{folder}/points.csv at 2,2\n" in error, error)
     line = '{"type":"Feature","geometry":{"type":"LineString","coordinates":%s}}'
     text = ('{"type":"FeatureCollection","features":[' + line % "[[0,0],[2,2]]" + ",\n"
             + line % "[[0,2],[2,0]]" + "]}")
-    error = run(["--from", "geojson"], text, 1)[1]
-    expect("line 2, feature 2: the segment crosses that of line 1, feature 1" in error, error)
+    error = run(["--from", "geojson", "--crossing", "refuse"], text, 1)[1]
+    expect("line 2, feature 2: the segment crosses that of line 1, feature 1 at 1,1\n" in error,
+           error)
+
+
+# Segments a list, points a side of the grid, words, and how far a path may go from its segment.
+SPLITS = [
+    (80, 5, 4, ["--round", "0"], Fraction(3, 2)), (60, 9, 8, ["--round", "0"], Fraction(2)),
+    (20, 20, 20, ["--round", "0"], Fraction(5, 2)), (60, 6, 9, [], Fraction(1, 10 ** 7)),
+    (20, 16, 1000, [], Fraction(1, 10 ** 5)),
+]
+
+
+def are_joined(pairs, start, end):
+    """Whether a path of these pairs leads from one position to another."""
+    seen, due = {start}, [start]
+    while due:
+        at = due.pop()
+        for pair in pairs:
+            if at in pair:
+                other = pair[pair[0] == at]
+                if other not in seen:
+                    seen.add(other)
+                    due.append(other)
+    return end in seen
+
+
+def off_2(a, b, p):
+    """The squared distance of a point from a segment."""
+    way, to = (b[0] - a[0], b[1] - a[1]), (p[0] - a[0], p[1] - a[1])
+    part, whole = way[0] * to[0] + way[1] * to[1], way[0] ** 2 + way[1] ** 2
+    if part <= 0 or part >= whole:
+        return min(distance_2(a, p), distance_2(b, p))
+    return Fraction(side(a, b, p) ** 2, whole)
+
+
+def check_split(text, told, ends, heights, words, reach):
+    """No constraint of a mesh crosses another or goes over a vertex; a path of constraints near to
+    each segment joins its ends; faces tile the hull of the points; new heights are between others."""
+    said, error = run([*words, "--to", "obj"], text)
+    points, faces = read_obj(said)
+    at = [point[:2] for point in points]
+    expect(at[:len(told)] == told, f"{told}: the points that there were")
+    walls = [(at[a], at[b]) for a, b in walls_of("obj", said)]
+    for (a, b), (c, d) in combinations(walls, 2):
+        crosses = side(a, b, c) * side(a, b, d) < 0 and side(c, d, a) * side(c, d, b) < 0
+        expect(not crosses, f"{told}: {a} {b} crosses {c} {d}")
+    expect(not any(carries(a, b, p) for a, b in walls for p in at), f"{told}: a wall over a point")
+    for a, b in ends:
+        near = [pair for pair in walls if all(off_2(a, b, p) <= reach ** 2 for p in pair)]
+        expect(a == b or are_joined(near, a, b), f"{told}: {a} and {b} are not joined")
+    corners = [[at[k] for k in face] for face in faces]
+    expect(all(side(*face) > 0 for face in corners), f"{told}: faces turn left")
+    expect(sum(side(*face) for face in corners) == twice_hull(at), f"{told}: faces tile the hull")
+    expect(all(min(heights) <= point[2] <= max(heights) for point in points), f"{told}: heights")
+    found = re.search(r"; both are split there \((\d+) such, by at most (\S+)\)\n", error)
+    expect(bool(found) == (len(at) > len(told) or "split" in error), error)
+    expect(not found or Fraction(found[2]) <= reach, error)
+
+
+def check_splits():
+    """Random segments that cross, split: on whole numbers, and with all digits that there are."""
+    for lists, count, grid, words, reach in SPLITS:
+        for seed in range(lists):
+            chance = random.Random(seed)
+            told = [(chance.randint(0, grid), chance.randint(0, grid)) for _ in range(2 * count)]
+            heights = [chance.randint(-9, 9) for _ in told]
+            text = "x,y,z,line\n" + "".join(f"{x},{y},{z},{k // 2}\n" for k, ((x, y), z)
+                                            in enumerate(zip(told, heights)))
+            check_split(text, told, list(zip(told[::2], told[1::2])), heights, words, reach)
+    text = "x,y,z,line\n0,0,0,a\n4,4,8,a\n0,4,1,b\n4,0,3,b\n1,0,5,c\n1,4,5,c\n"
+    said, error = run([], text)
+    told = "standard input: line 5: the segment crosses that of line 3 at 2,2; both are split there"
+    expect(f"mesh: {told} (3 such, by at most 0)\n" in error, error)
+    expect(read_obj(said)[0][6:] == [(2, 2, 2), (1, 1, 5), (1, 3, 5)], said)
+    expect(not run(["-q"], text)[1], "--quiet")
+    said = run(["-q", "--to", "node"], "x,y,line\n0,0,a\n3,1,a\n0,1,b\n3,0,b\n1,2,\n")[0]
+    expect(said.splitlines()[-1] == "6 1.5 0.5", said)
+    said = run(["-q", "--to", "node", "--round", "0"], "x,y,line\n0,0,a\n3,1,a\n0,1,b\n3,0,b\n")[0]
+    expect(said.splitlines()[-1] == "5 2 1", said)
+
+
+# A hole that a line cuts a corner off, polygons that overlap, and one that crosses itself; by
+# features, and how many times the area of a unit each number has, doubled.
+CROSSED_POLYGONS = [
+    ([[[[0, 0], [9, 0], [9, 9], [0, 9]], [[3, 3], [6, 3], [3, 6]]]], [[2, 4], [5, 1]], {1: 153}),
+    ([[[[0, 0], [6, 0], [6, 6], [0, 6]]], [[[3, 3], [9, 3], [9, 9], [3, 9]]]], [[1, 8], [8, 1]],
+     {1: 72, 2: 72}),
+    ([[[[0, 0], [8, 8], [8, 0], [0, 8]]]], [[-1, 2], [9, 3]], {1: 64}),
+    ([[[[0, 0], [7, 0], [7, 7], [0, 7]], [[2, -1], [3, -1], [3, 8], [2, 8]]]], [[1, 1], [6, 5]],
+     {1: 88}),
+]
+
+
+def check_polygons():
+    """Faces of polygons that segments cross: their areas, by the numbers of their polygons."""
+    for polygons, line, doubled in CROSSED_POLYGONS:
+        features = [{"type": "Polygon", "coordinates": [ring + ring[:1] for ring in polygon]}
+                    for polygon in polygons] + [{"type": "LineString", "coordinates": line}]
+        text = json.dumps({"type": "FeatureCollection", "features": [
+            {"type": "Feature", "properties": None, "geometry": it} for it in features]})
+        for rule in "split", "skip":
+            words = ["-q", "--crossing", rule, "--to", "csv", "--compact"]
+            found = {}
+            said = run(words, text)[0]
+            faces, areas = read_table(said)
+            for face, area in zip(faces, areas):
+                for number in polygons_of(said)[turned(face)]:
+                    found[number] = found.get(number, 0) + 2 * area
+            near = all(abs(found[number] - doubled[number]) < Fraction(1, 10 ** 6)
+                       for number in doubled)
+            expect(found.keys() == doubled.keys() and (near or rule == "skip"), f"{text}: {found}")
+            inside = read_table(run([*words, "--keep", "inside"], text)[0])[0]
+            wanted = [face for face in faces if polygons_of(said)[turned(face)]]
+            expect(inside == wanted, f"{text}: inside")
+    layers = read_table(run(["-q", "--keep", "layers", "--to", "csv"], text)[0])[0]
+    expect(layers and len(layers) >= len(inside), "layers")
+    rings = "x,y,ring\n0,0,a\n4,0,a\n4,4,a\n0,4,a\n2,2,b\n6,2,b\n6,6,b\n2,6,b\n"
+    said = polygons_of(run(["-q", "--to", "csv", "--keep", "inside"], rings)[0])
+    expect(sorted(map(tuple, said.values())).count((1, 2)) == 2, said)
+
+
+def check_compact():
+    """Points that repeat others are left out, and those that are left are numbered."""
+    text = "x,y,z,ring\n0,0,1,a\n0,0,2,\n4,0,3,a\n4,0,4,\n4,4,5,a\n"
+    points, faces = read_obj(run(["--compact"], text)[0])
+    expect(points == [(0, 0, 1), (4, 0, 3), (4, 4, 5)] and list(map(turned, faces)) == [(0, 1, 2)],
+           "compact")
+    expect(run(["--compact", "-q", "--to", "node"], text)[0]
+           == "3 2 1 0\n1 0 0 1\n2 4 0 3\n3 4 4 5\n", "compact nodes")
 
 
 def check_columns():
@@ -981,6 +1160,39 @@ FOREIGN_ENDINGS = [("shp", "a Shapefile"), ("GPKG", "a GeoPackage"), ("dxf", "a 
                    ("Laz", "a LAZ file"), ("kml", "a KML file"), ("parquet", "a Parquet file")]
 
 
+# A point, a closed line and a feature with a polygon, as sequences of GeoJSON in several spellings.
+PARTS = [
+    '{"type":"Feature","properties":{"a":"}{"},"geometry":{"type":"Point","coordinates":[5,5]}}',
+    '{ "type" : "Feature", "geometry" :\n {"type":"LineString","coordinates":[[0,0],[1,0],[0,1]]}}',
+    '{"properties":null,"type":"Feature","geometry":{"type":"Polygon","coordinates":'
+    '[[[2,0],[4,0],[2,2],[2,0]]]}}',
+]
+
+
+def check_sequences():
+    """Sequences of GeoJSON objects are read as collections of them, however they are parted."""
+    wanted = run(["--from", "geojson"], '{"type":"FeatureCollection","features":[%s]}'
+                 % ",".join(PARTS))
+    for text in ("\n".join(PARTS), "\n\n".join(PARTS) + "\n", "".join(PARTS),
+                 "".join(f"\x1e{part}\n" for part in PARTS)):
+        for words in [], ["--from", "geojson"]:
+            expect(run(words, text) == wanted, f"{text!r}")
+    geometries = [json.dumps(json.loads(part)["geometry"]) for part in PARTS]
+    expect(run([], "\n".join(geometries))[0] == wanted[0], "a sequence of geometries")
+    # a first feature that is longer than what is looked at
+    line = [[k, k * k] for k in range(3000)]
+    long = json.dumps({"type": "Feature", "properties": None,
+                       "geometry": {"type": "LineString", "coordinates": line}})
+    points, _ = read_obj(run(["-q"], f"{long}\n{PARTS[0]}\n")[0])
+    expect(len(points) == 3001, "a long feature")
+    with tempfile.NamedTemporaryFile("w", suffix=".geojsonl") as file:
+        file.write(PARTS[2].replace("null", '{"a":"%s"}' % ("b" * 9000)) + PARTS[1])
+        file.flush()
+        expect(len(read_obj(run(["-q", file.name])[0])[0]) == 6, "a name that ends in geojsonl")
+    error = run([], PARTS[0] + "\n" + PARTS[1].replace("[0,1]", "[0]"), 1)[1]
+    expect("line 3, feature 2: y is missing" in error, error)
+
+
 def check_tables():
     """Tables of other separators, with decimal commas, without a header, with columns of other
     names; files of other programs; the lines that faults are told of."""
@@ -1005,7 +1217,10 @@ def check_tables():
         row = said.splitlines()[1].split(",")
         expect((row[2], {*row[3:6]}, Fraction(row[6])) == ("face", {"1", "2", "3"}, 2),
                f"questions have no height: {said}")
+    error = run([], "\ufeffeast; north;h\n1;2;3\n", 1)[1]
+    expect(error.endswith("; the header is east; north;h\n"), error)
     error = run(["--x", "q"], "x,y\n", 1)[1]
+    expect(error.endswith("; the header is x,y\n"), error)
     expect("line 1: no column has the name that --x gives" in error, error)
     for text, told in FOREIGN:
         error = run([], text, 1)[1]
@@ -1387,9 +1602,13 @@ def main():
     check_faults()
     check_choices()
     check_crossings()
+    check_splits()
+    check_polygons()
+    check_compact()
     check_hole_points()
     check_spellings()
     check_long_numbers()
+    check_sequences()
     check_tables()
     check_more_forms()
     check_far_questions()

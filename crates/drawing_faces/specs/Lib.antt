@@ -6,6 +6,8 @@ pub mod Flood
 pub mod Holes
 pub mod Sides
 pub mod Drawing
+pub mod Splitting
+pub mod Within
 pub use Drawing.{ends_of, face_of, faces_inside, indexes_at, memory_refused, RefusesDrawing}
 pub use Flood.{IsFlood, IsReached, MarkOpenFaces}
 pub use Holes.{AreIn}

@@ -63,6 +63,7 @@ impl Run {
     {
         if self.closes && !self.word.is_empty() && self.first != self.last {
             drawing.join(self.last, self.first, FileLine::of_line(self.line))?;
+            drawing.add_ring(self.first, self.last.saturating_add(1), false)?;
         }
         self.word.clear();
         Ok(())

@@ -40,8 +40,7 @@ impl MeshText<'_> {
         area.shortened()
     }
 
-    /// Puts the numbers of a face's corners behind a line, from 1 but in a text of form `ply`, with
-    /// what else the form has.
+    /// Puts the numbers of a face's corners behind a line, with what else the form has.
     fn push_corners(
         &self,
         form: Form,
@@ -49,25 +48,56 @@ impl MeshText<'_> {
         place: usize,
         face: &[u32; 3],
     ) -> Result<(), AllocError> {
-        let first = u64::from(form != Form::Ply);
-        let [a, b, c] = face;
-        let (a, b, c) = (
-            u64::from(*a).saturating_add(first),
-            u64::from(*b).saturating_add(first),
-            u64::from(*c).saturating_add(first),
-        );
+        let [a, b, c] = face.map(|corner| self.number_of(form, corner));
         match form {
             Form::Obj => writeln!(line, "f {a} {b} {c}"),
             Form::Ply => writeln!(line, "3 {a} {b} {c}"),
             Form::Csv => {
                 let area = self.area(face);
-                writeln!(line, "{a},{b},{c},{area}")
+                write!(line, "{a},{b},{c},{area}")?;
+                self.push_polygons(line, place, (",", " "))?;
+                line.push('\n')
             }
             _ => {
                 let number = place.saturating_add(1);
                 writeln!(line, "{number} {a} {b} {c}")
             }
         }
+    }
+
+    /// Puts the numbers of a face's polygons behind a line, with what stands before them and between
+    /// them, where the drawing has polygons.
+    fn push_polygons(
+        &self,
+        line: &mut String,
+        face: usize,
+        (before, between): (&str, &str),
+    ) -> Result<(), AllocError> {
+        let Some(polygons) = self.polygons else {
+            return Ok(());
+        };
+        let mut separator = before;
+        if polygons.of(face).is_empty() {
+            return line.push_str(before);
+        }
+        for number in polygons.of(face) {
+            write!(line, "{separator}{number}")?;
+            separator = between;
+        }
+        Ok(())
+    }
+
+    /// Puts the properties of a face behind a line: the numbers of its polygons, in a list where it
+    /// is not in one alone.
+    fn push_properties(&self, line: &mut String, face: usize) -> Result<(), AllocError> {
+        let count = match self.polygons {
+            Some(polygons) => polygons.of(face).len(),
+            None => return line.push_str("{}"),
+        };
+        let (before, behind) = if count == 1 { ("", "}") } else { ("[", "]}") };
+        line.push_str("{\"polygon\":")?;
+        self.push_polygons(line, face, (before, ","))?;
+        line.push_str(behind)
     }
 
     /// Puts the numbers of a point behind a line, as JSON spells numbers.
@@ -84,8 +114,15 @@ impl MeshText<'_> {
     }
 
     /// Puts a face behind a line, as a polygon.
-    fn push_polygon(&self, line: &mut String, [a, b, c]: &[u32; 3]) -> Result<(), AllocError> {
-        line.push_str("{\"type\":\"Feature\",\"properties\":{},\"geometry\":")?;
+    fn push_polygon(
+        &self,
+        line: &mut String,
+        place: usize,
+        [a, b, c]: &[u32; 3],
+    ) -> Result<(), AllocError> {
+        line.push_str("{\"type\":\"Feature\",\"properties\":")?;
+        self.push_properties(line, place)?;
+        line.push_str(",\"geometry\":")?;
         line.push_str("{\"type\":\"Polygon\",\"coordinates\":[[[")?;
         for corner in [a, b, c] {
             self.push_position(line, *corner as usize)?;
@@ -93,6 +130,20 @@ impl MeshText<'_> {
         }
         self.push_position(line, *a as usize)?;
         line.push_str("]]]}}")
+    }
+
+    /// Puts a constraint behind a line, as a line of GeoJSON.
+    pub(crate) fn push_line_string(
+        &self,
+        line: &mut String,
+        [from, to]: [u32; 2],
+    ) -> Result<(), AllocError> {
+        line.push_str("{\"type\":\"Feature\",\"properties\":{},\"geometry\":")?;
+        line.push_str("{\"type\":\"LineString\",\"coordinates\":[[")?;
+        self.push_position(line, from as usize)?;
+        line.push_str("],[")?;
+        self.push_position(line, to as usize)?;
+        line.push_str("]]}}")
     }
 
     /// Puts a face's line behind a line.
@@ -108,7 +159,7 @@ impl MeshText<'_> {
         match form {
             Form::GeoJson => {
                 line.push_str(if place == 0 { "\n" } else { ",\n" })?;
-                self.push_polygon(line, face)
+                self.push_polygon(line, place, face)
             }
             Form::Svg => self.push_svg_face(line, face),
             Form::Stl => self.push_facet(line, face),

@@ -5,10 +5,11 @@ mod output;
 mod progress;
 mod reading;
 mod separating;
+mod sequences;
 mod sniffing;
 mod tasks;
 
 pub use output::write_mesh;
 pub use progress::tell_step;
-pub use reading::{Scene, input_name, read_scene};
-pub use tasks::{Question, Source, Task, Way, command, task_of};
+pub use reading::{Scene, input_name, read_scene, refine_scene};
+pub use tasks::{CrossingRule, KeepRule, Question, Source, Task, Way, command, task_of};

@@ -1,17 +1,18 @@
 //! What is read: a drawing, and points that are asked about, all on one scale.
 use crate::progress::ToldReader;
 use crate::separating::Separated;
+use crate::sequences::{Collected, collection_start};
 use crate::sniffing::{
-    TableForm, foreign_ending, foreign_kind, source_of, table_form, without_mark,
+    TableForm, first_line, foreign_ending, foreign_kind, source_of, table_form, without_mark,
 };
 use crate::tasks::suffix;
 use crate::{Question, Source, Task, Way};
 use anyhow::{Context, anyhow, bail};
 use mesh_files::{
-    Asked, ColumnNames, Drawing, FileFault, Moves, Rounding, Scaled, asked_points, most_digits,
-    read_csv, read_geojson, read_node, read_poly, read_segments, scale,
+    Asked, ColumnNames, Drawing, FileFault, Moves, Reason, Rounding, Scaled, asked_points,
+    most_digits, read_csv, read_geojson, read_node, read_poly, read_segments, scale,
 };
-use std::alloc::Global;
+use std::alloc::{AllocError, Global};
 use std::fs::File;
 use std::io::{BufReader, Cursor, Read};
 use std::{fs, io};
@@ -26,6 +27,9 @@ pub struct Scene {
     pub asked: Drawing,
     pub asked_points: Vec<Asked>,
 }
+
+/// The most digits behind the point that numbers are given.
+const MOST_DIGITS: u32 = 30;
 
 /// The name of what the points come from.
 pub fn input_name<'a>(task: &Task<'a>) -> &'a str {
@@ -50,14 +54,29 @@ fn read_table<R: Read + Drop>(
 struct Begun {
     source: Source,
     table: TableForm,
+    /// What a collection begins with that has the objects of the text, if it is a sequence of them.
+    collection: Option<&'static [u8]>,
 }
 
 impl Begun {
-    fn of(given: Option<Source>, bytes: &[u8]) -> Self {
+    fn of(given: Option<Source>, name: &str, bytes: &[u8]) -> Self {
         Begun {
             source: given.unwrap_or(source_of(bytes)),
             table: table_form(bytes),
+            collection: collection_start(without_mark(bytes), suffix(Some(name))),
         }
+    }
+}
+
+/// Reads GeoJSON: a sequence of objects as a collection.
+fn read_objects<R: Read + Drop>(
+    collection: Option<&[u8]>,
+    reader: R,
+    alloc: Global,
+) -> Result<Drawing, FileFault> {
+    match collection {
+        Some(start) => read_geojson(Collected::new(reader, start, alloc)?, alloc),
+        None => read_geojson(reader, alloc),
     }
 }
 
@@ -72,15 +91,35 @@ fn read_form<R: Read + Drop>(
         Source::Csv => read_table(names, begun.table, reader, alloc),
         Source::Node => read_node(reader, alloc),
         Source::Poly => read_poly(reader, alloc),
-        Source::GeoJson => read_geojson(reader, alloc),
+        Source::GeoJson => read_objects(begun.collection, reader, alloc),
     }
 }
 
-/// How many bytes of a text are looked at that has no end of a line before, and how many are read
-/// at a time.
+/// The first line of a text, if it can be shown.
+fn header_text(head: &[u8], alloc: Global) -> Result<String, AllocError> {
+    let mut header = String::new(alloc);
+    let line = first_line(without_mark(head)).trim_ascii();
+    match str::from_utf8(line) {
+        Ok(text) if !text.chars().any(|c| c.is_control() && c != '\t') => header.push_str(text)?,
+        _ => {}
+    }
+    Ok(header)
+}
+
+/// What is wrong with a text, by the name of its file: where a column is missing, with its header.
+fn text_fault(name: &str, fault: FileFault, header: &str) -> anyhow::Error {
+    match fault.reason {
+        Reason::NoColumn(_) | Reason::NoGivenColumn(_) if !header.is_empty() => {
+            anyhow!("{name}: {fault}; the header is {header}")
+        }
+        _ => anyhow!("{name}: {fault}"),
+    }
+}
+
+/// How many bytes of a text are looked at before it is read.
 const HEAD: usize = 1 << 13;
 
-/// Reads a text up to behind its first line that is not blank, or further.
+/// Reads the first bytes of a text.
 fn read_head<R: Read>(reader: &mut R, alloc: Global) -> io::Result<Vec<u8>> {
     let mut head = Vec::new(alloc);
     let mut chunk = Vec::new(alloc);
@@ -88,7 +127,7 @@ fn read_head<R: Read>(reader: &mut R, alloc: Global) -> io::Result<Vec<u8>> {
     for _ in 0..HEAD {
         let count = reader.read(chunk.as_mut_slice())?;
         head.extend_from_slice(chunk.get(..count).unwrap_or(&[]))?;
-        if count == 0 || head.len() >= HEAD || head.trim_ascii_start().contains(&b'\n') {
+        if count == 0 || head.len() >= HEAD {
             break;
         }
     }
@@ -113,7 +152,8 @@ fn read_text<R: Read + Drop>(
     alloc: Global,
 ) -> anyhow::Result<Drawing> {
     let head = read_head(&mut reader, alloc).context(format_args!("{name}"))?;
-    let begun = Begun::of(given, head.as_slice());
+    let begun = Begun::of(given, name, head.as_slice());
+    let header = header_text(head.as_slice(), alloc)?;
     if let Some(kind) = foreign(given, name, head.as_slice()) {
         bail!("{name}: this is {kind}: convert it to GeoJSON by GDAL or the Python package");
     }
@@ -123,7 +163,10 @@ fn read_text<R: Read + Drop>(
     let mut begin = Cursor::new(head);
     begin.set_position(mark as u64);
     let reader = BufReader::new(alloc, begin.chain(reader))?;
-    read_form(begun, names, reader, alloc).context(format_args!("{name}"))
+    match read_form(begun, names, reader, alloc) {
+        Ok(drawing) => Ok(drawing),
+        Err(fault) => Err(text_fault(name, fault, header.as_str())),
+    }
 }
 
 /// Opens a file.
@@ -318,4 +361,21 @@ pub fn read_scene(rt: &HostRuntime, task: &Task<'_>) -> anyhow::Result<Scene> {
         asked,
         asked_points,
     })
+}
+
+/// Gives a drawing as many digits behind the point as there is room for, unless a number of digits
+/// was asked for: so that points that are made between others are near to where they should be. The
+/// points that are asked about go along.
+pub fn refine_scene(task: &Task<'_>, scene: &mut Scene, alloc: Global) -> anyhow::Result<()> {
+    if let Rounding::To(_) = task.rounding {
+        return Ok(());
+    }
+    let name = input_name(task);
+    let scaled = scale(&mut scene.drawing, Rounding::Fit, MOST_DIGITS, alloc).context(format_args!(
+        "{name}"
+    ))?;
+    let mut moves = Moves::new(scaled.x_scale.digits);
+    scene.asked_points = asked_points(&scene.asked, &scaled, false, &mut moves, alloc)?;
+    scene.scaled = scaled;
+    Ok(())
 }

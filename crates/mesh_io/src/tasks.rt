@@ -13,6 +13,24 @@ pub enum Source {
     GeoJson,
 }
 
+/// What becomes of segments that cross: both are split, the file is refused, or the later one is
+/// left out.
+#[derive(Clone, Copy, PartialEq, Eq)]
+pub enum CrossingRule {
+    Split,
+    Refuse,
+    Skip,
+}
+
+/// Which faces are kept: all; those in a polygon, where the drawing has polygons; or those that
+/// segments close off.
+#[derive(Clone, Copy, PartialEq, Eq)]
+pub enum KeepRule {
+    All,
+    Inside,
+    Layers,
+}
+
 /// The coordinates of the ends of a way, as words.
 #[derive(Clone, Copy)]
 pub struct Way<'a> {
@@ -44,9 +62,11 @@ pub struct Task<'a> {
     pub lines: Option<&'a str>,
     pub question: Option<Question<'a>>,
     pub rounding: Rounding,
-    pub skips_crossing: bool,
-    pub keeps_inside: bool,
+    pub crossing: CrossingRule,
+    pub keep: KeepRule,
     pub is_quiet: bool,
+    /// Whether points that repeat others are left out of what is written.
+    pub is_compact: bool,
     pub width: u32,
 }
 
@@ -66,7 +86,7 @@ struct Choice {
     help: &'static str,
 }
 
-static CHOICES: [Choice; 16] = [
+static CHOICES: [Choice; 17] = [
     Choice {
         name: "from",
         letter: None,
@@ -190,24 +210,34 @@ static CHOICES: [Choice; 16] = [
         help: "Refuses numbers that would have to be rounded",
     },
     Choice {
-        name: "skip-crossing",
+        name: "crossing",
+        letter: None,
+        action: ArgAction::Set,
+        operand: ValueParser::Names(&["split", "refuse", "skip"]),
+        values: &["RULE"],
+        may_be_negative: false,
+        rivals: &[],
+        help: "Where segments cross, splits both, refuses the file, or skips the later one; else split",
+    },
+    Choice {
+        name: "keep",
+        letter: None,
+        action: ArgAction::Set,
+        operand: ValueParser::Names(&["inside", "layers"]),
+        values: &["PART"],
+        may_be_negative: false,
+        rivals: &[],
+        help: "Keeps faces: inside polygons if there are some, or in layers that segments close off",
+    },
+    Choice {
+        name: "compact",
         letter: None,
         action: ArgAction::SetTrue,
         operand: ValueParser::Bool,
         values: &[],
         may_be_negative: false,
         rivals: &[],
-        help: "Leaves out segments that cross those before them",
-    },
-    Choice {
-        name: "keep",
-        letter: None,
-        action: ArgAction::Set,
-        operand: ValueParser::Names(&["inside"]),
-        values: &["PART"],
-        may_be_negative: false,
-        rivals: &[],
-        help: "Keeps the faces that segments close off from outside and from holes",
+        help: "Leaves out points that repeat others, and numbers those that are left",
     },
     Choice {
         name: "size",
@@ -288,7 +318,7 @@ fn source_named(name: &str) -> Option<Source> {
         "csv" => Some(Source::Csv),
         "node" => Some(Source::Node),
         "poly" => Some(Source::Poly),
-        "geojson" | "json" => Some(Source::GeoJson),
+        "geojson" | "json" | "geojsonl" | "geojsons" | "geojsonseq" => Some(Source::GeoJson),
         _ => None,
     }
 }
@@ -333,6 +363,24 @@ fn rounding_of(matches: &ArgMatches<'_>) -> Rounding {
     }
 }
 
+/// What becomes of segments that cross.
+fn crossing_of(matches: &ArgMatches<'_>) -> CrossingRule {
+    match matches.get_str("crossing") {
+        Some("refuse") => CrossingRule::Refuse,
+        Some("skip") => CrossingRule::Skip,
+        _ => CrossingRule::Split,
+    }
+}
+
+/// Which faces are kept.
+fn keep_of(matches: &ArgMatches<'_>) -> KeepRule {
+    match matches.get_str("keep") {
+        Some("inside") => KeepRule::Inside,
+        Some("layers") => KeepRule::Layers,
+        _ => KeepRule::All,
+    }
+}
+
 /// What the words ask for.
 pub fn task_of<'a>(matches: &ArgMatches<'a>) -> Task<'a> {
     let file = matches.get_str("FILE").filter(|name| *name != "-");
@@ -350,9 +398,10 @@ pub fn task_of<'a>(matches: &ArgMatches<'a>) -> Task<'a> {
         lines: matches.get_str("lines"),
         question: question_of(matches),
         rounding: rounding_of(matches),
-        skips_crossing: matches.get_flag("skip-crossing"),
-        keeps_inside: matches.contains_id("keep"),
+        crossing: crossing_of(matches),
+        keep: keep_of(matches),
         is_quiet: matches.get_flag("quiet"),
+        is_compact: matches.get_flag("compact"),
         width: matches.get_one::<u32>("size").unwrap_or(800),
     }
 }
