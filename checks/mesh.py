@@ -8,6 +8,8 @@ them, and which faces lie outside or in a hole is found by a search of this file
 written is read back by readers of this file, by the program itself where it reads that form, and by
 Debian's python3-meshio, which is installed where that may be done.
 """
+import csv
+import io
 import json
 import os
 import random
@@ -937,6 +939,254 @@ def check_columns():
     expect("mesh: left out: note, column 4, size, kind\n" in error, error)
 
 
+def asking(words, option, asked, text):
+    """What the program answers about points, as rows of a table, and what it tells."""
+    with tempfile.NamedTemporaryFile("w", suffix=".csv") as file:
+        file.write(asked)
+        file.flush()
+        said, error = run([*words, option, file.name], text)
+    return list(csv.reader(io.StringIO(said))), error
+
+
+def square(x, y, size=4):
+    return [[[x, y], [x + size, y], [x + size, y + size], [x, y + size], [x, y]]]
+
+
+def feature(polygon, properties):
+    return {"type": "Feature", "properties": properties,
+            "geometry": {"type": "Polygon", "coordinates": polygon}}
+
+
+def collection(*features):
+    return json.dumps({"type": "FeatureCollection", "features": features})
+
+
+# two squares that overlap in another of side 2, and one beside them
+STATES = [feature(square(0, 0), {"name": "Berlin", "of": [1, {"a": "}"}], "size": 12.5}),
+          feature(square(2, 2), {"size": None, "name": 'B "ü"\\, x'}),
+          feature(square(10, 0), None)]
+
+
+def check_properties():
+    """Faces have the numbers and properties of their polygons, and answers those of what they name."""
+    text = collection(*STATES)
+    first, second = ({key: value for key, value in state["properties"].items() if value is not None}
+                     for state in STATES[:2])
+    said, error = run(["--to", "geojson"], text)
+    expect("left out" not in error, error)
+    found = [one["properties"] for one in json.loads(said)["features"]
+             if one["geometry"]["type"] == "Polygon"]
+    expect({"polygon": 1, **first} in found and {"polygon": 2, **second} in found, said)
+    expect({"polygon": [1, 2], "properties": [first, second]} in found, said)
+    expect({"polygon": 3} in found and {"polygon": []} in found, said)
+    expect(len({json.dumps(one) for one in found}) == 5, said)
+    table = list(csv.reader(io.StringIO(run(["-q", "--to", "csv"], text)[0])))
+    expect(table[0] == ["a", "b", "c", "area", "polygon", "name", "of", "size"], table)
+    quoted = 'B "ü"\\, x'
+    expect({tuple(row[4:]) for row in table[1:]} == {
+        ("1", "Berlin", '[1, {"a": "}"}]', "12.5"), ("2", quoted, "", ""), ("3", "", "", ""),
+        ("1 2", f"Berlin;{quoted}", '[1, {"a": "}"}];', "12.5;"), ("", "", "", "")}, table)
+    asked = "x,y\n1,0.7\n3.1,3.3\n8,1.1\n50,50\n0,2\n11,1.3\n"
+    rows, error = asking([], "--locate", asked, text)
+    expect("left out" not in error and rows[0]
+           == ["x", "y", "on", "a", "b", "c", "z", "polygon", "name", "of", "size"], rows)
+    expect([(row[2], row[7], row[8]) for row in rows[1:]] == [
+        ("face", "1", "Berlin"), ("face", "1 2", f"Berlin;{quoted}"), ("face", "", ""),
+        ("outside", "", ""), ("edge", "1", "Berlin"), ("face", "3", "")], rows)
+    rows, _ = asking(["-q"], "--nearest", "x,y\n1,0.7\n2.1,2.2\n", text)
+    expect([(row[2], row[5]) for row in rows[1:]] == [("1", "Berlin"), ("5", quoted)], rows)
+    clash = collection(feature(square(0, 0), {"polygon": "P"}))
+    expect('"polygon_number":1,"polygon":"P"' in run(["-q", "--to", "geojson"], clash)[0], "a clash")
+    alone = json.dumps(feature(square(0, 0), {"name": "alone"}))
+    expect('"polygon":1,"name":"alone"' in run(["-q", "--to", "geojson"], alone)[0], "one feature")
+    sequence = "\n".join(map(json.dumps, STATES))
+    expect(run(["-q", "--to", "csv"], sequence)[0] == run(["-q", "--to", "csv"], text)[0], "sequence")
+    expect("left out: properties" in run([], text)[1], "properties are told where nothing has them")
+
+
+def check_records():
+    """Answers have the columns of the table, and faces those of their ring's first row."""
+    places = 'name,x,y,note\nBerlin,0,0,"a, ""b"""\nPotsdam,4,0,\n\nRom,0,4,7\n'
+    rows, error = asking([], "--nearest", "x,y\n1,0\n0,5\n", places)
+    expect(rows == [["x", "y", "point", "distance", "distance_2", "name", "note"],
+                    ["1", "0", "1", "1", "1", "Berlin", 'a, "b"'],
+                    ["0", "5", "3", "1", "1", "Rom", "7"]] and "left out" not in error, rows)
+    rows, _ = asking(["-q"], "--locate", "x,y\n4,0\n1,1\n", places)
+    expect([row[2:] for row in rows[1:]] == [["point", "2", "", "", "", "Potsdam", ""],
+                                            rows[2][2:6] + ["", "", ""]], rows)
+    spaced = "x;y;name\n0,5;0;a b\n4;0;c\n"
+    rows, _ = asking(["-q"], "--nearest", "x,y\n0,0\n", spaced)
+    expect(rows[1] == ["0", "0", "1", "0.5", "0.25", "a b"], rows)
+    rings = "x,y,ring,owner\n0,0,a,Ann\n4,0,a,\n4,4,a,\n6,0,b,Bo\n9,0,b,\n9,3,b,\n"
+    table = list(csv.reader(io.StringIO(run(["-q", "--keep", "inside", "--to", "csv"], rings)[0])))
+    expect(table[0] == ["a", "b", "c", "area", "polygon", "ring", "owner"]
+           and sorted(row[3:] for row in table[1:])
+           == [["4.5", "2", "b", "Bo"], ["8", "1", "a", "Ann"]], table)
+    expect("left out: owner" in run([], rings)[1], "columns that no face has")
+    said = json.loads(run(["-q", "--to", "geojson", "--keep", "inside"], rings)[0])["features"]
+    expect({"polygon": 2, "ring": "b", "owner": "Bo"} in [one["properties"] for one in said], said)
+    latin = b"x,y,name\n0,0,K\xf6ln\n1,0,b\n"
+    rows, _ = asking(["-q"], "--nearest", "x,y\n0,0\n", latin)
+    expect(rows[1][5] == "K\ufffdln", rows)
+    back = "x,y,ring\n0,0,a\n4,0,a\n4,4,a\n6,0,b\n9,0,b\n9,3,b\n0,9,a\n4,9,a\n4,12,a\n"
+    error = run([], back)[1]
+    expect("line 8: the ring a ended before; this is another (1 such)" in error, error)
+    expect("ended before" not in run([], rings)[1], "no ring comes back")
+
+
+def check_regions():
+    """Regions of a .poly file are polygons, with their attributes."""
+    regions = "2\n1 1 0.7 7.5 0.1\n2 3.1 2.5 -3\n"
+    text = room().poly() + regions
+    said, error = run(["--from", "poly", "--to", "csv"], text)
+    table = list(csv.reader(io.StringIO(said)))
+    expect(table[0][3:] == ["area", "polygon", "attribute"] and "regions" not in error, error)
+    found = {}
+    for row in table[1:]:
+        found[tuple(row[4:])] = found.get(tuple(row[4:]), 0) + Fraction(row[3])
+    # the room without its holes, the first hole, and the rest: the second hole and what is outside
+    expect(found == {("1", "7.5"): Fraction(96 - 4) - Fraction(9, 2), ("2", "-3"): 4,
+                     ("", ""): Fraction(9, 2) + 12}, found)
+    inside = run(["-q", "--from", "poly", "--to", "csv", "--keep", "inside"], text)[0]
+    expect({row[4] for row in csv.reader(io.StringIO(inside))} == {"polygon", "1", "2"}, inside)
+    rows, _ = asking(["-q", "--from", "poly"], "--locate", "x,y\n3.1,2.5\n0,0\n8.5,4.1\n", text)
+    expect([row[7:] for row in rows[1:]] == [["2", "-3"], ["1", "7.5"], ["", ""]], rows)
+    expect("left out: attributes of regions" in run(["--from", "poly"], text)[1], "regions")
+
+
+def check_overlaps():
+    """Overlaps of polygons and gaps between them, with their areas and places."""
+    states = [feature(square(0, 0), {"name": "A"}), feature(square(2, 2), {"name": "B"}),
+              feature([*square(10, 0, 8), *square(12, 2)], {"name": "C"}),
+              feature(square(13, 3, 2), {"name": "D"})]
+    said, error = run(["--overlaps"], collection(*states))
+    rows = list(csv.reader(io.StringIO(said)))
+    expect(rows[0] == ["kind", "polygon", "area", "x", "y", "name"], rows)
+    # D is within the hole of C, and leaves a gap round it
+    expect(sorted(row[:3] + row[5:] for row in rows[1:])
+           == [["gap", "3 4", "12", "C;D"], ["overlap", "1 2", "4", "A;B"]], rows)
+    for kind, numbers, _, x, y, _ in rows[1:]:
+        p = Fraction(x), Fraction(y)
+        found = [number for number, it in enumerate(states, 1)
+                 if sum(is_within(ring[:-1], p) for ring in it["geometry"]["coordinates"]) % 2]
+        expect(found == ([] if kind == "gap" else [1, 2]), f"{kind} at {p}: {found}")
+    expect("mesh: 1 overlaps, 1 gaps" in error, error)
+    expect(run(["-q", "--overlaps"], collection(states[0]))[0] == f"{','.join(rows[0])}\n", "one")
+    expect("--overlaps: the input has no polygons" in run(["--overlaps"], "x,y\n0,0\n", 1)[1], "no")
+    # squares of a board: every second one is missing, and those within are gaps
+    board = "x,y,ring\n" + "".join(
+        f"{x},{y},r{i}{j}\n" for i in range(7) for j in range(7) if (i + j) % 2 == 0
+        for x, y in ((i, j), (i + 1, j), (i + 1, j + 1), (i, j + 1)))
+    rows = list(csv.reader(io.StringIO(run(["-q", "--overlaps"], board)[0])))[1:]
+    expect({(row[0], row[2], len(row[1].split())) for row in rows} == {("gap", "1", 4)}, rows)
+    within = [(i, j) for i in range(1, 6) for j in range(1, 6) if (i + j) % 2]
+    expect(sorted((int(float(row[3])), int(float(row[4]))) for row in rows) == within, rows)
+
+
+def check_kept_answers():
+    """Questions are answered for the faces that are kept."""
+    room_text = room().poly()
+    words = ["-q", "--from", "poly", "--keep", "layers"]
+    asked = "x,y\n3.1,2.5\n0.5,0.7\n2,2\n3,2\n-1,0\n13,4.1\n15,4\n"
+    rows, _ = asking(words, "--locate", asked, room_text)
+    expect([row[2] for row in rows[1:]]
+           == ["outside", "face", "point", "edge", "outside", "outside", "outside"], rows)
+    rows, _ = asking(["-q", "--from", "poly"], "--locate", asked, room_text)
+    expect([row[2] for row in rows[1:]]
+           == ["face", "face", "point", "edge", "outside", "face", "point"], rows)
+    way = ["--line", "1", "2.6", "5", "3.5"]
+    every = run(["-q", "--from", "poly", *way], room_text)[0].splitlines()
+    some = run([*words, *way], room_text)[0].splitlines()
+    left = [line for line in every if line not in some]
+    expect(some == [line for line in every if line not in left] and len(left) == 1, left)
+    expect(set(left[0].split(",")[1:]) in ({"5", "7"}, {"6", "8"}), left)
+
+
+def check_skipping():
+    """Bad rows and features are errors, or are left out and told of."""
+    table = 'x,y,note\n0,0,\n4,zero,\n4,0,"a\nb"\n0,1e999,\n5,5,6,7\n0,4,\n'
+    expect("line 3: y is not a decimal number" in run([], table, 1)[1], "a bad row")
+    said, error = run(["--skip-bad"], table)
+    expect(read_obj(said)[0] == [(0, 0, 0), (4, 0, 0), (0, 4, 0)], said)
+    for told in ("line 3: y is not a decimal number; left out", "line 6: y has more than 17 digits",
+                 "line 7: the row has more or fewer fields"):
+        expect(f"standard input: {told}" in error, error)
+    expect(not run(["-q", "--skip-bad"], table)[1], "--quiet")
+    clean = "x,y\n0,0\n4,0\n0,4\n"
+    expect(run(["--skip-bad"], clean) == run([], clean), "nothing is bad")
+    expect("no column named y" in run(["--skip-bad"], "x\n0\n", 1)[1], "a bad header")
+    bad = feature([[[0, 0], [1, 1], [0, 0]]], None)
+    text = collection(STATES[0], bad, STATES[2]).replace('{"type": "Feature"', '\n{"type": "Feature"')
+    expect("line 3, feature 2: this ring has fewer than three corners" in run([], text, 1)[1], "ring")
+    said, error = run(["--skip-bad", "--to", "csv", "--keep", "inside"], text)
+    expect("line 3, feature 2: this ring has fewer than three corners" in error
+           and "; left out\n" in error, error)
+    expect({row[4] for row in csv.reader(io.StringIO(said))} == {"polygon", "1", "3"}, said)
+    expect("this is not JSON" in run(["--skip-bad"], text[:-3], 1)[1], "broken JSON")
+    grid = "x,y,z\n0,0,5\n1,0,-9999\n2,0,6.5\n0,2,-9999.0\n1,3,7\n"
+    said, error = run(["--nodata", "-9999"], grid)
+    expect(read_obj(said)[0] == [(0, 0, 5), (2, 0, Fraction(13, 2)), (1, 3, 7)], said)
+    expect("2 points without data are left out" in error, error)
+    expect("--nodata: none is not a decimal number" in run(["--nodata", "none"], grid, 1)[1], "nodata")
+
+
+# geometries as text, and what GeoJSON calls them
+GEOMETRIES = [
+    ("POINT (30 10)", "Point", [30, 10]), ("point z(3 1 7)", "Point", [3, 1, 7]),
+    ("LINESTRING (3 1,1 3, 4 4)", "LineString", [[3, 1], [1, 3], [4, 4]]),
+    ("SRID=4326;POLYGON((0 0,8 0,8 8,0 8,0 0),(1 1,1 2,2 2,1 1))", "Polygon",
+     [[[0, 0], [8, 0], [8, 8], [0, 8], [0, 0]], [[1, 1], [1, 2], [2, 2], [1, 1]]]),
+    ("MULTIPOINT (1 4, 4 3)", "MultiPoint", [[1, 4], [4, 3]]),
+    ("MULTIPOINT ((1 4), (4 3))", "MultiPoint", [[1, 4], [4, 3]]),
+    ("MULTILINESTRING ((1 1, 2 2),(4 4, 3 3.))", "MultiLineString",
+     [[[1, 1], [2, 2]], [[4, 4], [3, 3.0]]]),
+    ("MULTIPOLYGON (((0 0,4 0,0 4,0 0)),((9 9,9 8,8 9,9 9)))", "MultiPolygon",
+     [[[[0, 0], [4, 0], [0, 4], [0, 0]]], [[[9, 9], [9, 8], [8, 9], [9, 9]]]]),
+    ("POLYGON ZM ((0 0 1 5,4 0 2 6,0 4 .5 7,0 0 1 8))", "Polygon",
+     [[[0, 0, 1], [4, 0, 2], [0, 4, 0.5], [0, 0, 1]]]),
+    ("LINESTRING M (0 0 1,+4 -.5 2)", "LineString", [[0, 0], [4, -0.5]]),
+]
+
+
+def check_geometries():
+    """Tables with a column of geometries are read as GeoJSON of them."""
+    for text, kind, coordinates in GEOMETRIES:
+        for table in f'id,WKT\n7,"{text}"\n', f'id\tWKT\n7\t{text}\n':
+            shape = {"type": kind, "coordinates": coordinates}
+            wanted = collection({"type": "Feature", "properties": {"id": 7}, "geometry": shape})
+            for form in "obj", "geojson":
+                found, error = run(["--to", form, "--keep", "layers"], table)
+                named = [re.sub(r"\.0\b", "", it)
+                         for it in (found, run(["-q", "--to", form, "--keep", "layers"], wanted)[0])]
+                expect(named[0] == named[1], f"{table!r}: {named}")
+    states = "wkt;name\nPOLYGON((0 0,4 0,4 4,0 4,0 0));Berlin\n\nPOINT EMPTY;\n;\n" \
+             '"POLYGON((9 0,9 4,5 4,9 0))";"Po;ts"\n'
+    rows, _ = asking(["-q"], "--locate", "x,y\n1,2\n8,3\n", states)
+    expect([(row[7], row[8]) for row in rows[1:]] == [("1", "Berlin"), ("4", "Po;ts")], rows)
+    for wrong in "CURVE (0 0)", "POINT", "POINT (1)", "POINT (1 x)", "POLYGON ((0 0,1 1)", "POINT(1,)":
+        table = f'wkt,a\n"POINT (0 0)",1\n"{wrong}",2\n'
+        error = run([], table, 1)[1]
+        expect("line 3: a point, a line or a polygon of WKT is expected" in error, error)
+        said, error = run(["--skip-bad"], table)
+        expect(read_obj(said)[0] == [(0, 0, 0)] and "line 3: a point, a line" in error, error)
+    error = run([], 'wkt,a\n"POLYGON((0 0,1 1,0 0))",1\n', 1)[1]
+    expect("line 2, feature 1: this ring has fewer than three corners" in error, error)
+
+
+def check_degrees():
+    """Degrees are told of where distances come out."""
+    for text, is_told in (("lon,lat\n13.4,52.5\n", True), ("x,y\n13.4,52.5\n", False),
+                          ("Longitude;Latitude\n181,0\n", False),
+                          (collection(feature(square(0, 0), None)), True),
+                          (collection(feature(square(0, 0), None))[:-1]
+                           + ', "crs": {"type": "name", "properties": {"name": "EPSG:32632"}}}', False),
+                          (collection(feature(square(300, 0), None)), False)):
+        told = asking([], "--nearest", "x,y\n0,0\n", text)[1]
+        line = "mesh: coordinates look like degrees: distances are in degrees\n"
+        expect(told.count(line) == is_told, f"{text}: {told}")
+        expect("degrees" not in run([], text)[1], text)
+
+
 def check_lines_of_input():
     """Segments of a table beside points from standard input."""
     with tempfile.TemporaryDirectory() as folder:
@@ -1605,6 +1855,14 @@ def main():
     check_splits()
     check_polygons()
     check_compact()
+    check_properties()
+    check_records()
+    check_regions()
+    check_overlaps()
+    check_kept_answers()
+    check_skipping()
+    check_geometries()
+    check_degrees()
     check_hole_points()
     check_spellings()
     check_long_numbers()

@@ -10,7 +10,9 @@ use delaunay_legalization::ConstraintMarker;
 use drawing_faces::{DrawingError, DrawnMesh, DrawnSegment, Kept, triangulate_drawing};
 use half_edge_dcel::UndirectedEdgeHandle;
 use mesh_files::{Drawing, FacePolygons, FileLine, Form, MeshText, WrittenPoints, hole_sides};
-use mesh_io::{CrossingRule, KeepRule, Scene, Task, input_name, refine_scene, write_mesh};
+use mesh_io::{
+    CrossingRule, KeepRule, Question, Scene, Task, input_name, refine_scene, write_mesh,
+};
 use std::alloc::{AllocError, Global};
 use std::fmt;
 
@@ -119,12 +121,17 @@ fn sides_of(sides: &[[u32; 2]], alloc: Global) -> Result<Vec<DrawnSegment>, Allo
     Ok(segments)
 }
 
+/// Whether a drawing has polygons: rings, or regions.
+fn has_polygons(scene: &Scene) -> bool {
+    !scene.drawing.rings.is_empty() || !scene.regions.spots.is_empty()
+}
+
 /// Whether the faces are kept that segments close off. Where a drawing has polygons, the inside is
 /// theirs.
-fn keeps_layers(task: &Task<'_>, drawing: &Drawing) -> bool {
+fn keeps_layers(task: &Task<'_>, scene: &Scene) -> bool {
     match task.keep {
         KeepRule::All => false,
-        KeepRule::Inside => drawing.rings.is_empty(),
+        KeepRule::Inside => !has_polygons(scene),
         KeepRule::Layers => true,
     }
 }
@@ -135,7 +142,7 @@ pub fn drawn_sides(
     scene: &Scene,
     alloc: Global,
 ) -> Result<Vec<DrawnSegment>, AllocError> {
-    if !keeps_layers(task, &scene.drawing) {
+    if !keeps_layers(task, scene) {
         return Ok(Vec::new(alloc));
     }
     let sides = hole_sides(&scene.drawing, scene.scaled.points.as_slice(), alloc)?;
@@ -238,7 +245,7 @@ fn tell_counts(rt: &impl Eprint, points: usize, drawn: &DrawnLists<'_>) {
 
 /// Which faces are kept, and the points in holes that count for that.
 pub fn kept_part<'a>(task: &Task<'_>, scene: &'a Scene) -> (Kept, &'a [Point2<i32>]) {
-    if keeps_layers(task, &scene.drawing) {
+    if keeps_layers(task, scene) {
         (Kept::Inside, scene.scaled.holes.as_slice())
     } else {
         (Kept::All, [].as_slice())
@@ -283,9 +290,12 @@ pub fn triangulate_with_room(
 }
 
 /// Whether it counts which polygons faces are in.
-pub fn needs_polygons(task: &Task<'_>, drawing: &Drawing) -> bool {
-    let is_told = task.form == Some(Form::GeoJson) || task.form == Some(Form::Csv);
-    !drawing.rings.is_empty() && (is_told || task.keep == KeepRule::Inside)
+pub fn needs_polygons(task: &Task<'_>, scene: &Scene) -> bool {
+    let is_told = match task.question {
+        Some(Question::Locate(_) | Question::Overlaps) => true,
+        _ => task.form == Some(Form::GeoJson) || task.form == Some(Form::Csv),
+    };
+    has_polygons(scene) && (is_told || task.keep == KeepRule::Inside)
 }
 
 /// The first segment that was left out, as one that crosses another.

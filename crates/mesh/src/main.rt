@@ -6,7 +6,9 @@ mod areas;
 mod building;
 mod crossings;
 mod heights;
+mod kept;
 mod nearest;
+mod overlaps;
 mod paths;
 mod places;
 mod polygons;
@@ -18,7 +20,9 @@ use crate::building::{
     DrawnLists, needs_polygons, split_crossing, tell_drawn, triangulate_with_room,
     write_triangulated,
 };
+use crate::kept::KeptFaces;
 use crate::nearest::tell_nearest;
+use crate::overlaps::tell_overlaps;
 use crate::paths::Turn;
 use crate::places::tell_places;
 use crate::polygons::polygon_lists;
@@ -29,19 +33,26 @@ use delaunay_interface::Triangulation;
 use mesh_io::{KeepRule, Question, Scene, Task, command, read_scene, task_of, tell_step};
 use std::process::ExitCode;
 
-/// Answers a question of the triangulation with its constraints.
+/// Answers a question of the triangulation with its constraints, for the faces that are kept.
 fn answer_question<T: Triangulation<Vertex = Point2<i32>>>(
     rt: &HostRuntime,
+    task: &Task<'_>,
     question: Question<'_>,
     scene: &Scene,
     site: &T,
-    places: &[u32],
+    drawn: &DrawnLists<'_>,
 ) -> anyhow::Result<()> {
-    match question {
-        Question::Nearest(_) => Ok(()),
-        Question::Locate(_) => tell_places(rt, scene, site, places),
-        Question::Line(_) => tell_way(rt, scene, site, places),
+    if let Question::Nearest(_) = question {
+        return Ok(());
     }
+    if let Question::Overlaps = question {
+        return tell_overlaps(rt, task.is_quiet, scene, drawn);
+    }
+    let kept = KeptFaces::of(task, drawn, rt.alloc())?;
+    if let Question::Line(_) = question {
+        return tell_way(rt, scene, site, &kept);
+    }
+    tell_places(rt, scene, site, &kept)
 }
 
 /// Tells what is to be told of a triangulation, answers the question, and writes the mesh: where
@@ -55,7 +66,7 @@ fn tell_and_write<T: Triangulation<Vertex = Point2<i32>>>(
 ) -> anyhow::Result<()> {
     tell_drawn(rt, task, scene, site, drawn)?;
     if let Some(question) = task.question {
-        answer_question(rt, question, scene, site, drawn.places)?;
+        answer_question(rt, task, question, scene, site, drawn)?;
         if task.output.is_none() {
             return Ok(());
         }
@@ -73,14 +84,14 @@ fn keep_and_write<T: Triangulation<Vertex = Point2<i32>>>(
     drawn: &DrawnLists<'_>,
     turns: &[Turn],
 ) -> anyhow::Result<()> {
-    if !needs_polygons(task, &scene.drawing) {
+    if !needs_polygons(task, scene) {
         return tell_and_write(rt, task, scene, site, drawn);
     }
     let alloc = rt.alloc();
     let lists = polygon_lists(scene, site, drawn.places, turns, drawn.faces, alloc)?;
     if task.keep != KeepRule::Inside {
         let lists = DrawnLists {
-            polygons: Some(lists.lists()),
+            polygons: Some(lists.lists(&scene.records)),
             ..*drawn
         };
         return tell_and_write(rt, task, scene, site, &lists);
@@ -88,7 +99,7 @@ fn keep_and_write<T: Triangulation<Vertex = Point2<i32>>>(
     let (faces, lists) = lists.within(drawn.faces, alloc)?;
     let lists = DrawnLists {
         faces: faces.as_slice(),
-        polygons: Some(lists.lists()),
+        polygons: Some(lists.lists(&scene.records)),
         ..*drawn
     };
     tell_and_write(rt, task, scene, site, &lists)

@@ -1,16 +1,21 @@
 //! Which polygons of a drawing each face is in: those that an inner point of it is in, by the parity
-//! of their sides.
+//! of their sides; or which regions, where it has none but regions.
 use crate::building::point_place;
 use crate::paths::{Turn, path_between};
 use crate::splitting::point_vertices;
+use delaunay_core::math::validate_vertex;
 use delaunay_core::point::Point2;
 use delaunay_interface::Triangulation;
-use mesh_files::{Drawing, FacePolygons, Ring};
+use delaunay_legalization::ConstraintMarker;
+use delaunay_location::PositionInTriangulation;
+use exact_predicates::ExactTests;
+use half_edge_dcel::DirectedEdgeHandle;
+use mesh_files::{Asked, Drawing, FacePolygons, Records, Ring};
 use mesh_io::Scene;
 use std::alloc::{AllocError, Global};
 
 /// No face.
-const NO_FACE: u32 = u32::MAX;
+pub const NO_FACE: u32 = u32::MAX;
 
 /// A side of a face: its ends with the lesser first, the face, and which of its sides it is.
 #[derive(Clone, Copy, PartialEq, Eq, PartialOrd, Ord)]
@@ -82,6 +87,12 @@ fn across_of(sides: &[FaceSide], alloc: Global) -> Result<Vec<u32>, AllocError> 
         }
     }
     Ok(across)
+}
+
+/// Of each side of each face the face on its other side.
+pub fn across_faces(faces: &[[u32; 3]], alloc: Global) -> Result<Vec<u32>, AllocError> {
+    let sides = sides_of(faces, alloc)?;
+    across_of(sides.as_slice(), alloc)
 }
 
 impl FaceMap<'_> {
@@ -357,6 +368,108 @@ fn find_all<T: Triangulation<Vertex = Point2<i32>>>(
     Ok(())
 }
 
+impl FaceMap<'_> {
+    /// The face with these corners.
+    fn face_at(&self, [a, b, c]: [u32; 3]) -> Option<u32> {
+        for side in self.beside([a, b]) {
+            if self.faces.get(side.face as usize)?.contains(&c) {
+                return Some(side.face);
+            }
+        }
+        None
+    }
+}
+
+/// The corners of a face at an edge, by the places of their points.
+fn corners_beside<DE, UE, F>(
+    places: &[u32],
+    edge: DirectedEdgeHandle<'_, Point2<i32>, DE, UE, F>,
+) -> Option<[u32; 3]> {
+    let third = match edge.opposite_vertex() {
+        Some(third) => third,
+        None => edge.rev().opposite_vertex()?,
+    };
+    let [from, to] = edge.vertices();
+    Some([
+        point_place(places, from.fix().index()),
+        point_place(places, to.fix().index()),
+        point_place(places, third.fix().index()),
+    ])
+}
+
+/// The corners of the face that a point is in, or of one at the edge that it is on, by the places of
+/// their points.
+fn corners_round<T: Triangulation<Vertex = Point2<i32>>>(
+    site: &T,
+    places: &[u32],
+    point: Point2<i32>,
+) -> Option<[u32; 3]> {
+    site.recall_invariant();
+    if validate_vertex(&point).is_err() {
+        return None;
+    }
+    match site.locate(point, &ExactTests) {
+        PositionInTriangulation::OnFace(face) => {
+            let [edge, _, _] = site.face(face).adjacent_edges();
+            corners_beside(places, edge)
+        }
+        PositionInTriangulation::OnEdge(edge) => corners_beside(places, site.directed_edge(edge)),
+        _ => None,
+    }
+}
+
+/// The edges that are constraints, by the places of their ends.
+fn constraint_sides<T: Triangulation<Vertex = Point2<i32>>>(
+    site: &T,
+    places: &[u32],
+    alloc: Global,
+) -> Result<Vec<[u32; 2]>, AllocError> {
+    let mut sides = Vec::new(alloc);
+    for edge in site.undirected_edges() {
+        if T::Constraints::is_constraint_edge(edge.data()) {
+            let [a, b] = edge.vertices();
+            sides.push([
+                point_place(places, a.fix().index()),
+                point_place(places, b.fix().index()),
+            ])?;
+        }
+    }
+    Ok(sides)
+}
+
+/// Finds the faces of all regions: those that a way past no constraint leads to from the face that
+/// a region's point is in.
+fn find_regions<T: Triangulation<Vertex = Point2<i32>>>(
+    search: &mut Search,
+    map: &FaceMap<'_>,
+    site: &T,
+    places: &[u32],
+    points: &[Asked],
+    alloc: Global,
+) -> Result<(), AllocError> {
+    let mut polygon = Polygon {
+        number: 0,
+        order: 0,
+        sides: constraint_sides(site, places, alloc)?,
+    };
+    for asked in points {
+        polygon.number = polygon.number.saturating_add(1);
+        polygon.order = polygon.number;
+        let Asked::Near(point) = asked else {
+            continue;
+        };
+        let Some(corners) = corners_round(site, places, *point) else {
+            continue;
+        };
+        if let Some(face) = map.face_at(corners) {
+            search.mark(map, &polygon);
+            search.note(face, &polygon)?;
+            search.spread(map, &polygon)?;
+        }
+    }
+    Ok(())
+}
+
 /// The polygons that each of some faces is in, by their numbers, those of a face one behind the
 /// other.
 #[derive(Drop)]
@@ -366,10 +479,16 @@ pub struct PolygonLists {
 }
 
 impl PolygonLists {
-    pub fn lists(&self) -> FacePolygons<'_> {
+    /// The lists, with what the file says of polygons.
+    pub fn lists<'a>(&'a self, records: &'a Records) -> FacePolygons<'a> {
         FacePolygons {
             starts: self.starts.as_slice(),
             numbers: self.numbers.as_slice(),
+            records: if records.is_empty() {
+                None
+            } else {
+                Some(records)
+            },
         }
     }
 
@@ -424,7 +543,7 @@ fn lists_of(found: &[Found], faces: usize, alloc: Global) -> Result<PolygonLists
     })
 }
 
-/// The polygons that each face is in. Faces are all inner faces, by the places of their corners.
+/// The polygons or regions that each face is in. Faces are all inner faces, by the places of their corners.
 pub fn polygon_lists<T: Triangulation<Vertex = Point2<i32>>>(
     scene: &Scene,
     site: &T,
@@ -449,7 +568,12 @@ pub fn polygon_lists<T: Triangulation<Vertex = Point2<i32>>>(
         across,
     };
     let mut search = Search::new(faces.len(), alloc)?;
-    find_all(&mut search, &map, site, &scene.drawing, outlines, alloc)?;
+    if scene.drawing.rings.is_empty() {
+        let regions = scene.region_points.as_slice();
+        find_regions(&mut search, &map, site, places, regions, alloc)?;
+    } else {
+        find_all(&mut search, &map, site, &scene.drawing, outlines, alloc)?;
+    }
     search.found.sort()?;
     lists_of(search.found.as_slice(), faces.len(), alloc)
 }

@@ -227,7 +227,10 @@ fn read_points<R: Read>(
 }
 
 /// The header of a table.
-fn header_of<R: Read>(reader: &mut Reader<R>, alloc: Global) -> Result<ByteRecord, FileFault>
+pub(crate) fn header_of<R: Read>(
+    reader: &mut Reader<R>,
+    alloc: Global,
+) -> Result<ByteRecord, FileFault>
     ensures { IfOk result (λ header. (text : List ℕ) → HasRead R.remaining text [] reader.old
         → HasRead R.remaining text (fields_of header ∷ []) reader.new) }
 {
@@ -239,7 +242,7 @@ fn header_of<R: Read>(reader: &mut Reader<R>, alloc: Global) -> Result<ByteRecor
 }
 
 /// The reader of a table.
-fn open_table<R: Read + Drop>(text: R, alloc: Global) -> Reader<R>
+pub(crate) fn open_table<R: Read + Drop>(text: R, alloc: Global) -> Reader<R>
     ensures { IfSome (R.remaining text) (λ bytes. HasRead R.remaining bytes [] result) }
 {
     ReaderBuilder::new()

@@ -1,7 +1,17 @@
 //! Faces as tables with areas and as GeoJSON.
-use crate::{Form, MeshText};
+use crate::{FacePolygons, Form, MeshText, Named};
 use decimal_numbers::Decimal;
 use std::alloc::AllocError;
+
+/// Puts numbers behind a line, with a separator between them.
+fn push_numbers(line: &mut String, numbers: &[u32], separator: &str) -> Result<(), AllocError> {
+    let mut before = "";
+    for number in numbers {
+        write!(line, "{before}{number}")?;
+        before = separator;
+    }
+    Ok(())
+}
 
 impl MeshText<'_> {
     /// Twice the area of a face, in square units of the last digit.
@@ -55,7 +65,7 @@ impl MeshText<'_> {
             Form::Csv => {
                 let area = self.area(face);
                 write!(line, "{a},{b},{c},{area}")?;
-                self.push_polygons(line, place, (",", " "))?;
+                self.push_polygon_fields(line, place)?;
                 line.push('\n')
             }
             _ => {
@@ -65,39 +75,71 @@ impl MeshText<'_> {
         }
     }
 
-    /// Puts the numbers of a face's polygons behind a line, with what stands before them and between
-    /// them, where the drawing has polygons.
-    fn push_polygons(
-        &self,
-        line: &mut String,
-        face: usize,
-        (before, between): (&str, &str),
-    ) -> Result<(), AllocError> {
+    /// Puts the numbers of a face's polygons behind a line, and their fields, where the drawing has
+    /// polygons.
+    fn push_polygon_fields(&self, line: &mut String, face: usize) -> Result<(), AllocError> {
         let Some(polygons) = self.polygons else {
             return Ok(());
         };
-        let mut separator = before;
-        if polygons.of(face).is_empty() {
-            return line.push_str(before);
+        line.push(',')?;
+        push_numbers(line, polygons.of(face), " ")?;
+        match polygons.records {
+            Some(records) => {
+                records.push_fields(line, self.drawing, Named::Polygons(polygons.of(face)))
+            }
+            None => Ok(()),
         }
-        for number in polygons.of(face) {
-            write!(line, "{separator}{number}")?;
-            separator = between;
-        }
-        Ok(())
     }
 
-    /// Puts the properties of a face behind a line: the numbers of its polygons, in a list where it
-    /// is not in one alone.
-    fn push_properties(&self, line: &mut String, face: usize) -> Result<(), AllocError> {
-        let count = match self.polygons {
-            Some(polygons) => polygons.of(face).len(),
-            None => return line.push_str("{}"),
+    /// Puts the number and the properties of the one polygon that a face is in behind a line.
+    fn push_single(
+        &self,
+        line: &mut String,
+        polygons: &FacePolygons<'_>,
+        number: u32,
+    ) -> Result<(), AllocError> {
+        write!(line, "{number}")?;
+        match polygons.records {
+            Some(records) => records.push_members(line, self.drawing, number, ","),
+            None => Ok(()),
+        }
+    }
+
+    /// Puts the numbers and the properties of several polygons behind a line, as lists.
+    fn push_several(
+        &self,
+        line: &mut String,
+        polygons: &FacePolygons<'_>,
+        numbers: &[u32],
+    ) -> Result<(), AllocError> {
+        line.push('[')?;
+        push_numbers(line, numbers, ",")?;
+        line.push(']')?;
+        let Some(records) = polygons.records else {
+            return Ok(());
         };
-        let (before, behind) = if count == 1 { ("", "}") } else { ("[", "]}") };
-        line.push_str("{\"polygon\":")?;
-        self.push_polygons(line, face, (before, ","))?;
-        line.push_str(behind)
+        let mut before = ",\"properties\":[{";
+        for number in numbers {
+            line.push_str(before)?;
+            records.push_members(line, self.drawing, *number, "")?;
+            before = "},{";
+        }
+        line.push_str(if numbers.is_empty() { "" } else { "}]" })
+    }
+
+    /// Puts the properties of a face behind a line: the numbers of its polygons and their
+    /// properties, in lists where it is not in one alone.
+    fn push_properties(&self, line: &mut String, face: usize) -> Result<(), AllocError> {
+        let Some(polygons) = &self.polygons else {
+            return line.push_str("{}");
+        };
+        let name = polygons.number_name();
+        write!(line, "{{\"{name}\":")?;
+        match polygons.of(face) {
+            [number] => self.push_single(line, polygons, *number)?,
+            numbers => self.push_several(line, polygons, numbers)?,
+        }
+        line.push('}')
     }
 
     /// Puts the numbers of a point behind a line, as JSON spells numbers.

@@ -1,6 +1,6 @@
 //! A mesh that is to be written, and its forms.
 use crate::neighbours::{NO_FACE, neighbours_of};
-use crate::{Drawing, Number, Scaled};
+use crate::{Drawing, Number, Records, Scaled};
 use std::alloc::{AllocError, Global};
 use std::io;
 use std::io::Write;
@@ -75,11 +75,21 @@ pub struct FacePolygons<'a> {
     /// Of each face where its numbers begin, and where those of the last end.
     pub starts: &'a [u32],
     pub numbers: &'a [u32],
+    /// What the file says of polygons, where that is written.
+    pub records: Option<&'a Records>,
 }
 
 impl<'a> FacePolygons<'a> {
+    /// What the numbers of polygons are called.
+    pub fn number_name(&self) -> &'static str {
+        match self.records {
+            Some(records) => records.number_name(),
+            None => "polygon",
+        }
+    }
+
     /// The numbers of a face's polygons.
-    pub(crate) fn of(&self, face: usize) -> &'a [u32] {
+    pub fn of(&self, face: usize) -> &'a [u32] {
         let start = self.starts.get(face).copied().unwrap_or(0) as usize;
         let end = self.starts.get(face.saturating_add(1));
         let end = end.copied().unwrap_or(0) as usize;
@@ -262,6 +272,18 @@ impl MeshText<'_> {
         writeln!(line, "{count} 3 0")
     }
 
+    fn push_csv_head(&self, line: &mut String) -> Result<(), AllocError> {
+        line.push_str("a,b,c,area")?;
+        if let Some(polygons) = &self.polygons {
+            let name = polygons.number_name();
+            write!(line, ",{name}")?;
+            if let Some(records) = polygons.records {
+                records.push_names(line)?;
+            }
+        }
+        line.push('\n')
+    }
+
     fn push_head(&self, form: Form, line: &mut String) -> Result<(), AllocError> {
         match form {
             Form::Obj => Ok(()),
@@ -271,8 +293,7 @@ impl MeshText<'_> {
             Form::Ele | Form::Neigh => self.push_ele_head(line),
             Form::Node | Form::Poly => self.push_node_head(line),
             Form::Stl => line.push_str("solid mesh\n"),
-            Form::Csv if self.polygons.is_some() => line.push_str("a,b,c,area,polygon\n"),
-            Form::Csv => line.push_str("a,b,c,area\n"),
+            Form::Csv => self.push_csv_head(line),
         }
     }
 

@@ -1,13 +1,18 @@
 //! What the program `mesh` is asked for, what it reads, and where it writes.
 #![tactic(auto)]
 
+mod degrees;
+mod keeping;
 mod output;
 mod progress;
 mod reading;
+mod returns;
 mod separating;
 mod sequences;
+mod sieving;
 mod sniffing;
 mod tasks;
+mod wkt;
 
 pub use output::write_mesh;
 pub use progress::tell_step;

@@ -47,6 +47,7 @@ pub enum Question<'a> {
     Nearest(&'a str),
     Locate(&'a str),
     Line(Way<'a>),
+    Overlaps,
 }
 
 /// What is asked for.
@@ -61,6 +62,10 @@ pub struct Task<'a> {
     pub output: Option<&'a str>,
     pub lines: Option<&'a str>,
     pub question: Option<Question<'a>>,
+    /// The height that stands for none.
+    pub nodata: Option<&'a str>,
+    /// Whether bad rows and features are left out.
+    pub skips_bad: bool,
     pub rounding: Rounding,
     pub crossing: CrossingRule,
     pub keep: KeepRule,
@@ -86,7 +91,7 @@ struct Choice {
     help: &'static str,
 }
 
-static CHOICES: [Choice; 17] = [
+static CHOICES: [Choice; 20] = [
     Choice {
         name: "from",
         letter: None,
@@ -160,6 +165,26 @@ static CHOICES: [Choice; 17] = [
         help: "Names the column of heights; else z",
     },
     Choice {
+        name: "nodata",
+        letter: None,
+        action: ArgAction::Set,
+        operand: ValueParser::String,
+        values: &["VALUE"],
+        may_be_negative: true,
+        rivals: &["lines"],
+        help: "Leaves out the rows of a table with this height",
+    },
+    Choice {
+        name: "skip-bad",
+        letter: None,
+        action: ArgAction::SetTrue,
+        operand: ValueParser::Bool,
+        values: &[],
+        may_be_negative: false,
+        rivals: &["lines"],
+        help: "Leaves out bad rows of tables and bad features of GeoJSON, and says which",
+    },
+    Choice {
         name: "nearest",
         letter: None,
         action: ArgAction::Set,
@@ -188,6 +213,16 @@ static CHOICES: [Choice; 17] = [
         may_be_negative: true,
         rivals: &[],
         help: "Lists the edges and points that the segment between two points meets",
+    },
+    Choice {
+        name: "overlaps",
+        letter: None,
+        action: ArgAction::SetTrue,
+        operand: ValueParser::Bool,
+        values: &[],
+        may_be_negative: false,
+        rivals: &["nearest", "locate", "line", "keep"],
+        help: "Lists where polygons overlap and which gaps they leave, with areas",
     },
     Choice {
         name: "round",
@@ -343,6 +378,9 @@ fn question_of<'a>(matches: &ArgMatches<'a>) -> Option<Question<'a>> {
     if let Some(file) = matches.get_str("locate") {
         return Some(Question::Locate(file));
     }
+    if matches.get_flag("overlaps") {
+        return Some(Question::Overlaps);
+    }
     match matches.get_strs("line") {
         Some([x1, y1, x2, y2]) => Some(Question::Line(Way {
             x1: *x1,
@@ -397,6 +435,8 @@ pub fn task_of<'a>(matches: &ArgMatches<'a>) -> Task<'a> {
         output,
         lines: matches.get_str("lines"),
         question: question_of(matches),
+        nodata: matches.get_str("nodata"),
+        skips_bad: matches.get_flag("skip-bad"),
         rounding: rounding_of(matches),
         crossing: crossing_of(matches),
         keep: keep_of(matches),
