@@ -206,7 +206,7 @@ def walls_of(form, text):
 
 def read_table(text):
     head, *lines = text.splitlines()
-    expect(head in ("a,b,c,area", "a,b,c,area,polygon"), "csv: the header")
+    expect(f"{head},".startswith(("a,b,c,area,polygon,", "a,b,c,area,")), "csv: the header")
     rows = [line.split(",") for line in lines]
     return [[int(word) - 1 for word in row[:3]] for row in rows], [Fraction(r[3]) for r in rows]
 
@@ -1083,6 +1083,90 @@ def check_overlaps():
     expect(sorted((int(float(row[3])), int(float(row[4]))) for row in rows) == within, rows)
 
 
+def geometry(kind, coordinates):
+    return {"type": kind, "coordinates": coordinates}
+
+
+ROOM = geometry("Polygon", [[[0, 0], [9, 0], [9, 9], [0, 9], [0, 0]],
+                            [[3, 3], [6, 3], [6, 6], [3, 6], [3, 3]]])
+GRID = [(x, y) for y in range(3) for x in range(3)]
+PARTS = """9 2 0 0
+1 0 0
+2 9 0
+3 9 9
+4 0 9
+5 3 3
+6 6 3
+7 6 6
+8 3 6
+9 1 5
+8 0
+1 1 2
+2 2 3
+3 3 4
+4 4 1
+5 5 6
+6 6 7
+7 7 8
+8 8 5
+1
+1 4 5
+1
+1 1 2 17 0.5
+"""
+
+# The smallest of each kind of file that people have: the words, the text, and how many vertices and
+# faces come of it. With n vertices, h of them on the hull, all faces are 2 n - 2 - h.
+KINDS = {
+    "a coast whose ring is open":
+        ([], json.dumps(geometry("Polygon", [[[0, 0], [4, 1], [5, 5], [1, 4]]])), 4, 2),
+    "two countries with one border": ([], collection(
+        feature(square(0, 0), {"name": "A"}), feature(square(4, 0), {"name": "B"})), 6, 4),
+    "two countries that overlap": ([], collection(*STATES[:2]), 10, 12),
+    "tracts with more digits than fit": ([], "x,y\n-122.419416612345678901,37.774929512345678901\n"
+                                         "-122.42,37.78\n-122.41000000000000000001,37.8\n", 3, 1),
+    "a building with a court": (["--keep", "inside"], json.dumps(ROOM), 8, 8),
+    "a building whose court is a garden": (["--keep", "inside"], collection(
+        feature(ROOM["coordinates"], None), feature(square(3, 3, 3), None)), 8, 10),
+    "an elevation grid": ([], "".join(f"{x}   {y} {x + y}.5\n" for x, y in GRID), 9, 8),
+    "an elevation grid without data in the middle": (["--nodata", "-9999"], "".join(
+        f"{x} {y} {-9999 if (x, y) == (1, 1) else 5}\n" for x, y in GRID), 8, 6),
+    "survey points with tabs": ([], "name\tx\ty\tz\na b\t0\t0\t1\nc\t4\t0\t2\nd\t0\t4\t3\n", 3, 1),
+    "decimal commas": ([], "x;y;z\n0,5;0;1,25\n4,5;0;2\n0,5;4;3\n", 3, 1),
+    "longitudes and latitudes": ([], "id,lat,lon\n1,52.5,13.4\n2,48.1,11.6\n3,50.9,6.9\n", 3, 1),
+    "eastings in millimetres": ([], "easting,northing,height\n32500000.123,5700000.456,1.5\n"
+                                "32500100.124,5700000.457,2\n32500000.125,5700100.458,3\n", 3, 1),
+    "columns of other names": (["--x", "e", "--y", "n", "--z", "h"],
+                               "p,n,e,h\n1,0,0,1\n2,0,4,1\n3,4,0,1\n", 3, 1),
+    "no header": ([], "0,0,1\n4,0,1\n0,4,1\n4,4,2\n", 4, 2),
+    "a header with a comma at its end": ([], "x,y,\n0,0,\n4,0,\n0,4,\n", 3, 1),
+    "a byte order mark and other line ends": ([], "\ufeffx,y\r\n0,0\r\n4,0\r\n0,4\r\n", 3, 1),
+    "contours": ([], json.dumps(geometry("MultiLineString", [
+        [[0, 0, 10], [9, 1, 10]], [[0, 5, 20], [9, 6, 20]]])), 4, 2),
+    "a table of geometries": ([], 'id;wkt\n1;"POLYGON((0 0,4 0,4 4,0 4,0 0))"\n2;POINT(9 9)\n', 5, 4),
+    "a sequence of features": ([], "\n".join(map(json.dumps, STATES)), 14, 18),
+    "a sequence with separators": ([], "".join(
+        f"\x1e{json.dumps(state)}\n" for state in STATES[2:]), 4, 2),
+    "a collection of geometries": ([], json.dumps({"type": "GeometryCollection", "geometries": [
+        geometry("Point", [9, 9]), geometry("LineString", [[0, 0], [4, 0]]), ROOM]}), 9, 11),
+    "a feature without geometry": ([], collection(
+        {"type": "Feature", "geometry": None, "properties": {}}, STATES[0]), 4, 2),
+    "parts of Triangle": (["--from", "poly", "--keep", "inside"], PARTS, 9, 10),
+    "points of Triangle": (["--from", "node"], "3 2 1 0\n0 0 0 5\n1 4 0 5\n2 0 4 6\n", 3, 1),
+    "a ring that crosses itself": ([], "x,y,ring\n0,0,a\n4,4,a\n4,0,a\n0,4,a\n", 5, 4),
+    "walls that cross, touch and repeat": ([], "x,y,line\n0,0,a\n4,4,a\n4,0,b\n0,4,b\n0,0,c\n4,4,c\n"
+                                           "2,2,d\n2,0,d\n", 6, 5),
+    "a bad row": (["--skip-bad"], "x,y\n0,0\n4,0\nn/a,n/a\n0,4\n", 3, 1),
+}
+
+
+def check_kinds():
+    """Each kind of file goes in, and has the vertices and faces that it should have."""
+    for name, (words, text, vertices, faces) in KINDS.items():
+        error = run(words, text)[1]
+        expect(f"mesh: {vertices} vertices, {faces} faces, " in error, f"{name}: {error}")
+
+
 def check_kept_answers():
     """Questions are answered for the faces that are kept."""
     room_text = room().poly()
@@ -1122,7 +1206,8 @@ def check_skipping():
     expect("line 3, feature 2: this ring has fewer than three corners" in error
            and "; left out\n" in error, error)
     expect({row[4] for row in csv.reader(io.StringIO(said))} == {"polygon", "1", "3"}, said)
-    expect("this is not JSON" in run(["--skip-bad"], text[:-3], 1)[1], "broken JSON")
+    expect("the file ends where more of it is expected" in run(["--skip-bad"], text[:-3], 1)[1],
+           "broken JSON")
     grid = "x,y,z\n0,0,5\n1,0,-9999\n2,0,6.5\n0,2,-9999.0\n1,3,7\n"
     said, error = run(["--nodata", "-9999"], grid)
     expect(read_obj(said)[0] == [(0, 0, 5), (2, 0, Fraction(13, 2)), (1, 3, 7)], said)
@@ -1176,7 +1261,7 @@ def check_geometries():
 def check_degrees():
     """Degrees are told of where distances come out."""
     for text, is_told in (("lon,lat\n13.4,52.5\n", True), ("x,y\n13.4,52.5\n", False),
-                          ("Longitude;Latitude\n181,0\n", False),
+                          ("Longitude;Latitude\n181;0\n", False),
                           (collection(feature(square(0, 0), None)), True),
                           (collection(feature(square(0, 0), None))[:-1]
                            + ', "crs": {"type": "name", "properties": {"name": "EPSG:32632"}}}', False),
@@ -1859,6 +1944,7 @@ def main():
     check_records()
     check_regions()
     check_overlaps()
+    check_kinds()
     check_kept_answers()
     check_skipping()
     check_geometries()

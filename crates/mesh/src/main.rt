@@ -147,10 +147,14 @@ fn carry_out(rt: &HostRuntime, task: &Task<'_>) -> anyhow::Result<()> {
     build_and_write(rt, task, &mut scene)
 }
 
-/// Tells what is wrong with the command line, or what it asks to be told of it.
+/// Tells what is wrong with the command line, or what it asks to be told of it. Only what is asked
+/// for has to be written.
 fn tell_words(rt: &HostRuntime, error: &clap::Error) -> anyhow::Result<ExitCode> {
-    error.print(rt)?;
-    Ok(ExitCode::from(error.exit_code() as u8))
+    let code = error.exit_code();
+    match error.print(rt) {
+        Err(fault) if code == 0 => Err(fault.into()),
+        _ => Ok(ExitCode::from(code as u8)),
+    }
 }
 
 /// Tells what went wrong, if something did.

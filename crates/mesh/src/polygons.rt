@@ -543,7 +543,8 @@ fn lists_of(found: &[Found], faces: usize, alloc: Global) -> Result<PolygonLists
     })
 }
 
-/// The polygons or regions that each face is in. Faces are all inner faces, by the places of their corners.
+/// The polygons or regions that each face is in. Faces are all inner faces, by the places of their
+/// corners.
 pub fn polygon_lists<T: Triangulation<Vertex = Point2<i32>>>(
     scene: &Scene,
     site: &T,
