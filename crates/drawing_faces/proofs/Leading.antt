@@ -5,11 +5,10 @@ use Rattle.std.specs.Prelude.{false, if◌then◌else◌, is_err, is_ok, Result,
 use Rattle.std.specs.Prelude.{ℤ, Option, None, Some, IfSome, All, Contains}
 use Rattle.std.proofs.lemmas.List.Elements.{All-push, All-weaker, Contains-get_or}
 use Rattle.plane.specs.{Plain}
-use Rattle.delaunay_core.specs.{Point2}
+use Rattle.{delaunay_core.specs.Point2, delaunay_journal.proofs.Connections.one_link}
 use Rattle.delaunay_journal.specs.Splits.{AreConnected, IsLink, Splits}
-use Rattle.delaunay_journal.proofs.Connections.{one_link}
-use Rattle.drawing_faces.specs.declared.splits.Lead.{Lead}
-use Rattle.drawing_faces.specs.Splitting.{AreLed, GoesBy, IsAnyPoint, IsLed, ListsLead, ListsParts}
+use Rattle.drawing_faces.specs.{AreLed, declared.splits.Lead.Lead, IsAnyPoint}
+use Rattle.drawing_faces.specs.Splitting.{GoesBy, IsLed, ListsLead, ListsParts}
 
 -- parts of a segment that stand at two places of a list
 pub parts_at : (segments : List (ℕ × ℕ)) (first second : ℕ × ℕ) (i j by : ℕ) (d e : ℕ × ℕ)

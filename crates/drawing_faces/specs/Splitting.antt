@@ -1,7 +1,15 @@
 -- Where segments were led that crossed constraints.
-use Rattle.std.specs.Prelude.{ℕ, ℤ, List, All, Contains, IfSome}
-use Rattle.{delaunay_core.specs.Point2, drawing_faces.specs.declared.splits.Lead.Lead}
+use Rattle.std.specs.Prelude.{◌≡◌, ◌≢◌, ◌<◌, [], ℕ, ℤ, List, length, All, Contains, IfSome}
+use Rattle.delaunay_core.specs.{Point2}
+use Rattle.{delaunay_legalization.specs.State.State, drawing_faces.specs.declared.splits.Lead.Lead}
 use Rattle.delaunay_journal.specs.Splits.{AreConnected, IsLink}
+use Rattle.drawing_faces.specs.declared.splits.SegmentError.{SegmentError}
+use Rattle.drawing_faces.specs.declared.splits.SegmentError.TheVariants.{NoVertex, Refused}
+use Rattle.drawing_faces.specs.declared.splits.SegmentError.TheVariants.{TooManySteps}
+
+-- a segment ends at vertices, of which there are so many
+abbrev pub EndsAtVertices : ℕ → ℕ × ℕ → Type 0
+EndsAtVertices count ends = (ends.0 < count) × (ends.1 < count)
 
 -- a new vertex may be any point
 abbrev pub IsAnyPoint : Point2 ℤ → Type 0
@@ -30,3 +38,14 @@ pub record IsLed (constraints segments : List (ℕ × ℕ)) (lead : Lead) : Type
 
 abbrev pub AreLed : List (ℕ × ℕ) → List (ℕ × ℕ) → List Lead → Type 0
 AreLed constraints segments leads = All (IsLed constraints segments) leads
+
+-- segments are refused for this: one of them ends at no vertex, and nothing was changed; or else
+-- some are left after as many steps as were allowed, or a step was refused
+abbrev pub RefusesSegments : {V D U F : Type 0} → State V D U F → State V D U F → List (ℕ × ℕ)
+    → List (ℕ × ℕ) → SegmentError → Type 0
+RefusesSegments old new before after NoVertex =
+    (¬ All (EndsAtVertices (length old.vertices)) before) × (new ≡ old) × (after ≡ before)
+RefusesSegments old new before after TooManySteps =
+    All (EndsAtVertices (length old.vertices)) before × (after ≢ [])
+RefusesSegments old new before after (Refused why) =
+    All (EndsAtVertices (length old.vertices)) before

@@ -16,5 +16,5 @@ pub use drawn::{DrawnMesh, PlacedPoints, Plain, Site, place_points, triangulate_
 pub use edits::{DrawnSegment, add_segments, insert_points};
 pub use error::DrawingError;
 pub use faces::{FaceCorners, Kept, faces_inside, faces_of, kept_faces};
-pub use splits::{Lead, VertexPair, split_segments};
+pub use splits::{Lead, SegmentError, VertexPair, split_segments};
 pub use within::named_faces;

@@ -1,10 +1,12 @@
 //! Segments that cross constraints, and are split where they do.
-ghost use Rattle.std.specs.Prelude.{◌≡◌, ◌≢◌, [], IfOk, IfSome, IsErrOf, OnOk};
+ghost use Rattle.std.specs.Prelude.{◌≡◌, ◌≢◌, ◌↔◌, [], length, All, IfErr, IfOk, IfSome};
+ghost use Rattle.std.specs.Prelude.{IsErrOf, IsTrue, OnOk};
 ghost use Rattle.delaunay_legalization.specs.{constraints_by, points_and_constraints_by};
 ghost use Rattle.delaunay_edit.specs.{IsDelaunay};
 ghost use Rattle.{delaunay_journal.specs.Splits.Splits, drawing_faces.specs.Names.position};
 ghost use Rattle.delaunay_journal.specs.declared.error.SplitError.TheVariants.{TooManySteps};
-ghost use Rattle.drawing_faces.specs.Splitting.{AreLed, IsAnyPoint, ListsLead, ListsParts};
+ghost use Rattle.drawing_faces.specs.Splitting.{AreLed, EndsAtVertices, IsAnyPoint, ListsLead};
+ghost use Rattle.drawing_faces.specs.Splitting.{ListsParts, RefusesSegments};
 
 use delaunay_core::point::Point2;
 use delaunay_interface::Triangulation;
@@ -12,6 +14,7 @@ use delaunay_journal::{Refusal, Replayable, SplitError, add_constraints_and_spli
 use exact_predicates::ExactTests;
 use half_edge_links::FixedVertexHandle;
 use std::alloc::Global;
+use thiserror::Error;
 
 /// The vertices at the ends of a segment.
 pub type VertexPair = (FixedVertexHandle, FixedVertexHandle);
@@ -23,6 +26,33 @@ pub struct Lead {
     pub ends: VertexPair,
     pub by: FixedVertexHandle,
     pub crossed: Option<VertexPair>,
+}
+
+/// Why not all segments of a list became constraints.
+#[derive(Clone, Copy, Debug, PartialEq, Eq, Drop, Error)]
+pub enum SegmentError {
+    /// A segment ends at no vertex. This is looked at first, so nothing was changed.
+    #[error("a segment ends at no vertex")]
+    NoVertex,
+    /// Segments are left after as many joins and splits as were allowed. These stand.
+    #[error("segments are left after as many steps as were allowed")]
+    TooManySteps,
+    /// A join or a split was refused, for want of memory or of indexes. Those before it stand.
+    #[error("a step was refused")]
+    Refused(Refusal),
+}
+
+// Whether all segments end at vertices, of which there are so many.
+fn all_end_at_vertices(segments: &[VertexPair], count: usize) -> bool
+    ensures { IsTrue result ↔ All (EndsAtVertices count) segments.now }
+{
+    for segment in segments {
+        let (from, to) = *segment;
+        if from.index() as usize >= count || to.index() as usize >= count {
+            return false;
+        }
+    }
+    true
 }
 
 // The point of the drawing at a position; out of range where that is.
@@ -96,8 +126,9 @@ fn lead_all<T: Replayable<Vertex = Point2<i32>>>(
         segments.old.items segments.new.items }
     ensures all { OnOk result (segments.new.items ≡ []) }
     ensures steps { IsErrOf result TooManySteps → segments.new.items ≢ [] }
-    ensures leads { OnOk result (AreLed (constraints_by T.Constraints.constraints (T.state site.new))
-        segments.new.items leads.new.items) }
+    ensures leads { OnOk result (AreLed
+        (constraints_by T.Constraints.constraints (T.state site.new)) segments.new.items
+        leads.new.items) }
     ensures headline { IsDelaunay position T.Constraints.constraints (T.state site.new) }
 {
     site.recall_invariant();
@@ -130,28 +161,37 @@ fn lead_all<T: Replayable<Vertex = Point2<i32>>>(
 /// where it was taken out for this. So both are paths of constraints that go by a vertex nearest to
 /// the crossing.
 ///
-/// It gives `TooManySteps` where segments are left in the list after so many joins and splits, and
-/// `Refused` where one was refused, or memory was. What was done before stands then.
+/// It gives `NoVertex`, with nothing changed, exactly where a segment of the list ends at no
+/// vertex. Else it gives `TooManySteps` where segments are left in the list after so many joins and
+/// splits, and `Refused` where one of these was refused. Those before it stand then, and what
+/// constraints and segments connected, constraints and the segments that are left connect still.
 pub fn split_segments<T: Replayable<Vertex = Point2<i32>>>(
     site: &mut T,
     segments: &mut Vec<VertexPair>,
     steps: usize,
     alloc: Global,
-) -> Result<Vec<Lead>, SplitError>
+) -> Result<Vec<Lead>, SegmentError>
     ensures splits { Splits IsAnyPoint
         (points_and_constraints_by T.Constraints.constraints (T.state site.old))
         (points_and_constraints_by T.Constraints.constraints (T.state site.new))
         segments.old.items segments.new.items }
     ensures all { OnOk result (segments.new.items ≡ []) }
-    ensures steps { IsErrOf result TooManySteps → segments.new.items ≢ [] }
     ensures leads { IfOk result (λ leads.
         AreLed (constraints_by T.Constraints.constraints (T.state site.new)) [] leads.items) }
+    ensures ends { OnOk result (All (EndsAtVertices (length (T.state site.old).vertices))
+        segments.old.items) }
+    ensures refuses { IfErr result (RefusesSegments (T.state site.old) (T.state site.new)
+        segments.old.items segments.new.items) }
     ensures headline { IsDelaunay position T.Constraints.constraints (T.state site.new) }
 {
     site.recall_invariant();
+    if !all_end_at_vertices(segments.as_slice(), site.num_vertices()) {
+        return Err(SegmentError::NoVertex);
+    }
     let mut leads = Vec::new(alloc);
     match lead_all(site, segments, steps, &mut leads) {
         Ok(()) => Ok(leads),
-        Err(error) => Err(error),
+        Err(SplitError::TooManySteps) => Err(SegmentError::TooManySteps),
+        Err(SplitError::Refused(refusal)) => Err(SegmentError::Refused(refusal)),
     }
 }

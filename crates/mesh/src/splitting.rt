@@ -8,8 +8,8 @@ use decimal_numbers::Decimal;
 use delaunay_core::math::validate_vertex;
 use delaunay_core::point::Point2;
 use delaunay_interface::Triangulation;
-use delaunay_journal::{Replayable, SplitError};
-use drawing_faces::{DrawnSegment, Lead, VertexPair, named_faces, split_segments};
+use delaunay_journal::Replayable;
+use drawing_faces::{DrawnSegment, Lead, SegmentError, VertexPair, named_faces, split_segments};
 use exact_predicates::ExactTests;
 use half_edge_links::FixedVertexHandle;
 use mesh_files::{Drawing, FileLine};
@@ -117,13 +117,16 @@ fn most_steps(segments: usize) -> usize {
 }
 
 /// Why segments could not be split.
-fn split_fault(task: &Task<'_>, error: SplitError) -> anyhow::Error {
+fn split_fault(task: &Task<'_>, error: SegmentError) -> anyhow::Error {
     let name = input_name(task);
     match error {
-        SplitError::TooManySteps => {
+        SegmentError::NoVertex => anyhow!(
+            "{name}: a segment ends at a point that is not in the list"
+        ),
+        SegmentError::TooManySteps => {
             anyhow!("{name}: segments still cross after as many splits as are made")
         }
-        SplitError::Refused(_) => {
+        SegmentError::Refused(_) => {
             anyhow!(
                 "{name}: splitting segments needs more memory, or more points than have indexes"
             )

@@ -150,7 +150,9 @@ pub struct Collected<R> {
 
 impl<R: Read + Drop> Collected<R> {
     pub fn new(reader: R, start: &[u8], alloc: Global) -> Result<Self, AllocError> {
-        let mut text = Vec::new(alloc);
+        // a comma may come before each byte, so the text takes no more room while it is read
+        let room = CHUNK.saturating_mul(2).saturating_add(start.len());
+        let mut text = Vec::with_capacity(alloc, room)?;
         text.extend_from_slice(start)?;
         let mut chunk = Vec::new(alloc);
         chunk.resize(CHUNK, 0)?;

@@ -2,8 +2,7 @@ use Rattle.std.proofs.Common.{◌∙◌, subst, sym}
 use Rattle.std.proofs.lemmas.List.Elements.{All-nil}
 use Rattle.delaunay_legalization.specs.{constraints_by, points_and_constraints_by}
 use Rattle.delaunay_journal.proofs.SplitSteps.{splits_none, splits_then}
-use Rattle.drawing_faces.specs.Names.{position}
-use Rattle.drawing_faces.specs.Splitting.{AreLed, IsAnyPoint, IsLed, ListsLead}
+use Rattle.drawing_faces.specs.{AreLed, IsAnyPoint, position, Splitting.IsLed, Splitting.ListsLead}
 use Rattle.drawing_faces.proofs.Leading.{any_made, led_further, one_more_led, pushed}
 use Rattle.drawing_faces.proofs.splits.lead_all.Goals as goal
 

@@ -1,8 +1,6 @@
-use Rattle.delaunay_edit.specs.{IsDelaunay}
 use Rattle.delaunay_legalization.specs.{constraints_by, points_and_constraints_by}
-use Rattle.delaunay_journal.specs.Splits.{Splits}
-use Rattle.drawing_faces.specs.Names.{position}
-use Rattle.drawing_faces.specs.Splitting.{AreLed, IsAnyPoint}
+use Rattle.{delaunay_edit.specs.IsDelaunay, delaunay_journal.specs.Splits.Splits}
+use Rattle.drawing_faces.specs.{AreLed, IsAnyPoint, position}
 use Rattle.drawing_faces.proofs.splits.lead_all.Given as goal
 
 abbrev pub invariant-loop : goal.invariant-loop

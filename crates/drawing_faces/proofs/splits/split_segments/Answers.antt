@@ -1,6 +1,5 @@
 use Rattle.std.proofs.Common.{subst}
-use Rattle.delaunay_legalization.specs.{constraints_by}
-use Rattle.drawing_faces.specs.Splitting.{AreLed}
+use Rattle.{delaunay_legalization.specs.constraints_by, drawing_faces.specs.AreLed}
 use Rattle.drawing_faces.proofs.splits.split_segments.Goals as goal
 
 pub returns-in-Ok-clause-leads : goal.returns-in-Ok-clause-leads

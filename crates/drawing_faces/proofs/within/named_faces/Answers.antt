@@ -1,13 +1,8 @@
 use Rattle.std.proofs.Common.{◌≤◌, ◌∙◌, List, ℕ, ap, inl, inr, length, map, subst, sym}
 use Rattle.std.specs.Prelude.{All}
-use Rattle.delaunay_legalization.specs.{triangulation_of}
-use Rattle.drawing_faces.specs.Drawing.{ends_of, face_of}
-use Rattle.drawing_faces.specs.Kept.{AreKept, IsLeftOut}
-use Rattle.drawing_faces.specs.Names.{places_of, position}
-use Rattle.drawing_faces.specs.Within.{RefusesRows}
-use Rattle.drawing_faces.proofs.Beside.{beside_within}
-use Rattle.drawing_faces.proofs.Keeping.{named_faces}
-use Rattle.drawing_faces.proofs.Refusing.{refused_by}
+use Rattle.{delaunay_legalization.specs.triangulation_of, drawing_faces.specs.Within.RefusesRows}
+use Rattle.drawing_faces.specs.{AreKept, ends_of, face_of, IsLeftOut, places_of, position}
+use Rattle.drawing_faces.proofs.{Beside.beside_within, Keeping.named_faces, Refusing.refused_by}
 use Rattle.drawing_faces.proofs.within.named_faces.Goals as goal
 
 pub returns-in_err-starts-clause-refuses : goal.returns-in_err-starts-clause-refuses
