@@ -22,7 +22,7 @@ fn line_of(line: u64) -> u32 {
 }
 
 /// What is wrong where a record could not be read, the last before it being in this line.
-fn fault_of(error: &csv::Error, line: u32) -> FileFault {
+pub(crate) fn fault_of(error: &csv::Error, line: u32) -> FileFault {
     match error.kind() {
         ErrorKind::UnequalLengths { pos, .. } => FileFault::at(
             match pos {

@@ -1,6 +1,6 @@
 //! The readers of records: of the further columns of tables, and of the properties of features.
 use crate::columns::{Columns, shown_name, word_of};
-use crate::csv_tables::{header_of, open_table};
+use crate::csv_tables::{fault_of, header_of, open_table};
 use crate::{ColumnNames, FileFault, Reason, Records, RecordsOf};
 use csv::{ByteRecord, Reader as TableReader};
 use json::{MAX_DEPTH, Reader, Scratch, Token, is_number};
@@ -81,12 +81,13 @@ fn add_rows(
     records: &mut Records,
     places: &[usize],
     alloc: Global,
-) -> Result<(), AllocError> {
+) -> Result<(), FileFault> {
     let mut row = ByteRecord::new(alloc);
     for _ in 0..u64::MAX {
         match reader.read_byte_record(&mut row) {
             Ok(true) => add_row(records, &row, places, alloc)?,
-            _ => break,
+            Ok(false) => break,
+            Err(error) => return Err(fault_of(&error, 1)),
         }
     }
     Ok(())

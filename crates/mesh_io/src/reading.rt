@@ -5,7 +5,7 @@ use crate::progress::ToldReader;
 use crate::returns::returned_ring;
 use crate::separating::Separated;
 use crate::sequences::{Collected, collection_start};
-use crate::sieving::{Sieve, Skipped};
+use crate::sieving::{Sieve, Skipped, is_want_of_memory};
 use crate::sniffing::{
     TableForm, first_line, foreign_ending, foreign_kind, source_of, table_form, without_mark,
 };
@@ -60,19 +60,24 @@ struct Begun {
 }
 
 impl Begun {
-    fn of(given: Option<Source>, name: &str, bytes: &[u8], alloc: Global) -> Self {
+    fn of(
+        given: Option<Source>,
+        name: &str,
+        bytes: &[u8],
+        alloc: Global,
+    ) -> Result<Self, FileFault> {
         let source = given.unwrap_or(source_of(bytes));
         let table = table_form(bytes);
         let line = first_line(without_mark(bytes));
         let is_table = source == Source::Csv;
-        Begun {
+        Ok(Begun {
             source,
             table,
             collection: collection_start(without_mark(bytes), suffix(Some(name))),
-            has_geometries: is_table && has_geometries(line, table.separator, alloc),
+            has_geometries: is_table && has_geometries(line, table.separator, alloc)?,
             may_be_degrees: (source == Source::GeoJson && has_no_other_system(bytes))
                 || (is_table && names_degrees(line)),
-        }
+        })
     }
 }
 
@@ -89,20 +94,29 @@ fn header_records(
         header.extend_from_slice(line)?;
     } else {
         let mut separated = Separated::new(line, form, alloc)?;
-        let _ = separated.read_to_end(&mut header);
+        if separated.read_to_end(&mut header).is_err() {
+            // a text in memory is read unless there is no more of that
+            return Err(FileFault::at(0, Reason::NoMemory));
+        }
     }
     table_records(header.as_slice(), names, alloc)
 }
 
 /// Whether the further columns of a table that begins so are taken: where they are wanted and there
 /// are some, or where they say which rows are rings.
-fn takes_columns(wanted: Wanted<'_>, form: TableForm, head: &[u8], alloc: Global) -> bool {
+fn takes_columns(
+    wanted: Wanted<'_>,
+    form: TableForm,
+    head: &[u8],
+    alloc: Global,
+) -> Result<bool, FileFault> {
     match header_records(form, wanted.names, head, alloc) {
         Ok(records) => {
             let is_wanted = wanted.are_recorded && !records.is_empty();
-            form.unnamed == 0 && (is_wanted || records.column_of("ring").is_some())
+            Ok(form.unnamed == 0 && (is_wanted || records.column_of("ring").is_some()))
         }
-        Err(_) => false,
+        Err(fault) if is_want_of_memory(&fault) => Err(fault),
+        Err(_) => Ok(false),
     }
 }
 
@@ -208,7 +222,9 @@ fn read_begun<R: Read + Drop>(
     alloc: Global,
 ) -> anyhow::Result<Recorded> {
     if begun.source == Source::Csv && !begun.has_geometries {
-        wanted.are_recorded = takes_columns(wanted, begun.table, head.as_slice(), alloc);
+        wanted.are_recorded = takes_columns(wanted, begun.table, head.as_slice(), alloc).context(
+            format_args!("{name}"),
+        )?;
     }
     let header = header_text(head.as_slice(), alloc)?;
     let mark = head
@@ -238,7 +254,7 @@ fn read_text<R: Read + Drop>(
     if let Some(kind) = foreign(given, name, head.as_slice()) {
         bail!("{name}: this is {kind}: convert it to GeoJSON by GDAL or the Python package");
     }
-    let begun = Begun::of(given, name, head.as_slice(), alloc);
+    let begun = Begun::of(given, name, head.as_slice(), alloc).context(format_args!("{name}"))?;
     read_begun(wanted, begun, name, head, reader, alloc)
 }
 

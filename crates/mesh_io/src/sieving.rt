@@ -43,6 +43,16 @@ pub struct Sieved {
     pub skipped: Skipped,
 }
 
+impl Sieved {
+    /// Nothing yet.
+    fn new(alloc: Global) -> Self {
+        Sieved {
+            text: Vec::new(alloc),
+            skipped: Skipped::new(alloc),
+        }
+    }
+}
+
 /// How many lines end in a text.
 fn line_ends(text: &[u8]) -> usize {
     text.iter().filter(|byte| **byte == b'\n').count()
@@ -72,17 +82,28 @@ fn is_equal(one: &Decimal, other: &Decimal) -> bool {
         && (one.negative == other.negative || one.magnitude == 0)
 }
 
+/// Whether a text could not be read for want of memory.
+pub fn is_want_of_memory(fault: &FileFault) -> bool {
+    matches!(fault.reason, Reason::NoMemory)
+}
+
 /// What a table of one row lacks.
-fn lack_of(table: &[u8], names: ColumnNames<'_>, sieve: &Sieve, alloc: Global) -> Lack {
+fn lack_of(
+    table: &[u8],
+    names: ColumnNames<'_>,
+    sieve: &Sieve,
+    alloc: Global,
+) -> Result<Lack, FileFault> {
     let drawing = match read_csv(table, names, alloc) {
         Ok(drawing) => drawing,
-        Err(fault) if sieve.skips_bad => return Lack::Sense(fault.reason),
-        Err(_) => return Lack::Nothing,
+        Err(fault) if is_want_of_memory(&fault) => return Err(fault),
+        Err(fault) if sieve.skips_bad => return Ok(Lack::Sense(fault.reason)),
+        Err(_) => return Ok(Lack::Nothing),
     };
-    match (&sieve.nodata, drawing.heights.first()) {
+    Ok(match (&sieve.nodata, drawing.heights.first()) {
         (Some(nodata), Some(height)) if is_equal(nodata, &height.decimal) => Lack::Data,
         _ => Lack::Nothing,
-    }
+    })
 }
 
 /// Rows of a table that are looked at one by one, each as a table with the header of all.
@@ -104,40 +125,75 @@ impl Rows<'_> {
         names: ColumnNames<'_>,
         sieve: &Sieve,
         alloc: Global,
-    ) -> Result<(), AllocError> {
+    ) -> Result<(), FileFault> {
         self.one.clear();
         self.one.extend_from_slice(self.header)?;
         self.one.extend_from_slice(row)?;
-        match lack_of(self.one.as_slice(), names, sieve, alloc) {
-            Lack::Nothing => return self.sieved.text.extend_from_slice(row),
-            Lack::Data => {
-                let count = self.sieved.skipped.without_data;
-                self.sieved.skipped.without_data = count.saturating_add(1);
+        let skipped = &mut self.sieved.skipped;
+        match lack_of(self.one.as_slice(), names, sieve, alloc)? {
+            Lack::Nothing => {
+                self.sieved.text.extend_from_slice(row)?;
+                return Ok(());
             }
-            Lack::Sense(reason) => {
-                self.sieved
-                    .skipped
-                    .faults
-                    .push(FileFault::at(line, reason))?
-            }
+            Lack::Data => skipped.without_data = skipped.without_data.saturating_add(1),
+            Lack::Sense(reason) => skipped.faults.push(FileFault::at(line, reason))?,
         }
-        push_line_ends(&mut self.sieved.text, row)
+        push_line_ends(&mut self.sieved.text, row)?;
+        Ok(())
     }
 }
 
-/// Reads a row, and gives where it begins and ends in the text, and its line.
-fn next_row(reader: &mut TableReader<&[u8]>, row: &mut ByteRecord) -> Option<(usize, usize, u32)> {
-    let start = usize::try_from(reader.position().byte()).ok()?;
+/// Where a row begins and ends in its text, and its line.
+#[derive(Clone, Copy)]
+struct RowPlace {
+    start: usize,
+    end: usize,
+    line: u32,
+}
+
+/// A count as a place in memory.
+fn as_place(count: u64) -> usize {
+    usize::try_from(count).unwrap_or(usize::MAX)
+}
+
+/// Reads a row, if there is one.
+fn next_row(
+    reader: &mut TableReader<&[u8]>,
+    row: &mut ByteRecord,
+) -> Result<Option<RowPlace>, FileFault> {
+    let start = as_place(reader.position().byte());
     match reader.read_byte_record(row) {
         Ok(true) => {}
-        _ => return None,
+        Ok(false) => return Ok(None),
+        // a text in memory is read unless there is no more of that
+        Err(_) => return Err(FileFault::at(0, Reason::NoMemory)),
     }
-    let end = usize::try_from(reader.position().byte()).ok()?;
     let line = match row.position() {
         Some(position) => position.line(),
         None => 0,
     };
-    Some((start, end, u32::try_from(line).unwrap_or(u32::MAX)))
+    Ok(Some(RowPlace {
+        start,
+        end: as_place(reader.position().byte()),
+        line: u32::try_from(line).unwrap_or(u32::MAX),
+    }))
+}
+
+/// Takes the next row in, or leaves it out, and tells whether there was one.
+fn take_next(
+    rows: &mut Rows<'_>,
+    reader: &mut TableReader<&[u8]>,
+    row: &mut ByteRecord,
+    names: ColumnNames<'_>,
+    sieve: &Sieve,
+    alloc: Global,
+) -> Result<bool, FileFault> {
+    let Some(place) = next_row(reader, row)? else {
+        return Ok(false);
+    };
+    let bytes = rows.text.get(place.start..place.end).unwrap_or(&[]);
+    rows.take(bytes, place.line, names, sieve, alloc)?;
+    Ok(true)
 }
 
 /// Takes all rows in behind the header, or leaves them out.
@@ -147,16 +203,23 @@ fn take_rows(
     names: ColumnNames<'_>,
     sieve: &Sieve,
     alloc: Global,
-) -> Result<(), AllocError> {
+) -> Result<(), FileFault> {
     let mut row = ByteRecord::new(alloc);
     for _ in 0..u64::MAX {
-        let Some((start, end, line)) = next_row(reader, &mut row) else {
+        if !take_next(rows, reader, &mut row, names, sieve, alloc)? {
             break;
-        };
-        let bytes = rows.text.get(start..end).unwrap_or(&[]);
-        rows.take(bytes, line, names, sieve, alloc)?;
+        }
     }
     Ok(())
+}
+
+/// Whether a header has the columns that are needed.
+fn is_header(header: &[u8], names: ColumnNames<'_>, alloc: Global) -> Result<bool, FileFault> {
+    match read_csv(header, names, alloc) {
+        Ok(_) => Ok(true),
+        Err(fault) if is_want_of_memory(&fault) => Err(fault),
+        Err(_) => Ok(false),
+    }
 }
 
 /// A table without the rows that are left out. Where its header is bad, all of it.
@@ -165,14 +228,14 @@ pub fn sieve_rows(
     names: ColumnNames<'_>,
     sieve: &Sieve,
     alloc: Global,
-) -> Result<Sieved, AllocError> {
+) -> Result<Sieved, FileFault> {
     let mut reader = ReaderBuilder::new()
         .has_headers(false)
         .flexible(true)
         .from_reader(alloc, text);
     let mut row = ByteRecord::new(alloc);
-    let end = match next_row(&mut reader, &mut row) {
-        Some((_, end, _)) => end,
+    let end = match next_row(&mut reader, &mut row)? {
+        Some(place) => place.end,
         None => text.len(),
     };
     let header = text.get(..end).unwrap_or(&[]);
@@ -180,12 +243,9 @@ pub fn sieve_rows(
         text,
         header,
         one: Vec::new(alloc),
-        sieved: Sieved {
-            text: Vec::new(alloc),
-            skipped: Skipped::new(alloc),
-        },
+        sieved: Sieved::new(alloc),
     };
-    if read_csv(header, names, alloc).is_err() {
+    if !is_header(header, names, alloc)? {
         rows.sieved.text.extend_from_slice(text)?;
         return Ok(rows.sieved);
     }
@@ -253,7 +313,7 @@ impl Features<'_> {
     }
 
     /// Takes the next feature of the list in, or leaves it out, and tells whether there was one.
-    fn take_next(&mut self, alloc: Global) -> Result<bool, AllocError> {
+    fn take_next(&mut self, alloc: Global) -> Result<bool, FileFault> {
         if self.reader.take_end_array() {
             return Ok(false);
         }
@@ -267,6 +327,7 @@ impl Features<'_> {
         self.count = self.count.saturating_add(1);
         match read_geojson(feature, alloc) {
             Ok(_) => {}
+            Err(fault) if is_want_of_memory(&fault) => return Err(fault),
             Err(fault) => self.leave_out(start.saturating_add(feature.len()), fault)?,
         }
         Ok(true)
@@ -290,7 +351,7 @@ impl Features<'_> {
     }
 
     /// Takes all features in, or leaves them out.
-    fn take_all(&mut self, alloc: Global) -> Result<(), AllocError> {
+    fn take_all(&mut self, alloc: Global) -> Result<(), FileFault> {
         if self.find_list() {
             for _ in 0..u64::MAX {
                 if !self.take_next(alloc)? {
@@ -298,12 +359,13 @@ impl Features<'_> {
                 }
             }
         }
-        self.copy_to(self.text.len())
+        self.copy_to(self.text.len())?;
+        Ok(())
     }
 }
 
 /// GeoJSON without the features that are bad. Where it is no JSON, all of it.
-pub fn sieve_features(bytes: &[u8], alloc: Global) -> Result<Sieved, AllocError> {
+pub fn sieve_features(bytes: &[u8], alloc: Global) -> Result<Sieved, FileFault> {
     let mut scratch = Scratch::new(alloc);
     let reader = Reader::new(str::from_utf8(bytes).unwrap_or(""), &mut scratch)?;
     let mut features = Features {
@@ -312,10 +374,7 @@ pub fn sieve_features(bytes: &[u8], alloc: Global) -> Result<Sieved, AllocError>
         copied: 0,
         lines: 0,
         count: 0,
-        sieved: Sieved {
-            text: Vec::new(alloc),
-            skipped: Skipped::new(alloc),
-        },
+        sieved: Sieved::new(alloc),
     };
     features.take_all(alloc)?;
     let Features { sieved, .. } = features;

@@ -1,6 +1,6 @@
 //! Tables with a column of geometries as text (WKT), as GeoJSON.
-use crate::sieving::{Sieved, Skipped};
-use csv::{ByteRecord, Reader as TableReader, ReaderBuilder};
+use crate::sieving::{Sieved, Skipped, is_want_of_memory};
+use csv::{ByteRecord, ErrorKind, Reader as TableReader, ReaderBuilder};
 use json::{Scratch, is_number, is_valid};
 use mesh_files::{FileFault, Reason, push_json_text};
 use std::alloc::{AllocError, Global};
@@ -318,13 +318,24 @@ fn take_row(rewriting: &mut Rewriting, row: &ByteRecord, alloc: Global) -> Resul
     Ok(())
 }
 
+/// What is wrong with a row in this line that could not be read.
+fn row_fault(error: &csv::Error, line: u64) -> FileFault {
+    match error.kind() {
+        ErrorKind::UnequalLengths { .. } => {
+            FileFault::at(u32::try_from(line).unwrap_or(u32::MAX), Reason::OtherFields)
+        }
+        // a text in memory is read unless there is no more of that
+        _ => FileFault::at(0, Reason::NoMemory),
+    }
+}
+
 impl Rewriting {
     /// Takes a row in; where bad ones are left out, as a feature without geometry if it is bad.
     fn take(&mut self, row: &ByteRecord, alloc: Global) -> Result<(), FileFault> {
         let Err(fault) = take_row(self, row, alloc) else {
             return Ok(());
         };
-        if !self.skips_bad {
+        if !self.skips_bad || is_want_of_memory(&fault) {
             return Err(fault);
         }
         self.faults.push(fault)?;
@@ -342,10 +353,7 @@ impl Rewriting {
         match reader.read_byte_record(row) {
             Ok(true) => {}
             Ok(false) => return Ok(false),
-            Err(_) => {
-                let line = u32::try_from(reader.position().line()).unwrap_or(u32::MAX);
-                return Err(FileFault::at(line, Reason::OtherFields));
-            }
+            Err(error) => return Err(row_fault(&error, reader.position().line())),
         }
         self.take(row, alloc)?;
         Ok(true)
@@ -379,11 +387,12 @@ fn open_table(text: &[u8], separator: u8, alloc: Global) -> TableReader<&[u8]> {
 }
 
 /// The header of a table.
-fn header_of(reader: &mut TableReader<&[u8]>, alloc: Global) -> ByteRecord {
+fn header_of(reader: &mut TableReader<&[u8]>, alloc: Global) -> Result<ByteRecord, FileFault> {
     let mut header = ByteRecord::new(alloc);
     match reader.read_byte_record(&mut header) {
-        Ok(true) => header,
-        _ => ByteRecord::new(alloc),
+        Ok(_) => Ok(header),
+        // a text in memory is read unless there is no more of that
+        Err(_) => Err(FileFault::at(0, Reason::NoMemory)),
     }
 }
 
@@ -398,9 +407,9 @@ fn geometry_column(header: &ByteRecord) -> Option<usize> {
 }
 
 /// Whether a table that begins with this line has a column of geometries.
-pub fn has_geometries(line: &[u8], separator: u8, alloc: Global) -> bool {
+pub fn has_geometries(line: &[u8], separator: u8, alloc: Global) -> Result<bool, FileFault> {
     let mut reader = open_table(line, separator, alloc);
-    geometry_column(&header_of(&mut reader, alloc)).is_some()
+    Ok(geometry_column(&header_of(&mut reader, alloc)?).is_some())
 }
 
 /// A table with a column of geometries as GeoJSON, a feature for each row. Bad rows are left out if
@@ -412,7 +421,7 @@ pub fn features_of(
     alloc: Global,
 ) -> Result<Sieved, FileFault> {
     let mut reader = open_table(text, separator, alloc);
-    let header = header_of(&mut reader, alloc);
+    let header = header_of(&mut reader, alloc)?;
     let column = geometry_column(&header).unwrap_or(usize::MAX);
     let mut rewriting = Rewriting {
         header,
