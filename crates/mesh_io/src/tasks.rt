@@ -13,6 +13,24 @@ pub enum Source {
     GeoJson,
 }
 
+/// What becomes of segments that cross: both are split, the file is refused, or the later one is
+/// left out.
+#[derive(Clone, Copy, PartialEq, Eq)]
+pub enum CrossingRule {
+    Split,
+    Refuse,
+    Skip,
+}
+
+/// Which faces are kept: all; those in a polygon, where the drawing has polygons; or those that
+/// segments close off.
+#[derive(Clone, Copy, PartialEq, Eq)]
+pub enum KeepRule {
+    All,
+    Inside,
+    Layers,
+}
+
 /// The coordinates of the ends of a way, as words.
 #[derive(Clone, Copy)]
 pub struct Way<'a> {
@@ -29,6 +47,7 @@ pub enum Question<'a> {
     Nearest(&'a str),
     Locate(&'a str),
     Line(Way<'a>),
+    Overlaps,
 }
 
 /// What is asked for.
@@ -43,10 +62,16 @@ pub struct Task<'a> {
     pub output: Option<&'a str>,
     pub lines: Option<&'a str>,
     pub question: Option<Question<'a>>,
+    /// The height that stands for none.
+    pub nodata: Option<&'a str>,
+    /// Whether bad rows and features are left out.
+    pub skips_bad: bool,
     pub rounding: Rounding,
-    pub skips_crossing: bool,
-    pub keeps_inside: bool,
+    pub crossing: CrossingRule,
+    pub keep: KeepRule,
     pub is_quiet: bool,
+    /// Whether points that repeat others are left out of what is written.
+    pub is_compact: bool,
     pub width: u32,
 }
 
@@ -66,7 +91,7 @@ struct Choice {
     help: &'static str,
 }
 
-static CHOICES: [Choice; 16] = [
+static CHOICES: [Choice; 20] = [
     Choice {
         name: "from",
         letter: None,
@@ -140,6 +165,26 @@ static CHOICES: [Choice; 16] = [
         help: "Names the column of heights; else z",
     },
     Choice {
+        name: "nodata",
+        letter: None,
+        action: ArgAction::Set,
+        operand: ValueParser::String,
+        values: &["VALUE"],
+        may_be_negative: true,
+        rivals: &["lines"],
+        help: "Leaves out the rows of a table with this height",
+    },
+    Choice {
+        name: "skip-bad",
+        letter: None,
+        action: ArgAction::SetTrue,
+        operand: ValueParser::Bool,
+        values: &[],
+        may_be_negative: false,
+        rivals: &["lines"],
+        help: "Leaves out bad rows of tables and bad features of GeoJSON, and says which",
+    },
+    Choice {
         name: "nearest",
         letter: None,
         action: ArgAction::Set,
@@ -170,6 +215,16 @@ static CHOICES: [Choice; 16] = [
         help: "Lists the edges and points that the segment between two points meets",
     },
     Choice {
+        name: "overlaps",
+        letter: None,
+        action: ArgAction::SetTrue,
+        operand: ValueParser::Bool,
+        values: &[],
+        may_be_negative: false,
+        rivals: &["nearest", "locate", "line", "keep"],
+        help: "Lists where polygons overlap and which gaps they leave, with areas",
+    },
+    Choice {
         name: "round",
         letter: None,
         action: ArgAction::Set,
@@ -190,24 +245,34 @@ static CHOICES: [Choice; 16] = [
         help: "Refuses numbers that would have to be rounded",
     },
     Choice {
-        name: "skip-crossing",
+        name: "crossing",
+        letter: None,
+        action: ArgAction::Set,
+        operand: ValueParser::Names(&["split", "refuse", "skip"]),
+        values: &["RULE"],
+        may_be_negative: false,
+        rivals: &[],
+        help: "Where segments cross, splits both, refuses the file, or skips the later one; else split",
+    },
+    Choice {
+        name: "keep",
+        letter: None,
+        action: ArgAction::Set,
+        operand: ValueParser::Names(&["inside", "layers"]),
+        values: &["PART"],
+        may_be_negative: false,
+        rivals: &[],
+        help: "Keeps faces: inside polygons if there are some, or in layers that segments close off",
+    },
+    Choice {
+        name: "compact",
         letter: None,
         action: ArgAction::SetTrue,
         operand: ValueParser::Bool,
         values: &[],
         may_be_negative: false,
         rivals: &[],
-        help: "Leaves out segments that cross those before them",
-    },
-    Choice {
-        name: "keep",
-        letter: None,
-        action: ArgAction::Set,
-        operand: ValueParser::Names(&["inside"]),
-        values: &["PART"],
-        may_be_negative: false,
-        rivals: &[],
-        help: "Keeps the faces that segments close off from outside and from holes",
+        help: "Leaves out points that repeat others, and numbers those that are left",
     },
     Choice {
         name: "size",
@@ -288,7 +353,7 @@ fn source_named(name: &str) -> Option<Source> {
         "csv" => Some(Source::Csv),
         "node" => Some(Source::Node),
         "poly" => Some(Source::Poly),
-        "geojson" | "json" => Some(Source::GeoJson),
+        "geojson" | "json" | "geojsonl" | "geojsons" | "geojsonseq" => Some(Source::GeoJson),
         _ => None,
     }
 }
@@ -313,6 +378,9 @@ fn question_of<'a>(matches: &ArgMatches<'a>) -> Option<Question<'a>> {
     if let Some(file) = matches.get_str("locate") {
         return Some(Question::Locate(file));
     }
+    if matches.get_flag("overlaps") {
+        return Some(Question::Overlaps);
+    }
     match matches.get_strs("line") {
         Some([x1, y1, x2, y2]) => Some(Question::Line(Way {
             x1: *x1,
@@ -333,6 +401,24 @@ fn rounding_of(matches: &ArgMatches<'_>) -> Rounding {
     }
 }
 
+/// What becomes of segments that cross.
+fn crossing_of(matches: &ArgMatches<'_>) -> CrossingRule {
+    match matches.get_str("crossing") {
+        Some("refuse") => CrossingRule::Refuse,
+        Some("skip") => CrossingRule::Skip,
+        _ => CrossingRule::Split,
+    }
+}
+
+/// Which faces are kept.
+fn keep_of(matches: &ArgMatches<'_>) -> KeepRule {
+    match matches.get_str("keep") {
+        Some("inside") => KeepRule::Inside,
+        Some("layers") => KeepRule::Layers,
+        _ => KeepRule::All,
+    }
+}
+
 /// What the words ask for.
 pub fn task_of<'a>(matches: &ArgMatches<'a>) -> Task<'a> {
     let file = matches.get_str("FILE").filter(|name| *name != "-");
@@ -349,10 +435,13 @@ pub fn task_of<'a>(matches: &ArgMatches<'a>) -> Task<'a> {
         output,
         lines: matches.get_str("lines"),
         question: question_of(matches),
+        nodata: matches.get_str("nodata"),
+        skips_bad: matches.get_flag("skip-bad"),
         rounding: rounding_of(matches),
-        skips_crossing: matches.get_flag("skip-crossing"),
-        keeps_inside: matches.contains_id("keep"),
+        crossing: crossing_of(matches),
+        keep: keep_of(matches),
         is_quiet: matches.get_flag("quiet"),
+        is_compact: matches.get_flag("compact"),
         width: matches.get_one::<u32>("size").unwrap_or(800),
     }
 }
