@@ -7,14 +7,13 @@ A room has segments between points of a grid of 5 by 5. Its free faces are those
 prints, but each third. What comes out is judged by brute force in fractions: which vertices and
 ends see each other. Some ends are on vertices, some outside.
 """
-import heapq
 import random
 import subprocess
 import sys
 from ast import literal_eval
 from math import dist
 
-from model.floor import is_in_sight
+from model.ways import Sight, fault, shortest
 
 ROOMS = 1500
 # The vertices are on even coordinates, so that ends are often on no vertex and no edge.
@@ -34,52 +33,6 @@ def rooms():
         yield *ends, segments
 
 
-class Sight:
-    """Which positions see each other through free faces. It is asked for once of each two."""
-
-    def __init__(self, faces):
-        self.free = [corners for index, corners in enumerate(faces, 1) if index % 3]
-        self.known = {}
-
-    def __call__(self, p, q):
-        both = min(p, q), max(p, q)
-        if both not in self.known:
-            self.known[both] = is_in_sight(*both, self.free)
-        return self.known[both]
-
-
-def shortest(start, end, vertices, sees):
-    """How long the shortest chain from one position over vertices to another is, if any joins them.
-    An end that sees not even itself is in no closed free face."""
-    if not sees(start, start) or not sees(end, end):
-        return None
-    left, done = [(0.0, start)], set()
-    while left:
-        length, here = heapq.heappop(left)
-        if here == end:
-            return length
-        if here in done:
-            continue
-        done.add(here)
-        for there in vertices | {end}:
-            if there not in done and sees(here, there):
-                heapq.heappush(left, (length + dist(here, there), there))
-    return None
-
-
-def fault(way, start, end, vertices, sees):
-    """What is wrong with a way, if anything is."""
-    if len(way) < 2 or way[0] != start or way[-1] != end:
-        return "its ends are others"
-    if not vertices.issuperset(way[1:-1]):
-        return "it turns at a position that is no vertex"
-    if not all(map(sees, way, way[1:])):
-        return "a leg is not in sight"
-    if any(map(sees, way, way[2:])):
-        return "it is not taut"
-    return None
-
-
 def judge(room, faces, way):
     """What is wrong with what came of a room, if anything is, and how many times as long as the
     shortest the way is."""
@@ -87,7 +40,7 @@ def judge(room, faces, way):
     vertices = {it for segment in segments for it in segment}
     if not vertices.issuperset(corner for corners in faces for corner in corners):
         return "a face has a corner that is no vertex", 1
-    sees = Sight(faces)
+    sees = Sight([corners for index, corners in enumerate(faces, 1) if index % 3])
     least = shortest(start, end, vertices, sees)
     if way is None:
         return "none, and yet a chain joins the ends" if least is not None else None, 1

@@ -12,6 +12,7 @@ mod places;
 mod polygons;
 mod splitting;
 mod way;
+mod ways;
 mod wide;
 
 use crate::building::{
@@ -23,6 +24,7 @@ use crate::paths::Turn;
 use crate::places::tell_places;
 use crate::polygons::polygon_lists;
 use crate::way::tell_way;
+use crate::ways::tell_way_between;
 use anyhow::bail;
 use delaunay_core::point::Point2;
 use delaunay_interface::Triangulation;
@@ -32,15 +34,17 @@ use std::process::ExitCode;
 /// Answers a question of the triangulation with its constraints.
 fn answer_question<T: Triangulation<Vertex = Point2<i32>>>(
     rt: &HostRuntime,
+    task: &Task<'_>,
     question: Question<'_>,
     scene: &Scene,
     site: &T,
-    places: &[u32],
+    drawn: &DrawnLists<'_>,
 ) -> anyhow::Result<()> {
     match question {
         Question::Nearest(_) => Ok(()),
-        Question::Locate(_) => tell_places(rt, scene, site, places),
-        Question::Line(_) => tell_way(rt, scene, site, places),
+        Question::Locate(_) => tell_places(rt, scene, site, drawn.places),
+        Question::Line(_) => tell_way(rt, scene, site, drawn.places),
+        Question::Way(_) => tell_way_between(rt, task, scene, site, drawn),
     }
 }
 
@@ -55,7 +59,7 @@ fn tell_and_write<T: Triangulation<Vertex = Point2<i32>>>(
 ) -> anyhow::Result<()> {
     tell_drawn(rt, task, scene, site, drawn)?;
     if let Some(question) = task.question {
-        answer_question(rt, question, scene, site, drawn.places)?;
+        answer_question(rt, task, question, scene, site, drawn)?;
         if task.output.is_none() {
             return Ok(());
         }

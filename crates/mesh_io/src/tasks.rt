@@ -47,6 +47,7 @@ pub enum Question<'a> {
     Nearest(&'a str),
     Locate(&'a str),
     Line(Way<'a>),
+    Way(Way<'a>),
 }
 
 /// What is asked for.
@@ -86,7 +87,7 @@ struct Choice {
     help: &'static str,
 }
 
-static CHOICES: [Choice; 17] = [
+static CHOICES: [Choice; 18] = [
     Choice {
         name: "from",
         letter: None,
@@ -166,7 +167,7 @@ static CHOICES: [Choice; 17] = [
         operand: ValueParser::String,
         values: &["FILE"],
         may_be_negative: false,
-        rivals: &["locate", "line"],
+        rivals: &["locate", "line", "way"],
         help: "Says which point is nearest to each point of a table, and how far away it is",
     },
     Choice {
@@ -176,7 +177,7 @@ static CHOICES: [Choice; 17] = [
         operand: ValueParser::String,
         values: &["FILE"],
         may_be_negative: false,
-        rivals: &["line"],
+        rivals: &["line", "way"],
         help: "Says which face, edge or point each point of a table is on, and its height",
     },
     Choice {
@@ -186,8 +187,18 @@ static CHOICES: [Choice; 17] = [
         operand: ValueParser::String,
         values: &["X1", "Y1", "X2", "Y2"],
         may_be_negative: true,
-        rivals: &[],
+        rivals: &["way"],
         help: "Lists the edges and points that the segment between two points meets",
+    },
+    Choice {
+        name: "way",
+        letter: None,
+        action: ArgAction::Set,
+        operand: ValueParser::String,
+        values: &["X1", "Y1", "X2", "Y2"],
+        may_be_negative: true,
+        rivals: &[],
+        help: "Lists the points of a short way between two points through the faces that are kept",
     },
     Choice {
         name: "round",
@@ -335,6 +346,19 @@ fn form_of(matches: &ArgMatches<'_>, output: Option<&str>) -> Option<Form> {
     }
 }
 
+/// The ends that an option has, if it is given.
+fn ends_of<'a>(matches: &ArgMatches<'a>, option: &str) -> Option<Way<'a>> {
+    match matches.get_strs(option) {
+        Some([x1, y1, x2, y2]) => Some(Way {
+            x1: *x1,
+            y1: *y1,
+            x2: *x2,
+            y2: *y2,
+        }),
+        _ => None,
+    }
+}
+
 /// The question that is asked, if one is.
 fn question_of<'a>(matches: &ArgMatches<'a>) -> Option<Question<'a>> {
     if let Some(file) = matches.get_str("nearest") {
@@ -343,15 +367,10 @@ fn question_of<'a>(matches: &ArgMatches<'a>) -> Option<Question<'a>> {
     if let Some(file) = matches.get_str("locate") {
         return Some(Question::Locate(file));
     }
-    match matches.get_strs("line") {
-        Some([x1, y1, x2, y2]) => Some(Question::Line(Way {
-            x1: *x1,
-            y1: *y1,
-            x2: *x2,
-            y2: *y2,
-        })),
-        _ => None,
+    if let Some(ends) = ends_of(matches, "line") {
+        return Some(Question::Line(ends));
     }
+    Some(Question::Way(ends_of(matches, "way")?))
 }
 
 /// How numbers are rounded.

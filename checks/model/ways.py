@@ -1,0 +1,51 @@
+"""Ways through free faces, by brute force: which positions see each other, how long the shortest
+chain of positions is, and what is wrong with a way. Numbers are exact, but for lengths."""
+import heapq
+from math import dist
+
+from model.floor import is_in_sight
+
+
+class Sight:
+    """Which positions see each other through free triangles. It is worked out once of each two."""
+
+    def __init__(self, free):
+        self.free, self.known = free, {}
+
+    def __call__(self, p, q):
+        both = min(p, q), max(p, q)
+        if both not in self.known:
+            self.known[both] = is_in_sight(*both, self.free)
+        return self.known[both]
+
+
+def shortest(start, end, vertices, sees):
+    """How long the shortest chain from one position over vertices to another is, if any joins them.
+    An end that sees not even itself is in no closed free face."""
+    if not sees(start, start) or not sees(end, end):
+        return None
+    left, done = [(0.0, start)], set()
+    while left:
+        length, here = heapq.heappop(left)
+        if here == end:
+            return length
+        if here in done:
+            continue
+        done.add(here)
+        for there in vertices | {end}:
+            if there not in done and sees(here, there):
+                heapq.heappush(left, (length + dist(here, there), there))
+    return None
+
+
+def fault(way, start, end, vertices, sees):
+    """What is wrong with a way, if anything is."""
+    if len(way) < 2 or way[0] != start or way[-1] != end:
+        return "its ends are others"
+    if not vertices.issuperset(way[1:-1]):
+        return "it turns at a position that is no vertex"
+    if not all(map(sees, way, way[1:])):
+        return "a leg is not in sight"
+    if any(map(sees, way, way[2:])):
+        return "it is not taut"
+    return None
