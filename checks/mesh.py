@@ -25,6 +25,7 @@ from xml.etree import ElementTree
 
 import debian
 from model.geometry import carries, distance_2, edges_of, faces_of, in_circle, side, twice_hull
+from model.ways import Sight, fault, shortest
 from project import named_or_built
 
 PROGRAM = named_or_built("mesh")
@@ -1779,6 +1780,24 @@ def check_line(name, drawing, p, q):
             expect(along(p, q, a) < along(p, q, b), f"{name}: a direction")
 
 
+def check_way(name, drawing, p, q):
+    """A way is a taut chain over points of the drawing, and there is none exactly where no chain
+    joins its ends."""
+    ends = [f"{float(n):g}" for n in (*p, *q)]
+    answer, faces = ask(drawing, ["--way", *ends], None)
+    rows = rows_of(answer, "x,y,point")
+    way = [tuple(map(Fraction, row[:2])) for row in rows]
+    points = drawing.points
+    for row, point in zip(rows, way):
+        expect(row[2] == "" or points[int(row[2]) - 1] == point, f"{name}: {row} is another point")
+    expect(all(row[2] for row in rows[1:-1]), f"{name}: the way turns at no point of the drawing")
+    sees, vertices = Sight([[points[k] for k in face] for face in faces]), set(points)
+    is_joined = shortest(p, q, vertices, sees) is not None
+    expect(bool(way) == is_joined, f"{name}: a way from {p} to {q}: {way}")
+    wrong = fault(way, p, q, vertices, sees) if way else None
+    expect(wrong is None, f"{name}: the way from {p} to {q}: {way}: {wrong}")
+
+
 def check_questions(name, drawing):
     """Questions about the points themselves, means of them, and points all round."""
     chance = random.Random(11)
@@ -1795,6 +1814,33 @@ def check_questions(name, drawing):
     for p, q in [*zip(spots, spots[5:]), (spots[0], spots[1]), (spots[1], spots[0])]:
         if p != q:
             check_line(name, drawing, p, q)
+    if len(drawing.points) < 30:
+        for p, q in zip(spots[::9], spots[5::9]):
+            check_way(name, drawing, p, q)
+
+
+# A hall of 9 by 9 with a wall from below.
+HALL = {"type": "Polygon", "coordinates": [
+    [[0, 0], [4, 0], [4, 6], [5, 6], [5, 0], [9, 0], [9, 9.5], [0, 9], [0, 0]]]}
+
+
+def check_ways_told():
+    """A way round a wall, in each form, and none."""
+    text, words = json.dumps(HALL), ["--from", "geojson", "--keep", "inside", "--way"]
+    said, _ = run(["-q", *words, "1", "1", "8", "1"], text)
+    expect(said == "x,y,point\n1,1,\n4,6,3\n5,6,4\n8,1,\n", said)
+    said, _ = run(["-q", "--to", "geojson", *words, "1", "1", "8", "1.5"], text)
+    line = {"type": "LineString", "coordinates": [[1, 1], [4, 6], [5, 6], [8, 1.5]]}
+    expect(json.loads(said) == {"type": "Feature", "properties": {}, "geometry": line}, said)
+    said, error = run([*words, "1", "1", "4.5", "1"], text)
+    expect(said == "x,y,point\n" and "mesh: there is no way from the one point" in error, error)
+    said, _ = run(["-q", "--to", "geojson", *words, "1", "1", "4.5", "1"], text)
+    expect(json.loads(said)["geometry"] is None, said)
+    _, error = run([*words, "1", "1", "one", "1"], text, 1)
+    expect("--way: x is not a decimal number" in error, error)
+    _, error = run([*words, "1", "1", "1000000003", "1000000000"], text, 1)
+    expect("--way: an end is more than 2^29 units from the middle" in error, error)
+    run(["--line", "1", "1", "2", "2", *words, "1", "1", "2", "2"], text, 2)
 
 
 ASKED_FAULTS = [
@@ -1831,6 +1877,7 @@ def check_asked_faults():
             expect(said.splitlines()[1:] == ["1,0.0000000001" + told], said)
         said, _ = run(["-q", "--line", "1", "1", "1", "-1", "-o", mesh], text)
         expect(said == "meets,a,b\ncrosses,2,1\n" and os.path.exists(mesh), said)
+    check_ways_told()
     _, error = run(["--line", "1", "1", "one", "1"], text, 1)
     expect("--line: x is not a decimal number" in error, error)
     run(["--line", "1", "1", "1"], text, 2)

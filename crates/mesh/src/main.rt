@@ -14,6 +14,7 @@ mod places;
 mod polygons;
 mod splitting;
 mod way;
+mod ways;
 mod wide;
 
 use crate::building::{
@@ -27,6 +28,7 @@ use crate::paths::Turn;
 use crate::places::tell_places;
 use crate::polygons::polygon_lists;
 use crate::way::tell_way;
+use crate::ways::tell_way_between;
 use anyhow::bail;
 use delaunay_core::point::Point2;
 use delaunay_interface::Triangulation;
@@ -47,6 +49,9 @@ fn answer_question<T: Triangulation<Vertex = Point2<i32>>>(
     }
     if let Question::Overlaps = question {
         return tell_overlaps(rt, task.is_quiet, scene, drawn);
+    }
+    if let Question::Way(_) = question {
+        return tell_way_between(rt, task, scene, site, drawn);
     }
     let kept = KeptFaces::of(task, drawn, rt.alloc())?;
     if let Question::Line(_) = question {

@@ -464,18 +464,18 @@ fn read_asked(rt: &HostRuntime, task: &Task<'_>, file: &str) -> anyhow::Result<D
 }
 
 /// A fault of the ends of a way, which are words of the command line.
-fn way_fault(fault: FileFault) -> anyhow::Error {
+fn way_fault(option: &str, fault: FileFault) -> anyhow::Error {
     let FileFault { place: _, reason } = fault;
-    anyhow!("--line: {reason}")
+    anyhow!("{option}: {reason}")
 }
 
 /// Reads the ends of a way.
-fn read_way(rt: &HostRuntime, way: Way<'_>) -> anyhow::Result<Drawing> {
+fn read_way(rt: &HostRuntime, option: &str, way: Way<'_>) -> anyhow::Result<Drawing> {
     let Way { x1, y1, x2, y2 } = way;
     let table = format!(in rt.alloc(); "x,y\n{x1},{y1}\n{x2},{y2}\n")?;
     match read_csv(table.as_bytes(), ColumnNames::new(), rt.alloc()) {
         Ok(way) => Ok(way),
-        Err(fault) => Err(way_fault(fault)),
+        Err(fault) => Err(way_fault(option, fault)),
     }
 }
 
@@ -500,7 +500,8 @@ fn tell_heights(rt: &impl Eprint, task: &Task<'_>, drawing: &Drawing) {
 fn read_question(rt: &HostRuntime, task: &Task<'_>) -> anyhow::Result<Drawing> {
     match task.question {
         Some(Question::Nearest(file) | Question::Locate(file)) => { read_asked(rt, task, file) }
-        Some(Question::Line(way)) => read_way(rt, way),
+        Some(Question::Line(way)) => read_way(rt, "--line", way),
+        Some(Question::Way(way)) => read_way(rt, "--way", way),
         Some(Question::Overlaps) | None => Ok(Drawing::new(rt.alloc())),
     }
 }
@@ -533,6 +534,7 @@ fn scale_drawing(
 fn question_name<'a>(task: &Task<'a>) -> &'a str {
     match task.question {
         Some(Question::Nearest(file) | Question::Locate(file)) => file,
+        Some(Question::Way(_)) => "--way",
         _ => "--line",
     }
 }

@@ -48,6 +48,7 @@ pub enum Question<'a> {
     Locate(&'a str),
     Line(Way<'a>),
     Overlaps,
+    Way(Way<'a>),
 }
 
 /// What is asked for.
@@ -91,7 +92,7 @@ struct Choice {
     help: &'static str,
 }
 
-static CHOICES: [Choice; 20] = [
+static CHOICES: [Choice; 21] = [
     Choice {
         name: "from",
         letter: None,
@@ -191,7 +192,7 @@ static CHOICES: [Choice; 20] = [
         operand: ValueParser::String,
         values: &["FILE"],
         may_be_negative: false,
-        rivals: &["locate", "line"],
+        rivals: &["locate", "line", "way"],
         help: "Says which point is nearest to each point of a table, and how far away it is",
     },
     Choice {
@@ -201,7 +202,7 @@ static CHOICES: [Choice; 20] = [
         operand: ValueParser::String,
         values: &["FILE"],
         may_be_negative: false,
-        rivals: &["line"],
+        rivals: &["line", "way"],
         help: "Says which face, edge or point each point of a table is on, and its height",
     },
     Choice {
@@ -211,7 +212,7 @@ static CHOICES: [Choice; 20] = [
         operand: ValueParser::String,
         values: &["X1", "Y1", "X2", "Y2"],
         may_be_negative: true,
-        rivals: &[],
+        rivals: &["way"],
         help: "Lists the edges and points that the segment between two points meets",
     },
     Choice {
@@ -223,6 +224,16 @@ static CHOICES: [Choice; 20] = [
         may_be_negative: false,
         rivals: &["nearest", "locate", "line", "keep"],
         help: "Lists where polygons overlap and which gaps they leave, with areas",
+    },
+    Choice {
+        name: "way",
+        letter: None,
+        action: ArgAction::Set,
+        operand: ValueParser::String,
+        values: &["X1", "Y1", "X2", "Y2"],
+        may_be_negative: true,
+        rivals: &[],
+        help: "Lists the points of a short way between two points through the faces that are kept",
     },
     Choice {
         name: "round",
@@ -370,6 +381,19 @@ fn form_of(matches: &ArgMatches<'_>, output: Option<&str>) -> Option<Form> {
     }
 }
 
+/// The ends that an option has, if it is given.
+fn ends_of<'a>(matches: &ArgMatches<'a>, option: &str) -> Option<Way<'a>> {
+    match matches.get_strs(option) {
+        Some([x1, y1, x2, y2]) => Some(Way {
+            x1: *x1,
+            y1: *y1,
+            x2: *x2,
+            y2: *y2,
+        }),
+        _ => None,
+    }
+}
+
 /// The question that is asked, if one is.
 fn question_of<'a>(matches: &ArgMatches<'a>) -> Option<Question<'a>> {
     if let Some(file) = matches.get_str("nearest") {
@@ -381,15 +405,10 @@ fn question_of<'a>(matches: &ArgMatches<'a>) -> Option<Question<'a>> {
     if matches.get_flag("overlaps") {
         return Some(Question::Overlaps);
     }
-    match matches.get_strs("line") {
-        Some([x1, y1, x2, y2]) => Some(Question::Line(Way {
-            x1: *x1,
-            y1: *y1,
-            x2: *x2,
-            y2: *y2,
-        })),
-        _ => None,
+    if let Some(ends) = ends_of(matches, "line") {
+        return Some(Question::Line(ends));
     }
+    Some(Question::Way(ends_of(matches, "way")?))
 }
 
 /// How numbers are rounded.
