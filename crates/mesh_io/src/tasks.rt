@@ -222,7 +222,7 @@ static CHOICES: [Choice; 21] = [
         operand: ValueParser::Bool,
         values: &[],
         may_be_negative: false,
-        rivals: &["nearest", "locate", "line", "keep"],
+        rivals: &["nearest", "locate", "line", "way", "keep"],
         help: "Lists where polygons overlap and which gaps they leave, with areas",
     },
     Choice {
