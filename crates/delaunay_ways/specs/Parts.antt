@@ -56,12 +56,24 @@ pub data GivesLabel (labels : List (Option ℕ)) (left : List ℕ) (v label : �
       → left' ≡ left ++ v ∷ [] → GivesLabel labels left v label labels' left'
 
 -- what a flood has to do at most: 2 for each vertex with no label, and 1 for each that is left
-has_none : Option ℕ → Bool
+abbrev pub has_none : Option ℕ → Bool
 has_none None = true
 has_none (Some l) = false
 
 abbrev pub work_of : List (Option ℕ) → List ℕ → ℕ
 work_of labels left = 2 * count_by has_none labels + length left
+
+-- a flood has gone on from all vertices that it labelled
+abbrev pub HasFlooded : Triangulation → (ℕ → Bool) → List (Option ℕ) → List ℕ → ℕ → Type 0
+HasFlooded t free labels left n = IsFlood t free labels left n × (left ≡ [])
+
+-- vertex v got the next label, and so did all that links join with it
+pub record Floods (t : Triangulation) (free : ℕ → Bool) (labels : List (Option ℕ)) (v count : ℕ)
+    (labels' : List (Option ℕ)) (left' : List ℕ) (count' : ℕ) : Type 0 where
+  pub flooded : HasFlooded t free labels' left' count'
+  pub kept : KeepsLabels labels labels'
+  pub here : label_at labels' v ≡ Some count
+  pub more : count' ≡ count + 1
 
 -- the label of a face is that of its first corner, or there is none since it is not free
 pub record LabelsFace (t : Triangulation) (free : ℕ → Bool) (labels labels' : List (Option ℕ))
@@ -69,6 +81,6 @@ pub record LabelsFace (t : Triangulation) (free : ℕ → Bool) (labels labels' 
   pub flood : IsFlood t free labels' [] count'
   pub kept : KeepsLabels labels labels'
   pub closed : ¬ IsTrue (free n) → (label ≡ None) × (count' ≡ count)
-  pub open : IsTrue (free n) → (l : ℕ) × (label ≡ Some l)
+  pub labelled : IsTrue (free n) → (l : ℕ) × (label ≡ Some l)
       × (label_at labels' (face_at t n).a ≡ Some l)
       × (((l < count) × (count' ≡ count)) ⊎ ((l ≡ count) × (count' ≡ count + 1)))

@@ -1,27 +1,25 @@
 -- Faces that are wide enough.
-use Rattle.std.specs.Prelude.{◌↔◌, ◌<◌, ◌-ℤ◌, ◌*ℤ◌, ◌≤ℤ◌, ℕ, ℤ, Bool, IsTrue, pos, length}
-use Rattle.plane.specs.{Fraction, gap, Triangulation, vertex}
-use Rattle.plane.specs.Sides.{rise, run}
+use Rattle.std.specs.Prelude.{◌↔◌, ◌<◌, ◌*ℤ◌, ◌≤ℤ◌, ℕ, ℤ, Bool, IsTrue, length}
+use Rattle.plane.specs.{gap, Point, Triangulation, turn_at, whole}
 use Rattle.plane_theorems.specs.{face_at}
+use Rattle.delaunay_ways.specs.Ways.{point_at}
 
--- twice the area of the triangle u v p, above 0 where it turns left
-abbrev pub doubled : Fraction → Fraction → Fraction → ℤ
-doubled u v p = run u v *ℤ rise u p -ℤ rise u v *ℤ run u p
+-- p is as far as the root of width_2 from the line through u and v, or farther: the square of twice
+-- the area of a triangle is that of a side times that of its height
+abbrev pub IsAway : ℤ → Point → Point → Point → Type 0
+IsAway width_2 u v p =
+    (width_2 *ℤ gap (whole u) (whole v)) ≤ℤ (turn_at u v p *ℤ turn_at u v p)
 
--- of whole points: p is as far as the root of width_2, or farther, from the line through u and v,
--- since twice the area is the length of the side times its height
-abbrev pub IsAway : ℕ → Fraction → Fraction → Fraction → Type 0
-IsAway width_2 u v p = (pos width_2 *ℤ gap u v) ≤ℤ (doubled u v p *ℤ doubled u v p)
+-- each height of the triangle of three points is as long as the root of width_2, or longer
+abbrev pub IsWideTriangle : ℤ → Point → Point → Point → Type 0
+IsWideTriangle width_2 a b c = IsAway width_2 a b c × IsAway width_2 b c a × IsAway width_2 c a b
 
--- each height of the n-th inner face is as long as the root of width_2, or longer
-abbrev pub IsWide : Triangulation → ℕ → ℕ → Type 0
-IsWide t width_2 n =
-    let a = vertex t (face_at t n).a in
-    let b = vertex t (face_at t n).b in
-    let c = vertex t (face_at t n).c in
-    IsAway width_2 a b c × IsAway width_2 b c a × IsAway width_2 c a b
+-- so is each height of the n-th inner face
+abbrev pub IsWide : Triangulation → ℤ → ℕ → Type 0
+IsWide t width_2 n = IsWideTriangle width_2 (point_at t.points (face_at t n).a)
+    (point_at t.points (face_at t n).b) (point_at t.points (face_at t n).c)
 
--- of the free faces those that are wide enough
-abbrev pub AreWide : Triangulation → (ℕ → Bool) → ℕ → (ℕ → Bool) → Type 0
-AreWide t free width_2 free' = (n : ℕ) → IsTrue (free' n)
+-- the wide ones of the free faces
+abbrev pub AreWide : Triangulation → (ℕ → Bool) → ℤ → (ℕ → Bool) → Type 0
+AreWide t free width_2 wide = (n : ℕ) → IsTrue (wide n)
     ↔ ((n < length t.faces) × IsTrue (free n) × IsWide t width_2 n)

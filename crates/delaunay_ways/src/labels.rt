@@ -1,18 +1,19 @@
 //! Labels of vertices: those that sides of free faces join have the same.
-ghost use Rattle.std.specs.Prelude.{◌≡◌, ◌+◌, ◌<◌, ◌≤◌, ◌∷◌, [], length, IfOk, OnOk, None};
-ghost use Rattle.std.specs.Prelude.{replicate, Some, Contains};
+ghost use Rattle.std.specs.Prelude.{◌≡◌, ◌+◌, ◌-◌, ◌<◌, ◌≤◌, ◌∷◌, [], length, IfOk, OnOk};
+ghost use Rattle.std.specs.Prelude.{None, replicate, Some};
 ghost use Rattle.plane.specs.{vertex as position};
-ghost use Rattle.plane_theorems.specs.{IsInFree, Ways.Links.IsLinked};
+ghost use Rattle.plane_theorems.specs.Ways.Chains.{IsJoined};
 ghost use Rattle.delaunay_legalization.specs.{IsTriangulated, state_of, triangulation_of};
-ghost use Rattle.delaunay_shapes.specs.by_place;
-ghost use Rattle.delaunay_ways.specs.Parts.{GivesLabel, IsFlood, KeepsLabels, label_at, LabelsFace};
-ghost use Rattle.delaunay_ways.specs.Parts.{work_of};
+ghost use Rattle.delaunay_shapes.specs.{by_place};
+ghost use Rattle.delaunay_ways.specs.Parts.{Floods, GivesLabel, HasFlooded, IsFlood, KeepsLabels};
+ghost use Rattle.delaunay_ways.specs.Parts.{label_at, LabelsFace, work_of};
 
+use crate::corners::first_corner;
 use crate::sides::is_side;
 use delaunay_core::point::HasPosition;
 use delaunay_shapes::FreeFaces;
-use half_edge_dcel::{Dcel, FaceHandle, MeshViews};
-use half_edge_links::FixedVertexHandle;
+use half_edge_dcel::{Dcel, MeshViews};
+use half_edge_links::{FixedFaceHandle, FixedVertexHandle};
 use std::alloc::{AllocError, Global};
 
 /// The labels of vertices, how many there are, and vertices from which a flood has yet to go on.
@@ -63,11 +64,24 @@ impl Labels {
         label: u32,
         free: &G,
     ) -> Result<(), AllocError>
+        requires kept { IsTriangulated V.place (state_of dcel.now) }
+        requires flood { let t = triangulation_of V.place (state_of dcel.now) in
+            IsFlood t (by_place (G.free free.now)) self.old.labels.items
+            (vertex ∷ self.old.left.items) (label + 1) }
+        requires here { label_at self.old.labels.items vertex ≡ Some label }
+        ensures flood { let t = triangulation_of V.place (state_of dcel.now) in
+            OnOk result (IsFlood t (by_place (G.free free.now)) self.new.labels.items
+            self.new.left.items (label + 1)) }
+        ensures count { self.new.count ≡ self.old.count }
+        ensures kept { OnOk result (KeepsLabels self.old.labels.items self.new.labels.items) }
+        ensures work { OnOk result (work_of self.new.labels.items self.new.left.items ≤
+            work_of self.old.labels.items self.old.left.items) }
     {
         for edge in dcel.vertex(vertex).out_edges() {
             let side = dcel.directed_edge(edge.fix());
             if is_side(side, free) {
-                self.give(side.to().index(), label)?;
+                let to = side.to();
+                self.give(to.index(), label)?;
             }
         }
         Ok(())
@@ -81,6 +95,18 @@ impl Labels {
         vertex: FixedVertexHandle,
         free: &G,
     ) -> Result<(), AllocError>
+        requires kept { IsTriangulated V.place (state_of dcel.now) }
+        requires flooded { let t = triangulation_of V.place (state_of dcel.now) in
+            HasFlooded t (by_place (G.free free.now)) self.old.labels.items self.old.left.items
+            self.old.count }
+        requires bare { label_at self.old.labels.items vertex ≡ None }
+        requires exists { vertex < length dcel.now.vertices }
+        requires joined { let t = triangulation_of V.place (state_of dcel.now) in
+            IsJoined t (by_place (G.free free.now)) (position t vertex) (position t vertex) }
+        requires few { self.old.count + 1 < 4294967296 }
+        ensures { let t = triangulation_of V.place (state_of dcel.now) in
+            OnOk result (Floods t (by_place (G.free free.now)) self.old.labels.items vertex
+            self.old.count self.new.labels.items self.new.left.items self.new.count) }
     {
         let label = self.count;
         self.give(vertex.index(), label)?;
@@ -96,17 +122,29 @@ impl Labels {
     pub(crate) fn label_face<V: HasPosition, DE, UE, F, G: FreeFaces>(
         &mut self,
         dcel: &Dcel<V, DE, UE, F>,
-        face: FaceHandle<'_, V, DE, UE, F>,
+        face: FixedFaceHandle,
         free: &G,
     ) -> Result<Option<u32>, AllocError>
+        requires kept { IsTriangulated V.place (state_of dcel.now) }
+        requires inner { (0 < face) × (face ≤ length dcel.now.faces) }
+        requires flooded { let t = triangulation_of V.place (state_of dcel.now) in
+            HasFlooded t (by_place (G.free free.now)) self.old.labels.items self.old.left.items
+            self.old.count }
+        requires few { self.old.count + 1 < 4294967296 }
+        ensures label { let t = triangulation_of V.place (state_of dcel.now) in
+            IfOk result (λ label. LabelsFace t (by_place (G.free free.now)) self.old.labels.items
+            self.new.labels.items (face - 1) self.old.count self.new.count label) }
+        ensures left { OnOk result (self.new.left.items ≡ []) }
     {
-        if !free.is_free(face.fix()) {
+        if !free.is_free(face) {
             return Ok(None);
         }
-        let corner = face.adjacent_edge().from().fix();
-        if self.labels[corner.index() as usize].is_none() {
-            self.flood(dcel, corner, free)?;
+        let corner = first_corner(dcel, face);
+        if let Some(label) = self.labels[corner.index() as usize] {
+            return Ok(Some(label));
         }
-        Ok(self.labels[corner.index() as usize])
+        let label = self.count;
+        self.flood(dcel, corner, free)?;
+        Ok(Some(label))
     }
 }

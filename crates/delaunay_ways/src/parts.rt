@@ -7,7 +7,6 @@ use crate::labels::Labels;
 use delaunay_core::point::HasPosition;
 use delaunay_location::HasMesh;
 use delaunay_shapes::FreeFaces;
-use half_edge_dcel::MeshViews;
 use half_edge_links::FixedFaceHandle;
 use std::alloc::{AllocError, Global};
 
@@ -41,8 +40,9 @@ pub fn reachable<T: HasMesh<V, DE, UE, F>, V: HasPosition, DE, UE, F, G: FreeFac
     let mut parts = Vec::new(alloc);
     parts.push(None)?;
     for index in 1..dcel.num_faces() {
-        let face = dcel.face(FixedFaceHandle::from_index(index as u32));
-        parts.push(labels.label_face(dcel, face, free)?)?;
+        let face = FixedFaceHandle::from_index(index as u32);
+        let label = labels.label_face(dcel, face, free)?;
+        parts.push(label)?;
     }
     Ok(parts)
 }

@@ -1,20 +1,128 @@
 //! Free faces that are wide enough.
-ghost use Rattle.std.specs.Prelude.{◌≡◌, ◌+◌, ◌↔◌, ◌<◌, ◌*ℤ◌, ◌-ℤ◌, length, IfOk, IsTrue, pos};
-ghost use Rattle.std.specs.Prelude.{map, All};
-ghost use Rattle.{delaunay_core.specs.place_of, plane.specs.InRange, plane.specs.whole as fraction};
-ghost use Rattle.{delaunay_legalization.specs.triangulation_of, delaunay_shapes.specs.by_place};
-ghost use Rattle.delaunay_ways.specs.Widths.{AreWide, doubled, IsAway};
+ghost use Rattle.std.specs.Prelude.{◌≡◌, ◌↔◌, ◌-◌, ◌<◌, ◌≤◌, ◌*ℤ◌, ◌-ℤ◌, ◌≤ℤ◌, length, IfOk};
+ghost use Rattle.std.specs.Prelude.{IsTrue, slice_index_or, false, unsigned_abs};
+ghost use Rattle.plane.specs.{InRange, IsCoordinate, turn_at};
+ghost use Rattle.{delaunay_core.specs.place_of};
+ghost use Rattle.delaunay_legalization.specs.{IsTriangulated, state_of, triangulation_of};
+ghost use Rattle.delaunay_shapes.specs.{by_place};
+ghost use Rattle.delaunay_ways.specs.Widths.{AreWide, IsAway, IsWide, IsWideTriangle};
 
+use crate::corners::{first_corner, second_corner, third_corner};
 use delaunay_core::point::{HasPosition, Point2, SpadeNum};
+use delaunay_legalization::position_of;
 use delaunay_location::HasMesh;
 use delaunay_shapes::FreeFaces;
-use half_edge_dcel::{FaceHandle, MeshViews};
+use half_edge_dcel::Dcel;
 use half_edge_links::FixedFaceHandle;
 use std::alloc::{AllocError, Global};
 use std::marker::Model;
 
-/// The free faces that are wide enough for a disc: those of which each height is at least as long
-/// as its diameter. So is each side then.
+// The way from one coordinate to another.
+fn difference<S: SpadeNum>(from: S, to: S) -> i64
+    requires from { IsCoordinate (S.whole from) }
+    requires to { IsCoordinate (S.whole to) }
+    ensures value { result ≡ S.whole to -ℤ S.whole from }
+    ensures bound { unsigned_abs result ≤ 1073741824 }
+{
+    to.to_i64() - from.to_i64()
+}
+
+// The product of two differences.
+fn product(a: i64, b: i64) -> i64
+    requires a { unsigned_abs a ≤ 1073741824 }
+    requires b { unsigned_abs b ≤ 1073741824 }
+    ensures value { result ≡ a *ℤ b }
+    ensures bound { unsigned_abs result ≤ 1152921504606846976 }
+{
+    a * b
+}
+
+// Twice the signed area of a triangle.
+fn turn_at<S: SpadeNum>(q: Point2<S>, u: Point2<S>, v: Point2<S>) -> i64
+    requires q { InRange (place_of S.whole q) }
+    requires u { InRange (place_of S.whole u) }
+    requires v { InRange (place_of S.whole v) }
+    ensures { result ≡ turn_at (place_of S.whole q) (place_of S.whole u) (place_of S.whole v) }
+{
+    product(difference(q.x, u.x), difference(q.y, v.y))
+        - product(difference(q.y, u.y), difference(q.x, v.x))
+}
+
+// A product in full.
+fn wide_product(a: i64, b: i64) -> i128
+    ensures { result ≡ a *ℤ b }
+{
+    i128::from(a) * i128::from(b)
+}
+
+// Whether a product is at most a square.
+fn is_at_most(a: i64, b: i64, root: i64) -> bool
+    ensures { IsTrue result ↔ ((a *ℤ b) ≤ℤ (root *ℤ root)) }
+{
+    wide_product(a, b) <= wide_product(root, root)
+}
+
+// Whether a point is as far as the root of `width_2` from the line through two others, or farther.
+fn is_away<S: SpadeNum>(a: Point2<S>, b: Point2<S>, c: Point2<S>, width_2: i64) -> bool
+    requires a { InRange (place_of S.whole a) }
+    requires b { InRange (place_of S.whole b) }
+    requires c { InRange (place_of S.whole c) }
+    ensures { IsTrue result ↔ IsAway width_2 (place_of S.whole a) (place_of S.whole b)
+        (place_of S.whole c) }
+{
+    is_at_most(width_2, a.distance_2(b), turn_at(a, b, c))
+}
+
+// Whether each height of a triangle is as long as the root of `width_2`, or longer.
+fn is_wide_triangle<S: SpadeNum>(
+    a: Point2<S>,
+    b: Point2<S>,
+    c: Point2<S>,
+    width_2: i64,
+) -> bool
+    requires a { InRange (place_of S.whole a) }
+    requires b { InRange (place_of S.whole b) }
+    requires c { InRange (place_of S.whole c) }
+    ensures { IsTrue result ↔ IsWideTriangle width_2 (place_of S.whole a) (place_of S.whole b)
+        (place_of S.whole c) }
+{
+    is_away(a, b, c, width_2) && is_away(b, c, a, width_2) && is_away(c, a, b, width_2)
+}
+
+// Whether each height of an inner face is as long as the root of `width_2`, or longer.
+fn is_wide<V: HasPosition, DE, UE, F>(
+    dcel: &Dcel<V, DE, UE, F>,
+    face: FixedFaceHandle,
+    width_2: i64,
+) -> bool
+    requires kept { IsTriangulated V.place (state_of dcel.now) }
+    requires inner { (0 < face) × (face ≤ length dcel.now.faces) }
+    ensures { IsTrue result ↔ IsWide (triangulation_of V.place (state_of dcel.now)) width_2
+        (face - 1) }
+{
+    let a = position_of(dcel, first_corner(dcel, face));
+    let b = position_of(dcel, second_corner(dcel, face));
+    let c = position_of(dcel, third_corner(dcel, face));
+    is_wide_triangle(a, b, c, width_2)
+}
+
+// Whether an inner face is free, and wide.
+fn is_wide_free<V: HasPosition, DE, UE, F, G: FreeFaces>(
+    dcel: &Dcel<V, DE, UE, F>,
+    face: FixedFaceHandle,
+    free: &G,
+    width_2: i64,
+) -> bool
+    requires kept { IsTriangulated V.place (state_of dcel.now) }
+    requires inner { (0 < face) × (face ≤ length dcel.now.faces) }
+    ensures { IsTrue result ↔ (IsTrue (G.free free.now face)
+        × IsWide (triangulation_of V.place (state_of dcel.now)) width_2 (face - 1)) }
+{
+    free.is_free(face) && is_wide(dcel, face, width_2)
+}
+
+/// The free faces that are wide enough for a disc: those of which each height is as long as its
+/// diameter, or longer. So is each side then.
 #[derive(Drop)]
 pub struct WideFaces {
     free: Vec<bool>,
@@ -28,62 +136,40 @@ impl Model for WideFaces {
     ghost view = { λ w. w.free.items };
 }
 
-// Twice the area of the triangle of three points, with a sign.
-fn doubled_area<S: SpadeNum>(a: Point2<S>, b: Point2<S>, c: Point2<S>) -> i64
-{
-    let (a_x, a_y) = (a.x.to_i64(), a.y.to_i64());
-    let along = (b.x.to_i64() - a_x) * (c.y.to_i64() - a_y);
-    let across = (b.y.to_i64() - a_y) * (c.x.to_i64() - a_x);
-    along - across
-}
-
-// Whether the third point is at least as far as the root of `width_2` from the line through the
-// other two.
-fn is_away<S: SpadeNum>(a: Point2<S>, b: Point2<S>, c: Point2<S>, width_2: u64) -> bool
-{
-    let area = i128::from(doubled_area(a, b, c));
-    i128::from(width_2) * i128::from(a.distance_2(b)) <= area * area
-}
-
-// Whether each height of an inner face is at least as long as the root of `width_2`.
-fn is_wide<V: HasPosition, DE, UE, F>(face: FaceHandle<'_, V, DE, UE, F>, width_2: u64) -> bool
-{
-    let edge = face.adjacent_edge();
-    let a = edge.from().data().position();
-    let b = edge.to().data().position();
-    let c = edge.prev_from().data().position();
-    is_away(a, b, c, width_2) && is_away(b, c, a, width_2) && is_away(c, a, b, width_2)
-}
-
 impl WideFaces {
-    /// The faces of `free` of which each height is at least as long as the root of `width_2`: the
-    /// squared diameter of a disc. It is found by squared lengths in whole numbers. What it gives
-    /// holds for the triangulation as it is.
+    /// The faces of `free` of which each height is as long as the root of `width_2`, the squared
+    /// diameter of a disc, or longer. This is found by squared lengths in whole numbers. It holds
+    /// for the triangulation as it is; after an edit it has to be made anew.
     ///
-    /// In such a face each corner is at least one diameter away from the opposite side. So the disc
-    /// passes from the middle of one side to the middle of another, its centre on the straight line
-    /// between, over no corner and no point of the third side. A way through wide faces
-    /// nevertheless goes along sides and past corners, and past a corner at which two wide faces
-    /// meet: it tells in what order a disc passes faces, and not where its centre may be. And a
-    /// face that is not wide may still let the disc pass, where no wall is near.
+    /// Each corner of such a face is at least one diameter away from the opposite side. So a disc
+    /// whose centre goes straight from the middle of one side to the middle of another covers no
+    /// corner of the face, and goes over no point of the third side. That is all: a way of
+    /// `find_way` through wide faces still goes along sides and past corners, also where two wide
+    /// faces have only a corner in common. It says which faces come one after the other, and not
+    /// where the centre of the disc may be. And a face that is not wide may let the disc pass where
+    /// no wall is near.
     ///
     /// ```
-    /// let floor = WideFaces::new(&hall, &floor, 9, rt.alloc())?;
-    /// let way = find_way(&hall, guard, door, &floor, &ExactTests, rt.alloc())?;
+    /// let wide = WideFaces::new(&hall, &floor, 9, rt.alloc())?;
+    /// let way = find_way(&hall, guard, door, &wide, &ExactTests, rt.alloc())?;
     /// ```
     pub fn new<T: HasMesh<V, DE, UE, F>, V: HasPosition, DE, UE, F, G: FreeFaces>(
         triangulation: &T,
         free: &G,
-        width_2: u64,
+        width_2: i64,
         alloc: Global,
     ) -> Result<WideFaces, AllocError>
+        ensures { IfOk result (λ wide. AreWide
+            (triangulation_of V.place (T.mesh_state triangulation.now)) (by_place (G.free free.now))
+            width_2 (by_place (λ n. slice_index_or wide n false))) }
     {
         let dcel = triangulation.mesh();
         let mut wide = Vec::new(alloc);
         wide.push(false)?;
         for index in 1..dcel.num_faces() {
-            let face = dcel.face(FixedFaceHandle::from_index(index as u32));
-            wide.push(free.is_free(face.fix()) && is_wide(face, width_2))?;
+            let face = FixedFaceHandle::from_index(index as u32);
+            let is_wide = is_wide_free(dcel, face, free, width_2);
+            wide.push(is_wide)?;
         }
         Ok(WideFaces { free: wide })
     }

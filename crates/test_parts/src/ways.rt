@@ -128,7 +128,7 @@ fn answer_parts<T: Replayable<Vertex = Point2<i64>>>(
     println!(rt; "{faces:?}")?;
     let labels = labels_of(site, &TwoOfThree, rt.alloc())?;
     println!(rt; "{labels:?}")?;
-    let width_2 = call.numbers[0].unsigned_abs();
+    let width_2 = call.numbers[0];
     let wide = WideFaces::new(site, &TwoOfThree, width_2, rt.alloc())?;
     let labels = labels_of(site, &wide, rt.alloc())?;
     println!(rt; "{labels:?}")?;
