@@ -1,6 +1,6 @@
 //! Free faces that are wide enough.
 ghost use Rattle.std.specs.Prelude.{◌≡◌, ◌↔◌, ◌-◌, ◌<◌, ◌≤◌, ◌*ℤ◌, ◌-ℤ◌, ◌≤ℤ◌, length, IfOk};
-ghost use Rattle.std.specs.Prelude.{IsTrue, slice_index_or, false, unsigned_abs};
+ghost use Rattle.std.specs.Prelude.{All, IsTrue, map, slice_index_or, false, unsigned_abs};
 ghost use Rattle.plane.specs.{InRange, IsCoordinate, turn_at};
 ghost use Rattle.{delaunay_core.specs.place_of};
 ghost use Rattle.delaunay_legalization.specs.{IsTriangulated, state_of, triangulation_of};
@@ -86,7 +86,13 @@ fn is_wide_triangle<S: SpadeNum>(
     ensures { IsTrue result ↔ IsWideTriangle width_2 (place_of S.whole a) (place_of S.whole b)
         (place_of S.whole c) }
 {
-    is_away(a, b, c, width_2) && is_away(b, c, a, width_2) && is_away(c, a, b, width_2)
+    if !is_away(a, b, c, width_2) {
+        return false;
+    }
+    if !is_away(b, c, a, width_2) {
+        return false;
+    }
+    is_away(c, a, b, width_2)
 }
 
 // Whether each height of an inner face is as long as the root of `width_2`, or longer.
@@ -96,6 +102,7 @@ fn is_wide<V: HasPosition, DE, UE, F>(
     width_2: i64,
 ) -> bool
     requires kept { IsTriangulated V.place (state_of dcel.now) }
+    requires in_range { All InRange (map V.place dcel.now.vertices) }
     requires inner { (0 < face) × (face ≤ length dcel.now.faces) }
     ensures { IsTrue result ↔ IsWide (triangulation_of V.place (state_of dcel.now)) width_2
         (face - 1) }
@@ -114,11 +121,38 @@ fn is_wide_free<V: HasPosition, DE, UE, F, G: FreeFaces>(
     width_2: i64,
 ) -> bool
     requires kept { IsTriangulated V.place (state_of dcel.now) }
+    requires in_range { All InRange (map V.place dcel.now.vertices) }
     requires inner { (0 < face) × (face ≤ length dcel.now.faces) }
     ensures { IsTrue result ↔ (IsTrue (G.free free.now face)
         × IsWide (triangulation_of V.place (state_of dcel.now)) width_2 (face - 1)) }
 {
-    free.is_free(face) && is_wide(dcel, face, width_2)
+    if !free.is_free(face) {
+        return false;
+    }
+    is_wide(dcel, face, width_2)
+}
+
+// For each face whether it is an inner one, free and wide.
+fn list_wide<V: HasPosition, DE, UE, F, G: FreeFaces>(
+    dcel: &Dcel<V, DE, UE, F>,
+    free: &G,
+    width_2: i64,
+    alloc: Global,
+) -> Result<Vec<bool>, AllocError>
+    requires kept { IsTriangulated V.place (state_of dcel.now) }
+    requires in_range { All InRange (map V.place dcel.now.vertices) }
+    ensures { IfOk result (λ wide. AreWide (triangulation_of V.place (state_of dcel.now))
+        (by_place (G.free free.now)) width_2
+        (by_place (λ n. slice_index_or wide.items n false))) }
+{
+    let mut wide = Vec::new(alloc);
+    wide.push(false)?;
+    for index in 1..dcel.num_faces() {
+        let face = FixedFaceHandle::from_index(index as u32);
+        let is_wide = is_wide_free(dcel, face, free, width_2);
+        wide.push(is_wide)?;
+    }
+    Ok(wide)
 }
 
 /// The free faces that are wide enough for a disc: those of which each height is as long as its
@@ -164,14 +198,8 @@ impl WideFaces {
             width_2 (by_place (λ n. slice_index_or wide n false))) }
     {
         let dcel = triangulation.mesh();
-        let mut wide = Vec::new(alloc);
-        wide.push(false)?;
-        for index in 1..dcel.num_faces() {
-            let face = FixedFaceHandle::from_index(index as u32);
-            let is_wide = is_wide_free(dcel, face, free, width_2);
-            wide.push(is_wide)?;
-        }
-        Ok(WideFaces { free: wide })
+        let free = list_wide(dcel, free, width_2, alloc)?;
+        Ok(WideFaces { free })
     }
 }
 
