@@ -2,25 +2,21 @@
 -- Notions: is_or_not, none_some, some_is, some_or_none, true_or_not, flood_begins, flood_gives, Gave,
 -- gives_had, flood_starts, flood_passes, flood_takes, vertices_apart,
 -- face_had, face_gets.
-use Rattle.std.proofs.Common.{◌≡◌, ◌≢◌, ◌⊎◌, ◌+◌, ◌*◌, ◌<◌, ◌≤◌, [], ◌∷◌, ◌++◌, ◌∙◌, ℕ, Bool}
+use Rattle.std.proofs.Common.{◌≡◌, ◌≢◌, ◌⊎◌, ◌+◌, ◌<◌, ◌≤◌, [], ◌∷◌, ◌++◌, ◌∙◌, ℕ, Bool}
 use Rattle.std.proofs.Common.{List, sym, subst, arith, ap, refl, inl, inr, true, false, get_or, set}
 use Rattle.std.proofs.Common.{length, map, zero, suc, get_or-set_other, get_or-set_same, IsTrue}
 use Rattle.std.specs.Prelude.{cond, Contains, is_some, replicate, Option, None, Some}
-use Rattle.std.specs.List.{count_by}
 use Rattle.std.proofs.lemmas.List.{get_or_past, length-replicate, length-set, length-append}
 use Rattle.std.proofs.lemmas.List.Elements.{Contains-append_cases, Contains-append_left}
 use Rattle.std.proofs.lemmas.List.Elements.{Contains-append_right}
 use Rattle.std.proofs.lemmas.List.Sums.{sum_by-set}
-use Rattle.plane.specs.{Fraction, IsVertex, TilesHull, Triangulation, vertex}
-use Rattle.plane.proofs.Segments.{same-refl}
-use Rattle.plane_theorems.specs.{face_at, IsInFree}
-use Rattle.plane_theorems.specs.Ways.Chains.{IsJoined}
-use Rattle.plane_theorems.specs.Ways.Links.{AreApart, IsLinked, IsMarked}
-use Rattle.plane_theorems.proofs.Tiling.Totals.{Contains-cases, Contains-head, Contains-later}
-use Rattle.plane_theorems.proofs.Tiling.Totals.{Contains-none}
+use Rattle.plane.specs.{IsVertex, TilesHull, Triangulation, vertex}
+use Rattle.{plane.proofs.same-refl, plane_theorems.specs.face_at, plane_theorems.specs.IsInFree}
+use Rattle.plane_theorems.specs.{Ways.Chains.IsJoined, Ways.Links.IsLinked, Ways.Links.IsMarked}
+use Rattle.plane_theorems.proofs.{Contains-cases, Contains-head, Contains-later, Contains-none}
 use Rattle.plane_theorems.proofs.Ways.Trails.{apart_is_not_joined, corners_at_vertex}
-use Rattle.delaunay_ways.specs.Parts.{Floods, GivesLabel, had, has_none, HasFlooded, IsFlood}
-use Rattle.delaunay_ways.specs.Parts.{KeepsLabels, label_at, LabelsFace, new, work_of}
+use Rattle.delaunay_ways.specs.{GivesLabel, IsFlood, KeepsLabels, label_at, work_of}
+use Rattle.delaunay_ways.specs.Parts.{Floods, had, has_none, HasFlooded, LabelsFace, new}
 use Rattle.delaunay_ways.proofs.Joins.{joined_on, link_joins}
 
 -- ---- numbers and labels

@@ -8,8 +8,7 @@ use Rattle.plane.specs.{Face, Point, Triangulation}
 use Rattle.half_edge_links.specs.{face, face_edge, IsValidMesh, Mesh, next, origin, prev, rev}
 use Rattle.half_edge_links.specs.{Triangle, triangle_at, triangles}
 use Rattle.half_edge_links.proofs.{rev-rev, rev_within}
-use Rattle.plane_theorems.specs.{face_at, HasFreeFace, IsTurned}
-use Rattle.plane_theorems.specs.Ways.Links.{IsLinked}
+use Rattle.plane_theorems.specs.{face_at, HasFreeFace, IsTurned, Ways.Links.IsLinked}
 use Rattle.delaunay_legalization.specs.{corners_of, drawn}
 use Rattle.delaunay_shapes.specs.{by_place, IsFreeBeside}
 use Rattle.half_edge_links.proofs.Sound.Triangles as T

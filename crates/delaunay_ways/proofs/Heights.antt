@@ -11,13 +11,11 @@ use Rattle.std.proofs.lemmas.List.{get_or_append_left, get_or_past, get_or_push,
 use Rattle.plane.specs.{Face, gap, Point, Triangulation, turn_at, whole}
 use Rattle.half_edge_links.specs.{face_edge, next, origin, prev}
 use Rattle.half_edge_dcel.specs.{Contents}
-use Rattle.{delaunay_core.proofs.Projections.product_bound, plane_theorems.specs.face_at}
+use Rattle.{delaunay_core.proofs.Projections.product_bound, delaunay_legalization.proofs.both_ways}
 use Rattle.delaunay_legalization.specs.{drawn, IsTriangulated, state_of}
-use Rattle.delaunay_legalization.proofs.{both_ways}
-use Rattle.delaunay_shapes.specs.{by_place}
-use Rattle.{delaunay_ways.specs.Ways.point_at}
-use Rattle.delaunay_ways.specs.Widths.{AreWide, IsAway, IsWide, IsWideTriangle}
-use Rattle.delaunay_ways.proofs.FreeSides.{corners_named}
+use Rattle.{delaunay_shapes.specs.by_place, delaunay_ways.proofs.FreeSides.corners_named}
+use Rattle.{delaunay_ways.specs.AreWide, delaunay_ways.specs.point_at, plane_theorems.specs.face_at}
+use Rattle.delaunay_ways.specs.Widths.{IsAway, IsWide, IsWideTriangle}
 
 -- ---- numbers that fit their width
 -- what 64 bits keep of a number

@@ -1,21 +1,18 @@
 -- Positions that chains join: over a position between, in one free face, and along its sides.
 -- Lemmas: joined_on, sight_joins, face_sees, corner_in, link_joins.
-use Rattle.std.proofs.Common.{◌≡◌, ◌⊎◌, ◌<◌, [], ◌∷◌, ◌++◌, ℕ, Bool, List, length, IsTrue}
+use Rattle.std.proofs.Common.{◌<◌, [], ◌∷◌, ◌++◌, ℕ, Bool, List, length, IsTrue}
 use Rattle.std.proofs.Common.{sym, subst, inl, inr}
 use Rattle.std.specs.Prelude.{pos, ◌<ℤ◌}
 use Rattle.std.proofs.lemmas.List.Elements.{Contains-get_or}
-use Rattle.plane.specs.{Face, face, Fraction, IsFace, TilesHull, Triangulation, vertex}
-use Rattle.plane.proofs.{weak, zero_weak_left}
+use Rattle.plane.specs.{face, Fraction, IsFace, TilesHull, Triangulation, vertex}
 use Rattle.plane_theorems.specs.{face_at, HasFreeFace, IsCorner, IsInSight, IsTurned}
-use Rattle.plane_theorems.specs.Ways.Chains.{IsChain, IsJoined}
-use Rattle.plane_theorems.specs.Ways.Links.{IsLinked}
-use Rattle.plane_theorems.proofs.Delaunay.Points.Bracket.{above_if_left, bracket, bracket-first}
-use Rattle.plane_theorems.proofs.{Delaunay.Points.Bracket.bracket-second, Ways.Reached.HasPoint}
+use Rattle.plane_theorems.specs.{Ways.Chains.IsChain, Ways.Chains.IsJoined, Ways.Links.IsLinked}
+use Rattle.plane_theorems.proofs.{bracket, bracket-second, Delaunay.Tilings.Faces.turned-above}
+use Rattle.plane_theorems.proofs.Delaunay.Points.Bracket.{above_if_left, bracket-first}
 use Rattle.plane_theorems.proofs.Delaunay.Points.Nudges.{Closed, closed-turned}
-use Rattle.plane_theorems.proofs.Delaunay.Tilings.Faces.{turned-above}
 use Rattle.plane_theorems.proofs.Delaunay.Tilings.Ground.{closed_of, triangle_of_closed}
-use Rattle.plane_theorems.proofs.{Sight.Coverings.not_right_along}
-use Rattle.delaunay_ways.specs.Parts.{IsInFreeFace}
+use Rattle.plane_theorems.proofs.{Sight.Coverings.not_right_along, Ways.Reached.HasPoint}
+use Rattle.{delaunay_ways.specs.Parts.IsInFreeFace, plane.proofs.weak, plane.proofs.zero_weak_left}
 
 module _ (t : Triangulation) (free : ℕ → Bool) where
   chain_on : (p q r : Fraction) (xs ys : List Fraction) → IsChain t free p xs q

@@ -8,18 +8,16 @@ use Rattle.std.specs.Borrow.{Bor}
 use Rattle.std.proofs.lemmas.List.{length-map}
 use Rattle.plane.specs.{Face, Point, Triangulation, vertex}
 use Rattle.half_edge_links.specs.{face_edge, Mesh, origin, rev}
-use Rattle.half_edge_dcel.specs.{Contents}
 use Rattle.plane_theorems.specs.{face_at, Ways.Chains.IsJoined, Ways.Links.IsLinked}
 use Rattle.delaunay_legalization.specs.{drawn, IsTriangulated, state_of}
-use Rattle.delaunay_legalization.proofs.{IsGoingRound}
-use Rattle.delaunay_legalization.proofs.Rounds.{seen_as, round_goes_on, round_ends}
-use Rattle.delaunay_shapes.specs.{by_place}
-use Rattle.delaunay_ways.specs.Parts.{GivesLabel, IsFlood, KeepsLabels, label_at}
+use Rattle.{delaunay_legalization.proofs.IsGoingRound, delaunay_ways.proofs.Surrounding.hull_of}
+use Rattle.delaunay_legalization.proofs.Rounds.{round_ends, round_goes_on, seen_as}
+use Rattle.{delaunay_shapes.specs.by_place, half_edge_dcel.specs.Contents}
+use Rattle.delaunay_ways.specs.{GivesLabel, IsFlood, KeepsLabels, label_at}
 use Rattle.delaunay_ways.proofs.Flooding.{flood_gives, flood_passes, Gave}
 use Rattle.delaunay_ways.proofs.FreeSides.{corners_named, end_exists, face_count, IsSide}
 use Rattle.delaunay_ways.proofs.FreeSides.{link_has_side, side_is_link}
 use Rattle.delaunay_ways.proofs.Joins.{corner_in, face_sees, sight_joins}
-use Rattle.delaunay_ways.proofs.Surrounding.{hull_of}
 
 -- the end of directed edge h has this label, if it is a side of a free face
 abbrev pub HasLabel : Mesh → (ℕ → Bool) → List (Option ℕ) → ℕ → ℕ → Type 0

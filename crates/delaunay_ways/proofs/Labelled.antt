@@ -1,14 +1,13 @@
 -- Labels of faces, face by face.
 -- Notions: IsLabelling; labelling_begins, labelling_goes_on, labelling_ends.
-use Rattle.std.proofs.Common.{◌≡◌, ◌≢◌, ◌⊎◌, ◌↔◌, ◌+◌, ◌<◌, ◌≤◌, [], ◌∷◌, ◌++◌, ◌∙◌, ℕ, Bool}
+use Rattle.std.proofs.Common.{◌≡◌, ◌≢◌, ◌⊎◌, ◌+◌, ◌<◌, ◌≤◌, [], ◌∷◌, ◌++◌, ◌∙◌, ℕ, Bool}
 use Rattle.std.proofs.Common.{List, IsTrue, sym, subst, arith, ap, refl, inl, inr, length}
-use Rattle.std.specs.Prelude.{Contains, Option, None, Some}
+use Rattle.std.specs.Prelude.{Option, None, Some}
 use Rattle.std.proofs.lemmas.List.{get_or_append_left, get_or_past, get_or_push, length-append}
 use Rattle.plane.specs.{Fraction, TilesHull, Triangulation, vertex}
-use Rattle.plane_theorems.specs.{face_at, IsInFree}
-use Rattle.plane_theorems.specs.Ways.Chains.{IsJoined}
-use Rattle.delaunay_ways.specs.Parts.{AreLabels, IsFlood, IsInFreeFace, KeepsLabels, label_at}
-use Rattle.delaunay_ways.specs.Parts.{LabelsFace}
+use Rattle.plane_theorems.specs.{face_at, IsInFree, Ways.Chains.IsJoined}
+use Rattle.delaunay_ways.specs.{IsFlood, label_at}
+use Rattle.delaunay_ways.specs.Parts.{AreLabels, IsInFreeFace, LabelsFace}
 use Rattle.delaunay_ways.proofs.Flooding.{is_or_not, none_some, some_is, true_or_not}
 use Rattle.delaunay_ways.proofs.Flooding.{vertices_apart}
 use Rattle.delaunay_ways.proofs.Joins.{corner_in, face_sees, joined_on, sight_joins}

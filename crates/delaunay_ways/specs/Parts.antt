@@ -1,12 +1,10 @@
 -- Labels of free faces, by which chains of positions join them.
-use Rattle.std.specs.Prelude.{◌≡◌, ◌⊎◌, ◌↔◌, ◌+◌, ◌*◌, ◌<◌, ◌≤◌, ◌++◌, ◌∷◌, [], ℕ, Bool, List}
+use Rattle.std.specs.Prelude.{◌≡◌, ◌⊎◌, ◌↔◌, ◌+◌, ◌*◌, ◌<◌, ◌++◌, ◌∷◌, [], ℕ, Bool, List}
 use Rattle.std.specs.Prelude.{Option, None, Some, IsTrue, length, Contains, slice_index_or, slice_set}
 use Rattle.std.specs.List.{count_by}
 use Rattle.std.specs.Prelude.{false, true}
-use Rattle.plane.specs.{Fraction, InCorners, IsVertex, Triangulation, vertex}
-use Rattle.plane_theorems.specs.{face_at}
-use Rattle.plane_theorems.specs.Ways.Chains.{IsJoined}
-use Rattle.plane_theorems.specs.Ways.Links.{IsLinked}
+use Rattle.plane.specs.{Fraction, InCorners, Triangulation, vertex}
+use Rattle.plane_theorems.specs.{face_at, Ways.Chains.IsJoined, Ways.Links.IsLinked}
 
 -- the label with an index, if there is one
 abbrev pub label_at : List (Option ℕ) → ℕ → Option ℕ

@@ -1,8 +1,7 @@
 -- Faces that are wide enough.
 use Rattle.std.specs.Prelude.{◌↔◌, ◌<◌, ◌*ℤ◌, ◌≤ℤ◌, ℕ, ℤ, Bool, IsTrue, length}
 use Rattle.plane.specs.{gap, Point, Triangulation, turn_at, whole}
-use Rattle.plane_theorems.specs.{face_at}
-use Rattle.delaunay_ways.specs.Ways.{point_at}
+use Rattle.{delaunay_ways.specs.Ways.point_at, plane_theorems.specs.face_at}
 
 -- p is as far as the root of width_2 from the line through u and v, or farther: the square of twice
 -- the area of a triangle is that of a side times that of its height

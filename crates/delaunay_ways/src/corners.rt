@@ -1,8 +1,7 @@
 //! The vertices round a position.
 ghost use Rattle.std.specs.Prelude.{◌≡◌, ◌<◌, ◌≤◌, [], ◌∷◌, length, MatchOption};
-ghost use Rattle.plane.specs.{whole as fraction};
 ghost use Rattle.half_edge_links.specs.{face_edge, next, origin, prev, rev};
-ghost use Rattle.delaunay_core.specs.{place_of};
+ghost use Rattle.{delaunay_core.specs.place_of, plane.specs.whole as fraction};
 ghost use Rattle.delaunay_legalization.specs.{state_of, triangulation_of};
 ghost use Rattle.delaunay_ways.specs.Ways.{IsInNone, IsSurrounded};
 

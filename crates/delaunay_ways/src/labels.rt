@@ -2,9 +2,8 @@
 ghost use Rattle.std.specs.Prelude.{◌≡◌, ◌+◌, ◌-◌, ◌<◌, ◌≤◌, ◌∷◌, [], length, IfOk, OnOk};
 ghost use Rattle.std.specs.Prelude.{None, replicate, Some};
 ghost use Rattle.plane.specs.{vertex as position};
-ghost use Rattle.plane_theorems.specs.Ways.Chains.{IsJoined};
 ghost use Rattle.delaunay_legalization.specs.{IsTriangulated, state_of, triangulation_of};
-ghost use Rattle.delaunay_shapes.specs.{by_place};
+ghost use Rattle.{delaunay_shapes.specs.by_place, plane_theorems.specs.Ways.Chains.IsJoined};
 ghost use Rattle.delaunay_ways.specs.Parts.{Floods, GivesLabel, HasFlooded, IsFlood, KeepsLabels};
 ghost use Rattle.delaunay_ways.specs.Parts.{label_at, LabelsFace, work_of};
 

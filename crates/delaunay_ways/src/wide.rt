@@ -2,9 +2,8 @@
 ghost use Rattle.std.specs.Prelude.{◌≡◌, ◌↔◌, ◌-◌, ◌<◌, ◌≤◌, ◌*ℤ◌, ◌-ℤ◌, ◌≤ℤ◌, length, IfOk};
 ghost use Rattle.std.specs.Prelude.{All, IsTrue, map, slice_index_or, false, unsigned_abs};
 ghost use Rattle.plane.specs.{InRange, IsCoordinate, turn_at};
-ghost use Rattle.{delaunay_core.specs.place_of};
+ghost use Rattle.{delaunay_core.specs.place_of, delaunay_shapes.specs.by_place};
 ghost use Rattle.delaunay_legalization.specs.{IsTriangulated, state_of, triangulation_of};
-ghost use Rattle.delaunay_shapes.specs.{by_place};
 ghost use Rattle.delaunay_ways.specs.Widths.{AreWide, IsAway, IsWide, IsWideTriangle};
 
 use crate::corners::{first_corner, second_corner, third_corner};
@@ -74,12 +73,7 @@ fn is_away<S: SpadeNum>(a: Point2<S>, b: Point2<S>, c: Point2<S>, width_2: i64) 
 }
 
 // Whether each height of a triangle is as long as the root of `width_2`, or longer.
-fn is_wide_triangle<S: SpadeNum>(
-    a: Point2<S>,
-    b: Point2<S>,
-    c: Point2<S>,
-    width_2: i64,
-) -> bool
+fn is_wide_triangle<S: SpadeNum>(a: Point2<S>, b: Point2<S>, c: Point2<S>, width_2: i64) -> bool
     requires a { InRange (place_of S.whole a) }
     requires b { InRange (place_of S.whole b) }
     requires c { InRange (place_of S.whole c) }
@@ -209,6 +203,9 @@ impl FreeFaces for WideFaces {
     ghost free = { λ wide face. slice_index_or wide face false };
 
     fn is_free(&self, face: FixedFaceHandle) -> bool {
-        self.free.get(face.index() as usize).copied().unwrap_or(false)
+        self.free
+            .get(face.index() as usize)
+            .copied()
+            .unwrap_or(false)
     }
 }

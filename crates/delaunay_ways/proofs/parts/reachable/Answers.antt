@@ -1,14 +1,12 @@
-use Rattle.std.proofs.Common.{◌≡◌, ◌+◌, ◌-◌, ◌∷◌, [], ◌++◌, ◌∙◌, ℕ, List, ap, arith, length, map}
+use Rattle.std.proofs.Common.{◌-◌, ◌∷◌, [], ◌++◌, ◌∙◌, ℕ, List, ap, arith, length, map}
 use Rattle.std.proofs.Common.{refl, subst, sym}
 use Rattle.std.specs.Prelude.{None, Option, replicate}
 use Rattle.std.proofs.lemmas.List.{length-append, length-map}
 use Rattle.delaunay_legalization.specs.{state_of, triangulation_of}
-use Rattle.delaunay_shapes.specs.{by_place}
-use Rattle.delaunay_ways.specs.Parts.{AreLabels, IsFlood}
-use Rattle.delaunay_ways.proofs.Flooding.{flood_begins}
-use Rattle.delaunay_ways.proofs.FreeSides.{face_count}
+use Rattle.{delaunay_shapes.specs.by_place, delaunay_ways.specs.Parts.AreLabels}
+use Rattle.delaunay_ways.specs.{IsFlood}
+use Rattle.delaunay_ways.proofs.{Flooding.flood_begins, FreeSides.face_count, Surrounding.hull_of}
 use Rattle.delaunay_ways.proofs.Labelled.{labelling_begins, labelling_ends, labelling_goes_on}
-use Rattle.{delaunay_ways.proofs.Surrounding.hull_of}
 use Rattle.delaunay_ways.proofs.parts.reachable.Goals as goal
 
 pub loop-index-init : goal.loop-index-init
@@ -64,5 +62,12 @@ returns g c =
     (labelling_ends (triangulation_of at (state_of dcel)) free (hull_of at dcel whole)
     c.loop-index.labels.labels.items c.loop-index.parts.items c.loop-index.labels.count
     c.loop-index.invariant.0
-    (omega (arith, fit, count, value, so_far, c.loop-index.auto.index-end,
-    c.loop-index-test.false)))
+    (omega (
+      arith,
+      fit,
+      count,
+      value,
+      so_far,
+      c.loop-index.auto.index-end,
+      c.loop-index-test.false,
+    )))

@@ -1,7 +1,6 @@
 use Rattle.std.proofs.Common.{◌≡◌, [], length}
 use Rattle.delaunay_legalization.specs.{state_of, triangulation_of}
-use Rattle.delaunay_shapes.specs.{by_place}
-use Rattle.delaunay_ways.proofs.Labelled.{IsLabelling}
+use Rattle.{delaunay_shapes.specs.by_place, delaunay_ways.proofs.Labelled.IsLabelling}
 use Rattle.delaunay_ways.proofs.parts.reachable.Given as goal
 
 abbrev pub invariant-loop-index : goal.invariant-loop-index

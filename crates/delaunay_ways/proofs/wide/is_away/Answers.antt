@@ -1,7 +1,6 @@
 use Rattle.std.proofs.Common.{◌∙◌, w64}
 use Rattle.std.proofs.lemmas.Int.{to_z-of_z}
-use Rattle.delaunay_core.specs.{place_of}
-use Rattle.delaunay_ways.proofs.Heights.{away_told}
+use Rattle.{delaunay_core.specs.place_of, delaunay_ways.proofs.Heights.away_told}
 use Rattle.delaunay_ways.proofs.wide.is_away.Goals as goal
 
 pub returns : goal.returns

@@ -1,10 +1,9 @@
 use Rattle.std.proofs.Common.{◌↔◌, ◌-◌, IsTrue, map, subst, w64}
 use Rattle.std.proofs.lemmas.Int.{to_z-of_z}
 use Rattle.std.proofs.lemmas.List.Elements.{All-contains}
-use Rattle.plane.specs.{Face, InRange}
 use Rattle.delaunay_core.specs.{place_of}
 use Rattle.delaunay_legalization.specs.{state_of, triangulation_of}
-use Rattle.delaunay_ways.specs.Widths.{IsWideTriangle}
+use Rattle.{delaunay_ways.specs.Widths.IsWideTriangle, plane.specs.Face, plane.specs.InRange}
 use Rattle.delaunay_ways.proofs.Heights.{corner_at, wide_at}
 use Rattle.delaunay_ways.proofs.wide.is_wide.Goals as goal
 

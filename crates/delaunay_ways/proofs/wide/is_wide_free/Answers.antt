@@ -1,8 +1,7 @@
 use Rattle.std.proofs.Common.{◌↔◌, ◌-◌, ◌∙◌, IsTrue, subst, sym, w64}
 use Rattle.std.proofs.lemmas.Int.{to_z-of_z}
 use Rattle.delaunay_legalization.specs.{state_of, triangulation_of}
-use Rattle.delaunay_ways.specs.Widths.{IsWide}
-use Rattle.delaunay_ways.proofs.Heights.{none_told}
+use Rattle.{delaunay_ways.proofs.Heights.none_told, delaunay_ways.specs.Widths.IsWide}
 use Rattle.delaunay_ways.proofs.wide.is_wide_free.Goals as goal
 
 pub returns-then-not-is_free : goal.returns-then-not-is_free

@@ -1,8 +1,7 @@
 use Rattle.std.proofs.Common.{◌↔◌, IsTrue, subst, w64}
 use Rattle.std.proofs.lemmas.Int.{to_z-of_z}
 use Rattle.delaunay_core.specs.{place_of}
-use Rattle.delaunay_ways.specs.Widths.{IsAway}
-use Rattle.delaunay_ways.proofs.Heights.{none_told}
+use Rattle.{delaunay_ways.proofs.Heights.none_told, delaunay_ways.specs.Widths.IsAway}
 use Rattle.delaunay_ways.proofs.wide.is_wide_triangle.Goals as goal
 
 pub returns-then-not-is_away : goal.returns-then-not-is_away

@@ -1,12 +1,11 @@
-use Rattle.std.proofs.Common.{◌≡◌, ◌+◌, ◌-◌, ◌<◌, ◌∷◌, [], ◌++◌, ◌∙◌, Bool, List, ap, arith, false}
+use Rattle.std.proofs.Common.{◌∷◌, [], ◌++◌, ◌∙◌, Bool, List, ap, arith, false}
 use Rattle.std.proofs.Common.{length, map, of_z, subst, to_z, w64}
 use Rattle.std.specs.Prelude.{slice_index_or}
 use Rattle.std.proofs.lemmas.Int.{to_z-of_z}
 use Rattle.std.proofs.lemmas.List.{length-append}
 use Rattle.delaunay_legalization.specs.{state_of, triangulation_of}
-use Rattle.delaunay_shapes.specs.{by_place}
-use Rattle.delaunay_ways.specs.Widths.{AreWide}
-use Rattle.delaunay_ways.proofs.FreeSides.{face_count}
+use Rattle.{delaunay_shapes.specs.by_place, delaunay_ways.proofs.FreeSides.face_count}
+use Rattle.delaunay_ways.specs.{AreWide}
 use Rattle.delaunay_ways.proofs.Heights.{wide_begins, wide_ends, wide_goes_on}
 use Rattle.delaunay_ways.proofs.wide.list_wide.Goals as goal
 
@@ -54,5 +53,12 @@ returns g c =
     (to_z-of_z w64 c.args.width_2 c.ranges.width_2)
     (wide_ends (triangulation_of at (state_of dcel)) free (to_z w64 (of_z w64 c.args.width_2))
     c.loop-index.wide.items c.loop-index.invariant.0
-    (omega (arith, fit, count, value, so_far, c.loop-index.auto.index-end,
-    c.loop-index-test.false)))
+    (omega (
+      arith,
+      fit,
+      count,
+      value,
+      so_far,
+      c.loop-index.auto.index-end,
+      c.loop-index-test.false,
+    )))

@@ -1,5 +1,4 @@
-use Rattle.delaunay_core.proofs.Projections.{product_bound}
-use Rattle.delaunay_ways.proofs.Heights.{multiplied}
+use Rattle.{delaunay_core.proofs.Projections.product_bound, delaunay_ways.proofs.Heights.multiplied}
 use Rattle.delaunay_ways.proofs.wide.product.Goals as goal
 
 pub returns-clause-value : goal.returns-clause-value

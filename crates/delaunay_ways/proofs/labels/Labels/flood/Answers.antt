@@ -1,10 +1,8 @@
-use Rattle.std.proofs.Common.{ℕ, ◌≡◌, ◌+◌, ◌∷◌, ◌∙◌, ap, arith, length, refl, subst, sym}
-use Rattle.std.specs.Prelude.{None}
+use Rattle.std.proofs.Common.{ℕ, ◌+◌, ◌∷◌, ◌∙◌, ap, arith, refl, subst, sym}
 use Rattle.std.proofs.lemmas.List.{length-map}
-use Rattle.plane_theorems.proofs.Tiling.Totals.{Contains-head}
 use Rattle.delaunay_legalization.specs.{state_of, triangulation_of}
-use Rattle.delaunay_shapes.specs.{by_place}
-use Rattle.delaunay_ways.specs.Parts.{GivesLabel, IsFlood}
+use Rattle.{delaunay_shapes.specs.by_place, plane_theorems.proofs.Contains-head}
+use Rattle.delaunay_ways.specs.{GivesLabel, IsFlood}
 use Rattle.delaunay_ways.proofs.Flooding.{flood_starts, flood_takes}
 use Rattle.delaunay_ways.proofs.labels.Labels.flood.Goals as goal
 

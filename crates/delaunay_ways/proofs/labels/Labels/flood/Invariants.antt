@@ -2,7 +2,7 @@ use Rattle.std.proofs.Common.{◌≡◌, ◌+◌}
 use Rattle.std.specs.Prelude.{Some}
 use Rattle.delaunay_legalization.specs.{state_of, triangulation_of}
 use Rattle.delaunay_shapes.specs.{by_place}
-use Rattle.delaunay_ways.specs.Parts.{IsFlood, KeepsLabels, label_at, work_of}
+use Rattle.delaunay_ways.specs.{IsFlood, KeepsLabels, label_at, work_of}
 use Rattle.delaunay_ways.proofs.labels.Labels.flood.Given as goal
 
 abbrev pub invariant-loop-vertex : goal.invariant-loop-vertex

@@ -2,8 +2,7 @@ use Rattle.std.proofs.Common.{◌≡◌, ◌-◌, ◌<◌, ◌∙◌, arith, len
 use Rattle.std.specs.Prelude.{None, Some}
 use Rattle.std.proofs.lemmas.List.{get_or_read, length-map}
 use Rattle.delaunay_legalization.specs.{state_of, triangulation_of}
-use Rattle.delaunay_shapes.specs.{by_place}
-use Rattle.delaunay_ways.specs.Parts.{label_at}
+use Rattle.{delaunay_shapes.specs.by_place, delaunay_ways.specs.label_at}
 use Rattle.delaunay_ways.proofs.Flooding.{face_gets, face_had}
 use Rattle.delaunay_ways.proofs.LabelRounds.{corner_joins, first_corner, free_place}
 use Rattle.delaunay_ways.proofs.labels.Labels.label_face.Goals as goal

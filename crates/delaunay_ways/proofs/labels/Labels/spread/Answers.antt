@@ -1,7 +1,6 @@
 use Rattle.std.proofs.Common.{◌∙◌, ap, arith, refl, sym}
-use Rattle.delaunay_legalization.proofs.{both_ways}
+use Rattle.{delaunay_legalization.proofs.both_ways, delaunay_ways.specs.label_at}
 use Rattle.delaunay_legalization.proofs.Rounds.{next_starts, next_within, round_begins}
-use Rattle.delaunay_ways.specs.Parts.{label_at}
 use Rattle.delaunay_ways.proofs.LabelRounds.{label_given, labels_ended, round_labels}
 use Rattle.delaunay_ways.proofs.Spreading.{end_as, side_as}
 use Rattle.delaunay_ways.proofs.labels.Labels.spread.Goals as goal
@@ -51,7 +50,7 @@ loop-edge-preserved-in-Continue-1 g c =
       gave.flood,
       λ u k it. gave.kept u k (c.loop-edge.invariant.2 u k it),
       (let less = gave.work in let so_far = c.loop-edge.invariant.3 in
-      omega (arith, less, so_far)),
+          omega (arith, less, so_far)),
       round_labels at c.args.dcel.now c.requires.kept free c.args.vertex c.args.label
           before.labels.items after.labels.items gave.kept _ _ _ c.in-Some.ensures.steps
           c.loop-edge.invariant.4

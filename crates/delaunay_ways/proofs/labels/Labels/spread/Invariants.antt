@@ -1,10 +1,8 @@
 use Rattle.std.proofs.Common.{◌≡◌, ◌+◌, ◌≤◌, ◌∷◌}
-use Rattle.half_edge_dcel.specs.{out_edges_left}
-use Rattle.delaunay_legalization.proofs.{IsGoingRound}
 use Rattle.delaunay_legalization.specs.{state_of, triangulation_of}
-use Rattle.delaunay_shapes.specs.{by_place}
-use Rattle.delaunay_ways.specs.Parts.{IsFlood, KeepsLabels, work_of}
-use Rattle.delaunay_ways.proofs.LabelRounds.{HasLabel}
+use Rattle.{delaunay_legalization.proofs.IsGoingRound, delaunay_ways.proofs.LabelRounds.HasLabel}
+use Rattle.{delaunay_shapes.specs.by_place, half_edge_dcel.specs.out_edges_left}
+use Rattle.delaunay_ways.specs.{IsFlood, KeepsLabels, work_of}
 use Rattle.delaunay_ways.proofs.labels.Labels.spread.Given as goal
 
 abbrev pub invariant-loop-edge : goal.invariant-loop-edge

@@ -1,9 +1,8 @@
 use Rattle.std.proofs.Common.{false, of_z, subst, to_z, w64}
 use Rattle.std.specs.Prelude.{slice_index_or}
 use Rattle.std.proofs.lemmas.Int.{to_z-of_z}
-use Rattle.delaunay_legalization.specs.{triangulation_of}
-use Rattle.delaunay_shapes.specs.{by_place}
-use Rattle.delaunay_ways.specs.Widths.{AreWide}
+use Rattle.{delaunay_legalization.specs.triangulation_of, delaunay_shapes.specs.by_place}
+use Rattle.delaunay_ways.specs.{AreWide}
 use Rattle.delaunay_ways.proofs.wide.WideFaces.new.Goals as goal
 
 pub returns : goal.returns
