@@ -1000,6 +1000,8 @@ def check_properties():
     expect('"polygon_number":1,"polygon":"P"' in run(["-q", "--to", "geojson"], clash)[0], "a clash")
     alone = json.dumps(feature(square(0, 0), {"name": "alone"}))
     expect('"polygon":1,"name":"alone"' in run(["-q", "--to", "geojson"], alone)[0], "one feature")
+    own = '{"properties":{"name":"all"},' + text[1:]
+    expect(run(["-q", "--to", "csv"], own)[0] == run(["-q", "--to", "csv"], text)[0], "of all")
     sequence = "\n".join(map(json.dumps, STATES))
     expect(run(["-q", "--to", "csv"], sequence)[0] == run(["-q", "--to", "csv"], text)[0], "sequence")
     expect("left out: properties" in run([], text)[1], "properties are told where nothing has them")
@@ -1159,6 +1161,34 @@ KINDS = {
                                            "2,2,d\n2,0,d\n", 6, 5),
     "a bad row": (["--skip-bad"], "x,y\n0,0\n4,0\nn/a,n/a\n0,4\n", 3, 1),
 }
+
+
+def check_nested():
+    """Segments of one line that overlap are the pieces that they cover; many of them take time in
+    proportion."""
+    chance = random.Random(3)
+    for _ in range(60):
+        points = [(chance.randint(0, 9), chance.choice((0, 0, 5))) for _ in range(8)]
+        segments = [(chance.randrange(8), chance.randrange(8)) for _ in range(7)]
+        texts = [(f"{x}", f"{y}") for x, y in points]
+        text = Drawing(texts, [(a, b) for a, b in segments if points[a][1] == points[b][1]]).poly()
+        first = {}
+        for place, point in enumerate(points):
+            first.setdefault(point, place)
+        wanted = {tuple(sorted(first[points[k]] for k in pair))
+                  for pair in pieces(points, [(a, b) for a, b in segments
+                                              if points[a][1] == points[b][1]])}
+        found = walls_of("obj", run(["--from", "poly", "-q"], text)[0])
+        expect({tuple(sorted(wall)) for wall in found} == wanted, f"{text}: {found}, not {wanted}")
+    times = []
+    for count in 1000, 8000:
+        lines = "".join(f"{count - k},0,a{k}\n{9 * count + k},0,a{k}\n" for k in range(count))
+        before = resource.getrusage(resource.RUSAGE_CHILDREN).ru_utime
+        error = run([], f"x,y,line\n{lines}5,7,\n")[1]
+        times.append(resource.getrusage(resource.RUSAGE_CHILDREN).ru_utime - before)
+        expect(f"{2 * count + 1} vertices, {2 * count - 1} faces, {2 * count - 1} constraints" in error,
+               error)
+    expect(times[1] < 24 * times[0] + 0.5, f"nested segments: {times}")
 
 
 def check_kinds():
@@ -1991,6 +2021,7 @@ def main():
     check_records()
     check_regions()
     check_overlaps()
+    check_nested()
     check_kinds()
     check_kept_answers()
     check_skipping()

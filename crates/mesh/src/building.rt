@@ -1,5 +1,6 @@
 //! The triangulation of a drawing, and what is told of it.
 use crate::crossings::{crossing_point, first_crossed};
+use crate::pieces::pieces_of;
 use crate::splitting::{SplitMesh, split_scene};
 use anyhow::{anyhow, bail};
 use decimal_numbers::Decimal;
@@ -252,22 +253,47 @@ pub fn kept_part<'a>(task: &Task<'_>, scene: &'a Scene) -> (Kept, &'a [Point2<i3
     }
 }
 
-/// The triangulation of a drawing, with the faces that are kept.
-fn triangulate_scene(task: &Task<'_>, scene: &Scene, alloc: Global) -> anyhow::Result<DrawnMesh> {
-    let segments = segments_of(&scene.drawing, alloc)?;
-    let sides = drawn_sides(task, scene, alloc)?;
+/// The triangulation of a drawing with these segments, with the faces that are kept.
+fn triangulate_segments(
+    task: &Task<'_>,
+    scene: &Scene,
+    segments: &[DrawnSegment],
+    sides: &[DrawnSegment],
+    alloc: Global,
+) -> anyhow::Result<DrawnMesh> {
     let (kept, holes) = kept_part(task, scene);
-    match triangulate_drawing(
-        scene.scaled.points.as_slice(),
-        segments.as_slice(),
-        holes,
-        sides.as_slice(),
-        kept,
-        alloc,
-    ) {
+    let points = scene.scaled.points.as_slice();
+    match triangulate_drawing(points, segments, holes, sides, kept, alloc) {
         Ok(drawn) => Ok(drawn),
         Err(error) => Err(drawing_fault(task, &scene.drawing, error)),
     }
+}
+
+/// Whether all segments of a drawing were taken.
+fn are_all_taken(drawn: &DrawnMesh) -> bool {
+    drawn.taken.iter().all(|is_taken| *is_taken)
+}
+
+/// The triangulation of a drawing, with the faces that are kept. Segments that overlap become pieces
+/// that do not, if all of these can be taken: else each walks over all that it covers.
+fn triangulate_scene(task: &Task<'_>, scene: &Scene, alloc: Global) -> anyhow::Result<DrawnMesh> {
+    let segments = segments_of(&scene.drawing, alloc)?;
+    let sides = drawn_sides(task, scene, alloc)?;
+    let points = scene.scaled.points.as_slice();
+    if let Some(pieces) = pieces_of(points, segments.as_slice(), alloc)? {
+        let mut drawn = triangulate_segments(
+            task,
+            scene,
+            pieces.as_slice(),
+            sides.as_slice(),
+            alloc,
+        )?;
+        if are_all_taken(&drawn) {
+            drawn.taken = Vec::from_elem(alloc, true, segments.len())?;
+            return Ok(drawn);
+        }
+    }
+    triangulate_segments(task, scene, segments.as_slice(), sides.as_slice(), alloc)
 }
 
 /// The triangulation of a drawing, with the faces that are kept, on a scale with room for the points
@@ -278,7 +304,7 @@ pub fn triangulate_with_room(
     alloc: Global,
 ) -> anyhow::Result<DrawnMesh> {
     let drawn = triangulate_scene(task, scene, alloc)?;
-    if task.crossing == CrossingRule::Skip || drawn.taken.iter().all(|is_taken| *is_taken) {
+    if task.crossing == CrossingRule::Skip || are_all_taken(&drawn) {
         return Ok(drawn);
     }
     let digits = scene.scaled.x_scale.digits;

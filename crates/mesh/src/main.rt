@@ -10,6 +10,7 @@ mod kept;
 mod nearest;
 mod overlaps;
 mod paths;
+mod pieces;
 mod places;
 mod polygons;
 mod splitting;

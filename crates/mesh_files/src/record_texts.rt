@@ -286,7 +286,11 @@ impl PropertyText<'_> {
             match self.add_member(records, alloc)? {
                 Member::End => break,
                 Member::Properties => records.end_record()?,
-                Member::Features => self.add_features(records, alloc)?,
+                Member::Features => {
+                    // a collection's own properties are not of its features
+                    records.clear();
+                    self.add_features(records, alloc)?;
+                }
                 Member::Other => {}
             }
         }

@@ -139,6 +139,12 @@ impl Records {
         Ok(())
     }
 
+    /// Leaves out all records, but no column.
+    pub(crate) fn clear(&mut self) {
+        self.values.clear();
+        self.ends.clear();
+    }
+
     /// Ends a record.
     pub(crate) fn end_record(&mut self) -> Result<(), AllocError> {
         let end = u32::try_from(self.values.len()).unwrap_or(u32::MAX);
