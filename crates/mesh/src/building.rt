@@ -32,6 +32,26 @@ pub struct DrawnLists<'a> {
     pub constraints: usize,
 }
 
+impl<'a> DrawnLists<'a> {
+    /// The lists of a drawing with polygons.
+    pub fn with_polygons(
+        places: &'a [u32],
+        taken: &'a [bool],
+        faces: &'a [[u32; 3]],
+        polygons: FacePolygons<'a>,
+        constraints: usize,
+    ) -> DrawnLists<'a> {
+        let polygons = Some(polygons);
+        DrawnLists {
+            places,
+            taken,
+            faces,
+            polygons,
+            constraints,
+        }
+    }
+}
+
 /// Where a segment stands in its file.
 fn segment_line(scene: &Scene, place: usize) -> FileLine {
     match scene.drawing.segments.get(place) {
@@ -57,17 +77,41 @@ pub struct Crossing<'a> {
     at: Option<[Decimal; 2]>,
 }
 
+/// Tells which segment of a file is crossed by one of another file, or of the same.
+fn write_crossed<W: fmt::Write>(
+    f: &mut fmt::Formatter<W>,
+    file: &str,
+    other_file: &str,
+    other: FileLine,
+) -> fmt::Result {
+    write!(f, "that of {other}")?;
+    if file == other_file {
+        return Ok(());
+    }
+    write!(f, " of {other_file}")
+}
+
+/// Tells where a segment stands that crosses another.
+fn write_crossing<W: fmt::Write>(
+    f: &mut fmt::Formatter<W>,
+    file: &str,
+    place: FileLine,
+) -> fmt::Result {
+    write!(f, "{file}: {place}: the segment crosses ")
+}
+
 impl fmt::Display for Crossing<'_> {
     fn fmt<W: fmt::Write>(&self, f: &mut fmt::Formatter<W>) -> fmt::Result {
-        let (file, place) = (self.file, self.place);
-        write!(f, "{file}: {place}: the segment crosses ")?;
+        write_crossing(f, self.file, self.place)?;
         match self.other {
             None => f.write_str("another")?,
-            Some((other_file, other)) if file == other_file => write!(f, "that of {other}")?,
-            Some((other_file, other)) => write!(f, "that of {other} of {other_file}")?,
+            Some((file, other)) => write_crossed(f, self.file, file, other)?,
         }
         match self.at {
-            Some([x, y]) => write!(f, " at {x},{y}"),
+            Some(at) => {
+                let [x, y] = at;
+                write!(f, " at {x},{y}")
+            }
             None => Ok(()),
         }
     }

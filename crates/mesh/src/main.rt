@@ -28,6 +28,7 @@ use crate::overlaps::tell_overlaps;
 use crate::paths::Turn;
 use crate::places::tell_places;
 use crate::polygons::polygon_lists;
+use crate::splitting::SplitMesh;
 use crate::way::tell_way;
 use crate::ways::tell_way_between;
 use anyhow::bail;
@@ -94,21 +95,29 @@ fn keep_and_write<T: Triangulation<Vertex = Point2<i32>>>(
         return tell_and_write(rt, task, scene, site, drawn);
     }
     let alloc = rt.alloc();
-    let lists = polygon_lists(scene, site, drawn.places, turns, drawn.faces, alloc)?;
+    let (places, taken, constraints) = (drawn.places, drawn.taken, drawn.constraints);
+    let lists = polygon_lists(scene, site, places, turns, drawn.faces, alloc)?;
     if task.keep != KeepRule::Inside {
-        let lists = DrawnLists {
-            polygons: Some(lists.lists(&scene.records)),
-            ..*drawn
-        };
-        return tell_and_write(rt, task, scene, site, &lists);
+        let polygons = lists.lists(&scene.records);
+        let drawn = DrawnLists::with_polygons(places, taken, drawn.faces, polygons, constraints);
+        return tell_and_write(rt, task, scene, site, &drawn);
     }
     let (faces, lists) = lists.within(drawn.faces, alloc)?;
-    let lists = DrawnLists {
-        faces: faces.as_slice(),
-        polygons: Some(lists.lists(&scene.records)),
-        ..*drawn
-    };
-    tell_and_write(rt, task, scene, site, &lists)
+    let polygons = lists.lists(&scene.records);
+    let drawn = DrawnLists::with_polygons(places, taken, faces.as_slice(), polygons, constraints);
+    tell_and_write(rt, task, scene, site, &drawn)
+}
+
+/// The faces that are kept, and by which vertices segments go: those after a split, if there was
+/// one.
+fn kept_lists<'a>(
+    faces: &'a [[u32; 3]],
+    split: &'a Option<SplitMesh>,
+) -> (&'a [[u32; 3]], &'a [Turn]) {
+    match split {
+        Some(split) => (split.faces.as_slice(), split.turns.as_slice()),
+        None => (faces, [].as_slice()),
+    }
 }
 
 /// Triangulates a drawing, and tells and writes what is asked for.
@@ -123,10 +132,7 @@ fn build_and_write(rt: &HostRuntime, task: &Task<'_>, scene: &mut Scene) -> anyh
         &mut drawn.vertices,
         drawn.taken.as_slice(),
     )?;
-    let (faces, turns) = match &split {
-        Some(split) => (split.faces.as_slice(), split.turns.as_slice()),
-        None => (drawn.faces.as_slice(), [].as_slice()),
-    };
+    let (faces, turns) = kept_lists(drawn.faces.as_slice(), &split);
     let lists = DrawnLists {
         places: drawn.vertices.as_slice(),
         taken: drawn.taken.as_slice(),
