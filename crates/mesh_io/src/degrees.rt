@@ -15,7 +15,12 @@ pub fn names_degrees(line: &[u8]) -> bool {
 
 /// Whether a word stands in a text.
 fn has_word(text: &[u8], word: &[u8]) -> bool {
-    text.windows(word.len()).any(|bytes| bytes == word)
+    for start in 0..text.len() {
+        if text[start..].starts_with(word) {
+            return true;
+        }
+    }
+    false
 }
 
 /// Whether GeoJSON that begins so names no reference system but that of degrees.

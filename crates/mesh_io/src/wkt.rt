@@ -165,12 +165,9 @@ fn without_system(text: &str) -> &str {
 
 /// Whether the words before coordinates say that their third number is no height.
 fn says_measures(words: &str) -> bool {
-    let mut last = "";
-    for word in words.split_ascii_whitespace() {
-        last = word;
-    }
-    let has_height = last.ends_with("ZM") || last.ends_with("zm");
-    !has_height && (last.ends_with('M') || last.ends_with('m'))
+    let words = words.trim();
+    let has_height = words.ends_with("ZM") || words.ends_with("zm");
+    !has_height && (words.ends_with('M') || words.ends_with('m'))
 }
 
 /// Writes a geometry behind a text, and tells whether it is one.
