@@ -35,15 +35,20 @@ impl FreeFaces for KeptFlags {
     }
 }
 
-/// The places of the points at the corners of a face.
-fn corner_places<V, DE, UE, F>(face: FaceHandle<'_, V, DE, UE, F>, places: &[u32]) -> [u32; 3] {
-    let first = face.adjacent_edge();
-    let corners = [first.from(), first.next().from(), first.prev_from()];
-    [
-        point_place(places, corners[0].fix().index()),
-        point_place(places, corners[1].fix().index()),
-        point_place(places, corners[2].fix().index()),
-    ]
+/// The places of the points at the corners of a face, of an inner one.
+fn corner_places<V, DE, UE, F>(
+    face: FaceHandle<'_, V, DE, UE, F>,
+    places: &[u32],
+) -> Option<[u32; 3]> {
+    if face.is_outer() {
+        return None;
+    }
+    let [first, second, third] = face.vertices();
+    Some([
+        point_place(places, first.fix().index()),
+        point_place(places, second.fix().index()),
+        point_place(places, third.fix().index()),
+    ])
 }
 
 /// Which faces are kept. Those are listed as the faces of the triangulation are.
@@ -56,8 +61,10 @@ fn kept_faces<T: Triangulation<Vertex = Point2<i32>>>(
     flags.push(false)?;
     let mut next = 0usize;
     for face in site.inner_faces() {
-        let corners = corner_places(face, drawn.places);
-        let is_kept = drawn.faces.get(next).is_some_and(|kept| *kept == corners);
+        let is_kept = match (corner_places(face, drawn.places), drawn.faces.get(next)) {
+            (Some(corners), Some(kept)) => *kept == corners,
+            _ => false,
+        };
         next = next.saturating_add(usize::from(is_kept));
         flags.push(is_kept)?;
     }
