@@ -203,7 +203,7 @@ class Regions(Queries):
         A disc whose centre goes straight from the middle of one side of such a face to the middle
         of another covers no corner of the face. That is all: a way through wide faces still goes
         along sides and past corners, also where two wide faces have only a corner in common. And a
-        face that is not wide may let the disc pass where no wall is near.
+        face that is not wide may let the disc pass where no closed face is near.
 
         Examples
         --------
@@ -214,7 +214,7 @@ class Regions(Queries):
         """
         with self._lock:
             self._ready()
-            return self._wide(self._flags(free), radius) != 0
+            return self._wide(self._flags(free), radius).astype(bool)
 
     def _flags(self, free: Any, radius: Optional[float] = None) -> NDArray[np.uint8]:
         """A flag for each face: whether it is free, and wide enough for a disc."""

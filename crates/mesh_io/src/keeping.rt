@@ -21,19 +21,45 @@ pub struct Wanted<'a> {
     pub sieve: Sieve,
 }
 
-/// A reader that keeps the bytes that were read.
+/// A reader that keeps the bytes that were read, and whether there was memory for all.
 #[derive(Drop)]
 struct Kept<R> {
     reader: R,
     bytes: Vec<u8>,
+    lacks_memory: bool,
+}
+
+impl<R> Kept<R> {
+    fn new(reader: R, alloc: Global) -> Self {
+        Kept {
+            reader,
+            bytes: Vec::new(alloc),
+            lacks_memory: false,
+        }
+    }
+
+    /// What is wrong: for whoever reads, want of memory is a fault of reading.
+    fn fault_of(&self, fault: FileFault) -> FileFault {
+        if self.lacks_memory {
+            return FileFault::at(0, Reason::NoMemory);
+        }
+        fault
+    }
 }
 
 impl<R: Read + Drop> Read for Kept<R> {
     fn read(&mut self, buf: &mut [u8]) -> io::Result<usize> {
         let count = self.reader.read(buf)?;
-        self.bytes
-            .extend_from_slice(buf.get(..count).unwrap_or(&[]))?;
-        Ok(count)
+        match self
+            .bytes
+            .extend_from_slice(buf.get(..count).unwrap_or(&[]))
+        {
+            Ok(()) => Ok(count),
+            Err(error) => {
+                self.lacks_memory = true;
+                Err(error.into())
+            }
+        }
     }
 }
 
@@ -72,6 +98,9 @@ fn read_all<R: Read>(reader: &mut R, alloc: Global) -> Result<Vec<u8>, FileFault
     let mut whole = Vec::new(alloc);
     match reader.read_to_end(&mut whole) {
         Ok(_) => Ok(whole),
+        Err(error) if error.kind() == io::ErrorKind::OutOfMemory => {
+            Err(FileFault::at(0, Reason::NoMemory))
+        }
         Err(_) => Err(FileFault::at(0, Reason::Unreadable)),
     }
 }
@@ -85,11 +114,11 @@ fn read_recorded_rows<R: Read + Drop>(
     if !wanted.are_recorded {
         return Ok(Recorded::plain(read_csv(reader, wanted.names, alloc)?, alloc));
     }
-    let mut kept = Kept {
-        reader,
-        bytes: Vec::new(alloc),
+    let mut kept = Kept::new(reader, alloc);
+    let drawing = match read_csv(&mut kept, wanted.names, alloc) {
+        Ok(drawing) => drawing,
+        Err(fault) => return Err(kept.fault_of(fault)),
     };
-    let drawing = read_csv(&mut kept, wanted.names, alloc)?;
     let records = table_records(kept.bytes.as_slice(), wanted.names, alloc)?;
     Ok(Recorded::whole(drawing, records, alloc))
 }
@@ -121,11 +150,11 @@ pub fn read_parts<R: Read + Drop>(
     if !wanted.are_regions {
         return Ok(Recorded::plain(read_poly(reader, alloc)?, alloc));
     }
-    let mut kept = Kept {
-        reader,
-        bytes: Vec::new(alloc),
+    let mut kept = Kept::new(reader, alloc);
+    let drawing = match read_poly(&mut kept, alloc) {
+        Ok(drawing) => drawing,
+        Err(fault) => return Err(kept.fault_of(fault)),
     };
-    let drawing = read_poly(&mut kept, alloc)?;
     let Regions { points, records } = poly_regions(kept.bytes.as_slice(), alloc)?;
     Ok(Recorded {
         regions: points,
@@ -142,11 +171,11 @@ fn read_recorded_features<R: Read + Drop>(
     if !wanted.are_recorded {
         return Ok(Recorded::plain(read_geojson(reader, alloc)?, alloc));
     }
-    let mut kept = Kept {
-        reader,
-        bytes: Vec::new(alloc),
+    let mut kept = Kept::new(reader, alloc);
+    let drawing = match read_geojson(&mut kept, alloc) {
+        Ok(drawing) => drawing,
+        Err(fault) => return Err(kept.fault_of(fault)),
     };
-    let drawing = read_geojson(&mut kept, alloc)?;
     let records = feature_records(kept.bytes.as_slice(), alloc)?;
     Ok(Recorded::whole(drawing, records, alloc))
 }
