@@ -51,7 +51,7 @@ const char *tevasulim_status_string(uint32_t status)
     case 7:
         return "a coordinate is out of range: it is more than 2^29 or less than -2^29";
     case 8:
-        return "a squared radius is negative: it has to be 0 or more";
+        return "a squared radius or width is negative: it has to be 0 or more";
     case 9:
         return "there is no vertex with this index: the last is the number of vertices less 1";
     case 10:

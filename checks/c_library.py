@@ -58,7 +58,8 @@ def queries():
     calls += [("conflicts", 2, c_uint32, segment)]
     ends = (points_of([(0, 0)])[0], points_of([(4, 3)])[0])
     free = words_of([1] * 4, c_uint8)
-    calls += [("way", 2, c_int32, (*ends, *free))]
+    calls += [("way", 2, c_int32, (*ends, *free)), ("reachable", 1, c_uint32, free)]
+    calls += [("wide_faces", 1, c_uint8, (*free, 1))]
     calls += [("faces_beyond", 1, c_uint8, (points_of([(0, 0), (4, 4)])[0],))]
     names = ("vertices_in", "edges_in")
     return calls + [(name, 1, c_uint32, (it,)) for name in names for it in shapes]
@@ -128,6 +129,9 @@ def try_refusals(library):
         ("TOO_LARGE", kept.all("line", 4, far[0], far[0])[0]),
         ("TOO_LARGE", kept.way((0, 0), (0, MOST + 1), [1, 1])[0]),
         ("UNEQUAL_LENGTHS", kept.way((0, 0), (1, 1), [1])[0]),
+        ("UNEQUAL_LENGTHS", kept.reachable([1])[0]),
+        ("UNEQUAL_LENGTHS", kept.wide_faces([1], 1)[0]),
+        ("NEGATIVE", kept.wide_faces([1, 1], -1)[0]),
         ("NO_SUCH_VERTEX", kept.call("remove", 4)),
         ("NO_SUCH_POINT", library.status("triangulate", *drawn)),
         ("CROSSING", kept.call("constrain", 1, 3)),

@@ -8,6 +8,8 @@ them, and which faces lie outside or in a hole is found by a search of this file
 written is read back by readers of this file, by the program itself where it reads that form, and by
 Debian's python3-meshio, which is installed where that may be done.
 """
+import csv
+import io
 import json
 import os
 import random
@@ -23,6 +25,7 @@ from xml.etree import ElementTree
 
 import debian
 from model.geometry import carries, distance_2, edges_of, faces_of, in_circle, side, twice_hull
+from model.ways import Sight, fault, shortest
 from project import named_or_built
 
 PROGRAM = named_or_built("mesh")
@@ -134,6 +137,18 @@ def within_holes(drawing, faces):
     return found
 
 
+def in_polygons(drawing, faces):
+    """The numbers of the polygons, from 1, that the middle of each face is in."""
+    rings = [[[drawing.whole[k] for k in ring] for ring in polygon] for polygon in drawing.polygons]
+    found = {}
+    for face in faces:
+        corners = [drawing.whole[k] for k in face]
+        middle = tuple(Fraction(sum(numbers), 3) for numbers in zip(*corners))
+        found[face] = [number for number, polygon in enumerate(rings, 1)
+                       if sum(is_within(ring, middle) for ring in polygon) % 2]
+    return found
+
+
 def kept(points, walls, faces, holes, within=()):
     """The faces that no way past no wall leads to, from outside, from a hole or from others."""
     sides = {}
@@ -168,20 +183,40 @@ def read_obj(text):
 def read_ply(text):
     head, body = text.split("end_header\n")
     expect(head.startswith("ply\nformat ascii 1.0\n"), "ply: the head")
-    count, faces = (int(re.search(rf"element {name} (\d+)", head).group(1))
-                    for name in ("vertex", "face"))
+    count, faces, edges = (int((re.search(rf"element {name} (\d+)", head) or [0, 0])[1])
+                           for name in ("vertex", "face", "edge"))
     lines = body.splitlines()
-    expect(len(lines) == count + faces, "ply: the number of lines")
-    expect(all(line.startswith("3 ") for line in lines[count:]), "ply: faces")
+    expect(len(lines) == count + faces + edges, "ply: the number of lines")
+    expect(all(line.startswith("3 ") for line in lines[count:count + faces]), "ply: faces")
     return ([tuple(map(Fraction, line.split())) for line in lines[:count]],
-            [[int(word) for word in line.split()[1:]] for line in lines[count:]])
+            [[int(word) for word in line.split()[1:]] for line in lines[count:count + faces]])
+
+
+def walls_of(form, text):
+    """The constraints in an OBJ, a PLY or a picture of faces as GeoJSON, as they are written."""
+    if form == "obj":
+        return [[int(word) - 1 for word in line.split()[1:]] for line in text.splitlines()
+                if line.startswith("l ")]
+    if form == "ply":
+        count = int((re.search(r"element edge (\d+)", text) or [0, 0])[1])
+        return [list(map(int, line.split())) for line in text.splitlines()[-count:]] if count else []
+    return [[tuple(position[:2]) for position in feature["geometry"]["coordinates"]]
+            for feature in json.loads(text, parse_float=Fraction, parse_int=Fraction)["features"]
+            if feature["geometry"]["type"] == "LineString"]
 
 
 def read_table(text):
     head, *lines = text.splitlines()
-    expect(head == "a,b,c,area", "csv: the header")
+    expect(f"{head},".startswith(("a,b,c,area,polygon,", "a,b,c,area,")), "csv: the header")
     rows = [line.split(",") for line in lines]
     return [[int(word) - 1 for word in row[:3]] for row in rows], [Fraction(r[3]) for r in rows]
+
+
+def polygons_of(text):
+    """The numbers of the polygons of each face of a table, by the face."""
+    rows = [line.split(",") for line in text.splitlines()[1:]]
+    return {turned([int(word) - 1 for word in row[:3]]): list(map(int, row[4].split()))
+            for row in rows}
 
 
 def read_numbered(text):
@@ -197,6 +232,8 @@ def read_geojson(text):
     expect(parsed["type"] == "FeatureCollection", "geojson: its type")
     rings = []
     for feature in parsed["features"]:
+        if feature["geometry"]["type"] == "LineString":
+            continue
         expect(feature["geometry"]["type"] == "Polygon", "geojson: a polygon")
         (ring,) = feature["geometry"]["coordinates"]
         expect(len(ring) == 4 and ring[0] == ring[3], "geojson: a closed ring")
@@ -261,7 +298,9 @@ def check_forms(name, drawing, walls, faces, words, text):
         if len(drawing.texts[0]) > 2:
             expect([p[2] for p in at] == [Fraction(t[2]) for t in drawing.texts], f"{name}: heights")
         expect(sorted(turned(f) for f in found) == wanted, f"{name}: {form} has other faces")
-        if wanted:
+        same_shapes(f"{name}: walls of {form}", walls_of(form, said), walls)
+        # meshio reads no edges of PLY
+        if wanted and not (form == "ply" and walls):
             MESHES.append((said, form, (len(points), len(wanted))))
     found, areas = read_table(run([*words, "--to", "csv"], text)[0])
     expect(sorted(map(turned, found)) == wanted, f"{name}: csv has other faces")
@@ -275,6 +314,7 @@ def check_forms(name, drawing, walls, faces, words, text):
     said, _ = run([*words, "--to", "geojson"], text)
     rings = read_geojson(said)
     same_shapes(f"{name}: geojson", rings, [[points[k] for k in face] for face in wanted])
+    same_shapes(f"{name}: lines", walls_of("geojson", said), [[points[k] for k in w] for w in walls])
     check_read_back(name, rings, said)
     check_picture(name, drawing, walls, wanted, run([*words, "--to", "svg"], text)[0])
 
@@ -282,8 +322,8 @@ def check_forms(name, drawing, walls, faces, words, text):
 def check_read_back(name, rings, text):
     """Faces that were written as GeoJSON are read as rings, which are faces of their points."""
     points, faces = read_obj(run(["--from", "geojson", "-q"], text)[0])
-    expect([p[:2] for p in points] == [corner for ring in rings for corner in ring],
-           f"{name}: other points are read back")
+    corners = [corner for ring in rings for corner in ring]
+    expect([p[:2] for p in points][:len(corners)] == corners, f"{name}: other points are read back")
     found = {tuple(sorted(points[k][:2] for k in face)) for face in faces}
     expect(all(tuple(sorted(ring)) in found for ring in rings), f"{name}: a ring is no face")
 
@@ -312,6 +352,9 @@ def check_read(name, drawing, words, text):
     faces = expected_faces(points, walls, written)
     check_forms(name, drawing, walls, faces, words, text)
     inside = kept(points, walls, faces, drawing.inner, within_holes(drawing, faces))
+    check_forms(f"{name}, layers", drawing, walls, inside, [*words, "--keep", "layers"], text)
+    if drawing.polygons:
+        inside = {face for face, polygons in in_polygons(drawing, faces).items() if polygons}
     check_forms(f"{name}, inside", drawing, walls, inside, [*words, "--keep", "inside"], text)
     return written
 
@@ -497,14 +540,24 @@ def check_inside(name, text):
                       [[[number[places[k]] for k in ring] for ring in polygon]
                        for polygon in drawing.polygons])
     words = ["--from", "geojson", "-q"]
-    written, inside = ([[number[places[k]] for k in face]
-                        for face in read_obj(run([*words, *keep], text)[0])[1]]
-                       for keep in ((), ("--keep", "inside")))
+    written, layers, inside = ([[number[places[k]] for k in face]
+                                for face in read_obj(run([*words, *keep], text)[0])[1]]
+                               for keep in ((), ("--keep", "layers"), ("--keep", "inside")))
     walls = pieces(drawing.whole, drawing.segments)
     faces = expected_faces(drawing.whole, walls, written)
-    wanted = kept(drawing.whole, walls, faces, (), within_holes(drawing, faces))
     expect(len(written) == len(faces), f"{name}: all faces")
-    expect({turned(face) for face in inside} == wanted and len(inside) == len(wanted), name)
+    wanted = kept(drawing.whole, walls, faces, (), within_holes(drawing, faces))
+    expect(sorted(map(turned, layers)) == sorted(wanted), f"{name}: layers")
+    polygons = in_polygons(drawing, faces)
+    wanted = {face for face, numbers in polygons.items() if numbers}
+    expect(sorted(map(turned, inside)) == sorted(wanted), f"{name}: inside")
+    said = polygons_of(run([*words, "--compact", "--to", "csv"], text)[0])
+    expect(said == polygons, f"{name}: {said}, not {polygons}")
+    features = json.loads(run([*words, "--to", "geojson"], text)[0])["features"]
+    said = [feature["properties"]["polygon"] for feature in features
+            if feature["geometry"]["type"] == "Polygon"]
+    wanted = [polygons[turned(face)] for face in written]
+    expect(said == [it[0] if len(it) == 1 else it for it in wanted], f"{name}: properties")
 
 
 def check_holes():
@@ -523,7 +576,8 @@ def check_holes():
     # a ring with no area has nothing within
     flat = multi_polygon([[[[0, 0], [9, 0], [9, 9], [0, 9]], [[2, 2], [4, 4], [6, 6]]]])
     words = ["--from", "geojson", "-q"]
-    expect(run([*words, "--keep", "inside"], flat) == run(words, flat), "a ring with no area")
+    for keep in "inside", "layers":
+        expect(run([*words, "--keep", keep], flat) == run(words, flat), "a ring with no area")
 
 
 def check_geojson():
@@ -555,7 +609,7 @@ def check_geojson():
 FAULTS = [
     # the words, the text, and what is told
     ([], "", "line 1: the file ends where a header is expected"),
-    ([], "a,b\n1,2\n", "line 1: there is no column named x: --x gives its name\n"),
+    ([], "a,b\n1,2\n", "line 1: there is no column named x: --x gives its name; the header is "),
     ([], "x,z\n1,2\n", "line 1: there is no column named y"),
     ([], "x,y\n1,2\n3\n", "line 3: the row has more or fewer fields than the first: quote"),
     ([], "x,y\n1,2\n3,four\n", "line 3: y is not a decimal number"),
@@ -585,8 +639,9 @@ FAULTS = [
     (["--from", "node"], "1 2 0 0\n1 0 y\n", "line 2: y is not a decimal number"),
     (["--from", "poly"], "2 2 0 0\n1 0 0\n2 1 1\n1 0\n1 1 3\n", "line 5: point 3 is used here"),
     (["--from", "poly"], "2 2 0 0\n1 0 0\n2 1 1\n1 0\n1 1 b\n", "line 5: a segment's end is not"),
-    (["--from", "poly"], "4 2 0 0\n1 0 0\n2 2 2\n3 0 2\n4 2 0\n2 0\n1 1 2\n2 3 4\n0\n",
-     "line 8: the segment crosses that of line 7"),
+    (["--from", "poly", "--crossing", "refuse"],
+     "4 2 0 0\n1 0 0\n2 2 2\n3 0 2\n4 2 0\n2 0\n1 1 2\n2 3 4\n0\n",
+     "line 8: the segment crosses that of line 7 at 1,1\n"),
     ([], 'x,y,note\n1,2,"a\n3,4,b\n5,6,c\n', "line 2: the quoted field that begins here does not"),
     ([], 'x,y\n0,0\n1,"' + "2\n" * 40000, "line 3: the quoted field that begins here does not end"),
     ([], '\ufeff"x,y\n' + "1,2\n" * 20000, "line 1: the quoted field that begins here does"),
@@ -598,7 +653,7 @@ GEOJSON_FAULTS = [
     ("", "line 1: the file ends where more of it is expected"),
     ('{"type":"Point",\n"coordinates":[1,2]\n\n', "line 2: the file ends where more of it"),
     ('{"type":"Point",\n"coordinates":[1 2]}', "line 2: this is not JSON, or it nests"),
-    ('{"type":"Point","coordinates":[1,2]}\n{}', "line 2: the end of the file is expected here"),
+    ('{"type":"Point","coordinates":[1,2]}\n{}', "line 2: the object has no member named type"),
     ('{"type":"Point","coordinates":[1,\n"2"]}', "line 2: y is missing"),
     ('{"type":"Point","coordinates":[1]}', "line 1: y is missing"),
     ('{"type":"Point","coordinates":[1,2,"3"]}', "line 1: a number is expected here"),
@@ -630,8 +685,6 @@ GEOJSON_FAULTS = [
     ('{"type":"FeatureCollection","features":[{"type":"Feature","geometry":'
      '{"type":"Point","coordinates":[0,0]}},{"type":"Feature","geometry":'
      '{"type":"Point","coordinates":[2e9,0]}}]}', "line 1, feature 2: x is too far from the others"),
-    ('{"type":"MultiLineString","coordinates":[[[0,0],[2,2]],\n[[0,2],[2,0]]]}',
-     "line 2: the segment crosses that of line 1"),
     ("[1,2]", "line 1: an object of GeoJSON is expected here"),
     ('{"a":' + "[" * 100000, "line 1: this is not JSON, or it nests more than 128 deep"),
     ('{"type":"GeometryCollection","geometries":[' * 200, "it nests more than 128 deep"),
@@ -656,8 +709,8 @@ def check_faults():
 def check_choices():
     """Crossing segments that are left out, rounded numbers, repeated points, few points."""
     text = "4 2 0 0\n1 0 0\n2 2 2\n3 0 2\n4 2 0\n2 0\n1 1 2\n2 3 4\n0\n"
-    said, error = run(["--from", "poly", "--skip-crossing", "--to", "svg"], text)
-    expect("line 8: the segment crosses that of line 7, and is left out" in error, error)
+    said, error = run(["--from", "poly", "--crossing", "skip", "--to", "svg"], text)
+    expect("line 8: the segment crosses that of line 7 at 1,1, and is left out" in error, error)
     expect(len(read_svg(said)[1]) == 1, "one of two crossing segments")
     said, error = run(["--round", "1"], "x,y\n0.04,0\n1.25,-1.25\n0,7e-30\n")
     expect("standard input: rounded 4 numbers to 1 digits behind the point, by at most 0.05\n"
@@ -717,27 +770,156 @@ def check_crossings():
     words = ["--from", "poly", "--to", "ele"]
     for segments, pairs in CROSSED:
         text = crossing_poly(segments)
-        told = [f"mesh: standard input: line {line}: the segment crosses that of line {other}"
+        told = [f"mesh: standard input: line {line}: the segment crosses that of line {other} at "
                 for line, other in pairs]
-        error = run(words, text, 1)[1]
-        expect(error == told[0] + "\n", error)
-        error = run([*words, "--skip-crossing"], text)[1]
+        error = run([*words, "--crossing", "refuse"], text, 1)[1]
+        expect(re.fullmatch(re.escape(told[0]) + r"\d,\d\n", error), error)
+        error = run([*words, "--crossing", "skip"], text)[1]
         lines = [line for line in error.splitlines() if "crosses" in line]
-        expect(lines == [line + ", and is left out" for line in told], error)
-        expect(not run([*words, "--skip-crossing", "-q"], text)[1], "--quiet")
+        expect([re.sub(r"\d,\d, and is left out$", "", line) for line in lines] == told, error)
+        expect(not run([*words, "--crossing", "skip", "-q"], text)[1], "--quiet")
     with tempfile.TemporaryDirectory() as folder:
         for name, text in (("points.csv", "x,y,line\n0,0,a\n4,4,a\n0,4,\n4,0,\n"),
                            ("lines.csv", "from,to\n3,4\n")):
             with open(f"{folder}/{name}", "w") as file:
                 file.write(text)
-        error = run(["--lines", f"{folder}/lines.csv", f"{folder}/points.csv"], status=1)[1]
+        words = ["--crossing", "refuse", "--lines", f"{folder}/lines.csv"]
+        error = run([*words, f"{folder}/points.csv"], status=1)[1]
         expect(f"{folder}/lines.csv: line 2: the segment crosses that of line 3 of "
-               f"{folder}/points.csv" in error, error)
+               f"{folder}/points.csv at 2,2\n" in error, error)
     line = '{"type":"Feature","geometry":{"type":"LineString","coordinates":%s}}'
     text = ('{"type":"FeatureCollection","features":[' + line % "[[0,0],[2,2]]" + ",\n"
             + line % "[[0,2],[2,0]]" + "]}")
-    error = run(["--from", "geojson"], text, 1)[1]
-    expect("line 2, feature 2: the segment crosses that of line 1, feature 1" in error, error)
+    error = run(["--from", "geojson", "--crossing", "refuse"], text, 1)[1]
+    expect("line 2, feature 2: the segment crosses that of line 1, feature 1 at 1,1\n" in error,
+           error)
+
+
+# Segments a list, points a side of the grid, words, and how far a path may go from its segment.
+SPLITS = [
+    (80, 5, 4, ["--round", "0"], Fraction(3, 2)), (60, 9, 8, ["--round", "0"], Fraction(2)),
+    (20, 20, 20, ["--round", "0"], Fraction(5, 2)), (60, 6, 9, [], Fraction(1, 10 ** 7)),
+    (20, 16, 1000, [], Fraction(1, 10 ** 5)),
+]
+
+
+def are_joined(pairs, start, end):
+    """Whether a path of these pairs leads from one position to another."""
+    seen, due = {start}, [start]
+    while due:
+        at = due.pop()
+        for pair in pairs:
+            if at in pair:
+                other = pair[pair[0] == at]
+                if other not in seen:
+                    seen.add(other)
+                    due.append(other)
+    return end in seen
+
+
+def off_2(a, b, p):
+    """The squared distance of a point from a segment."""
+    way, to = (b[0] - a[0], b[1] - a[1]), (p[0] - a[0], p[1] - a[1])
+    part, whole = way[0] * to[0] + way[1] * to[1], way[0] ** 2 + way[1] ** 2
+    if part <= 0 or part >= whole:
+        return min(distance_2(a, p), distance_2(b, p))
+    return Fraction(side(a, b, p) ** 2, whole)
+
+
+def check_split(text, told, ends, heights, words, reach):
+    """No constraint of a mesh crosses another or goes over a vertex; a path of constraints near to
+    each segment joins its ends; faces tile the hull of the points; new heights are between others."""
+    said, error = run([*words, "--to", "obj"], text)
+    points, faces = read_obj(said)
+    at = [point[:2] for point in points]
+    expect(at[:len(told)] == told, f"{told}: the points that there were")
+    walls = [(at[a], at[b]) for a, b in walls_of("obj", said)]
+    for (a, b), (c, d) in combinations(walls, 2):
+        crosses = side(a, b, c) * side(a, b, d) < 0 and side(c, d, a) * side(c, d, b) < 0
+        expect(not crosses, f"{told}: {a} {b} crosses {c} {d}")
+    expect(not any(carries(a, b, p) for a, b in walls for p in at), f"{told}: a wall over a point")
+    for a, b in ends:
+        near = [pair for pair in walls if all(off_2(a, b, p) <= reach ** 2 for p in pair)]
+        expect(a == b or are_joined(near, a, b), f"{told}: {a} and {b} are not joined")
+    corners = [[at[k] for k in face] for face in faces]
+    expect(all(side(*face) > 0 for face in corners), f"{told}: faces turn left")
+    expect(sum(side(*face) for face in corners) == twice_hull(at), f"{told}: faces tile the hull")
+    expect(all(min(heights) <= point[2] <= max(heights) for point in points), f"{told}: heights")
+    found = re.search(r"; both are split there \((\d+) such, by at most (\S+)\)\n", error)
+    expect(bool(found) == (len(at) > len(told) or "split" in error), error)
+    expect(not found or Fraction(found[2]) <= reach, error)
+
+
+def check_splits():
+    """Random segments that cross, split: on whole numbers, and with all digits that there are."""
+    for lists, count, grid, words, reach in SPLITS:
+        for seed in range(lists):
+            chance = random.Random(seed)
+            told = [(chance.randint(0, grid), chance.randint(0, grid)) for _ in range(2 * count)]
+            heights = [chance.randint(-9, 9) for _ in told]
+            text = "x,y,z,line\n" + "".join(f"{x},{y},{z},{k // 2}\n" for k, ((x, y), z)
+                                            in enumerate(zip(told, heights)))
+            check_split(text, told, list(zip(told[::2], told[1::2])), heights, words, reach)
+    text = "x,y,z,line\n0,0,0,a\n4,4,8,a\n0,4,1,b\n4,0,3,b\n1,0,5,c\n1,4,5,c\n"
+    said, error = run([], text)
+    told = "standard input: line 5: the segment crosses that of line 3 at 2,2; both are split there"
+    expect(f"mesh: {told} (3 such, by at most 0)\n" in error, error)
+    expect(read_obj(said)[0][6:] == [(2, 2, 2), (1, 1, 5), (1, 3, 5)], said)
+    expect(not run(["-q"], text)[1], "--quiet")
+    said = run(["-q", "--to", "node"], "x,y,line\n0,0,a\n3,1,a\n0,1,b\n3,0,b\n1,2,\n")[0]
+    expect(said.splitlines()[-1] == "6 1.5 0.5", said)
+    said = run(["-q", "--to", "node", "--round", "0"], "x,y,line\n0,0,a\n3,1,a\n0,1,b\n3,0,b\n")[0]
+    expect(said.splitlines()[-1] == "5 2 1", said)
+
+
+# A hole that a line cuts a corner off, polygons that overlap, and one that crosses itself; by
+# features, and how many times the area of a unit each number has, doubled.
+CROSSED_POLYGONS = [
+    ([[[[0, 0], [9, 0], [9, 9], [0, 9]], [[3, 3], [6, 3], [3, 6]]]], [[2, 4], [5, 1]], {1: 153}),
+    ([[[[0, 0], [6, 0], [6, 6], [0, 6]]], [[[3, 3], [9, 3], [9, 9], [3, 9]]]], [[1, 8], [8, 1]],
+     {1: 72, 2: 72}),
+    ([[[[0, 0], [8, 8], [8, 0], [0, 8]]]], [[-1, 2], [9, 3]], {1: 64}),
+    ([[[[0, 0], [7, 0], [7, 7], [0, 7]], [[2, -1], [3, -1], [3, 8], [2, 8]]]], [[1, 1], [6, 5]],
+     {1: 88}),
+]
+
+
+def check_polygons():
+    """Faces of polygons that segments cross: their areas, by the numbers of their polygons."""
+    for polygons, line, doubled in CROSSED_POLYGONS:
+        features = [{"type": "Polygon", "coordinates": [ring + ring[:1] for ring in polygon]}
+                    for polygon in polygons] + [{"type": "LineString", "coordinates": line}]
+        text = json.dumps({"type": "FeatureCollection", "features": [
+            {"type": "Feature", "properties": None, "geometry": it} for it in features]})
+        for rule in "split", "skip":
+            words = ["-q", "--crossing", rule, "--to", "csv", "--compact"]
+            found = {}
+            said = run(words, text)[0]
+            faces, areas = read_table(said)
+            for face, area in zip(faces, areas):
+                for number in polygons_of(said)[turned(face)]:
+                    found[number] = found.get(number, 0) + 2 * area
+            near = all(abs(found[number] - doubled[number]) < Fraction(1, 10 ** 6)
+                       for number in doubled)
+            expect(found.keys() == doubled.keys() and (near or rule == "skip"), f"{text}: {found}")
+            inside = read_table(run([*words, "--keep", "inside"], text)[0])[0]
+            wanted = [face for face in faces if polygons_of(said)[turned(face)]]
+            expect(inside == wanted, f"{text}: inside")
+    layers = read_table(run(["-q", "--keep", "layers", "--to", "csv"], text)[0])[0]
+    expect(layers and len(layers) >= len(inside), "layers")
+    rings = "x,y,ring\n0,0,a\n4,0,a\n4,4,a\n0,4,a\n2,2,b\n6,2,b\n6,6,b\n2,6,b\n"
+    said = polygons_of(run(["-q", "--to", "csv", "--keep", "inside"], rings)[0])
+    expect(sorted(map(tuple, said.values())).count((1, 2)) == 2, said)
+
+
+def check_compact():
+    """Points that repeat others are left out, and those that are left are numbered."""
+    text = "x,y,z,ring\n0,0,1,a\n0,0,2,\n4,0,3,a\n4,0,4,\n4,4,5,a\n"
+    points, faces = read_obj(run(["--compact"], text)[0])
+    expect(points == [(0, 0, 1), (4, 0, 3), (4, 4, 5)] and list(map(turned, faces)) == [(0, 1, 2)],
+           "compact")
+    expect(run(["--compact", "-q", "--to", "node"], text)[0]
+           == "3 2 1 0\n1 0 0 1\n2 4 0 3\n3 4 4 5\n", "compact nodes")
 
 
 def check_columns():
@@ -756,6 +938,369 @@ def check_columns():
                 file.write(table)
         error = run(["--lines", f"{folder}/lines.csv", f"{folder}/points.csv"])[1]
     expect("mesh: left out: note, column 4, size, kind\n" in error, error)
+
+
+def asking(words, option, asked, text):
+    """What the program answers about points, as rows of a table, and what it tells."""
+    with tempfile.NamedTemporaryFile("w", suffix=".csv") as file:
+        file.write(asked)
+        file.flush()
+        said, error = run([*words, option, file.name], text)
+    return list(csv.reader(io.StringIO(said))), error
+
+
+def square(x, y, size=4):
+    return [[[x, y], [x + size, y], [x + size, y + size], [x, y + size], [x, y]]]
+
+
+def feature(polygon, properties):
+    return {"type": "Feature", "properties": properties,
+            "geometry": {"type": "Polygon", "coordinates": polygon}}
+
+
+def collection(*features):
+    return json.dumps({"type": "FeatureCollection", "features": features})
+
+
+# two squares that overlap in another of side 2, and one beside them
+STATES = [feature(square(0, 0), {"name": "Berlin", "of": [1, {"a": "}"}], "size": 12.5}),
+          feature(square(2, 2), {"size": None, "name": 'B "ü"\\, x'}),
+          feature(square(10, 0), None)]
+
+
+def check_properties():
+    """Faces have the numbers and properties of their polygons, and answers those of what they name."""
+    text = collection(*STATES)
+    first, second = ({key: value for key, value in state["properties"].items() if value is not None}
+                     for state in STATES[:2])
+    said, error = run(["--to", "geojson"], text)
+    expect("left out" not in error, error)
+    found = [one["properties"] for one in json.loads(said)["features"]
+             if one["geometry"]["type"] == "Polygon"]
+    expect({"polygon": 1, **first} in found and {"polygon": 2, **second} in found, said)
+    expect({"polygon": [1, 2], "properties": [first, second]} in found, said)
+    expect({"polygon": 3} in found and {"polygon": []} in found, said)
+    expect(len({json.dumps(one) for one in found}) == 5, said)
+    table = list(csv.reader(io.StringIO(run(["-q", "--to", "csv"], text)[0])))
+    expect(table[0] == ["a", "b", "c", "area", "polygon", "name", "of", "size"], table)
+    quoted = 'B "ü"\\, x'
+    expect({tuple(row[4:]) for row in table[1:]} == {
+        ("1", "Berlin", '[1, {"a": "}"}]', "12.5"), ("2", quoted, "", ""), ("3", "", "", ""),
+        ("1 2", f"Berlin;{quoted}", '[1, {"a": "}"}];', "12.5;"), ("", "", "", "")}, table)
+    asked = "x,y\n1,0.7\n3.1,3.3\n8,1.1\n50,50\n0,2\n11,1.3\n"
+    rows, error = asking([], "--locate", asked, text)
+    expect("left out" not in error and rows[0]
+           == ["x", "y", "on", "a", "b", "c", "z", "polygon", "name", "of", "size"], rows)
+    expect([(row[2], row[7], row[8]) for row in rows[1:]] == [
+        ("face", "1", "Berlin"), ("face", "1 2", f"Berlin;{quoted}"), ("face", "", ""),
+        ("outside", "", ""), ("edge", "1", "Berlin"), ("face", "3", "")], rows)
+    rows, _ = asking(["-q"], "--nearest", "x,y\n1,0.7\n2.1,2.2\n", text)
+    expect([(row[2], row[5]) for row in rows[1:]] == [("1", "Berlin"), ("5", quoted)], rows)
+    clash = collection(feature(square(0, 0), {"polygon": "P"}))
+    expect('"polygon_number":1,"polygon":"P"' in run(["-q", "--to", "geojson"], clash)[0], "a clash")
+    alone = json.dumps(feature(square(0, 0), {"name": "alone"}))
+    expect('"polygon":1,"name":"alone"' in run(["-q", "--to", "geojson"], alone)[0], "one feature")
+    own = '{"properties":{"name":"all"},' + text[1:]
+    expect(run(["-q", "--to", "csv"], own)[0] == run(["-q", "--to", "csv"], text)[0], "of all")
+    sequence = "\n".join(map(json.dumps, STATES))
+    expect(run(["-q", "--to", "csv"], sequence)[0] == run(["-q", "--to", "csv"], text)[0], "sequence")
+    expect("left out: properties" in run([], text)[1], "properties are told where nothing has them")
+
+
+def check_records():
+    """Answers have the columns of the table, and faces those of their ring's first row."""
+    places = 'name,x,y,note\nBerlin,0,0,"a, ""b"""\nPotsdam,4,0,\n\nRom,0,4,7\n'
+    rows, error = asking([], "--nearest", "x,y\n1,0\n0,5\n", places)
+    expect(rows == [["x", "y", "point", "distance", "distance_2", "name", "note"],
+                    ["1", "0", "1", "1", "1", "Berlin", 'a, "b"'],
+                    ["0", "5", "3", "1", "1", "Rom", "7"]] and "left out" not in error, rows)
+    rows, _ = asking(["-q"], "--locate", "x,y\n4,0\n1,1\n", places)
+    expect([row[2:] for row in rows[1:]] == [["point", "2", "", "", "", "Potsdam", ""],
+                                            rows[2][2:6] + ["", "", ""]], rows)
+    spaced = "x;y;name\n0,5;0;a b\n4;0;c\n"
+    rows, _ = asking(["-q"], "--nearest", "x,y\n0,0\n", spaced)
+    expect(rows[1] == ["0", "0", "1", "0.5", "0.25", "a b"], rows)
+    rings = "x,y,ring,owner\n0,0,a,Ann\n4,0,a,\n4,4,a,\n6,0,b,Bo\n9,0,b,\n9,3,b,\n"
+    table = list(csv.reader(io.StringIO(run(["-q", "--keep", "inside", "--to", "csv"], rings)[0])))
+    expect(table[0] == ["a", "b", "c", "area", "polygon", "ring", "owner"]
+           and sorted(row[3:] for row in table[1:])
+           == [["4.5", "2", "b", "Bo"], ["8", "1", "a", "Ann"]], table)
+    expect("left out: owner" in run([], rings)[1], "columns that no face has")
+    said = json.loads(run(["-q", "--to", "geojson", "--keep", "inside"], rings)[0])["features"]
+    expect({"polygon": 2, "ring": "b", "owner": "Bo"} in [one["properties"] for one in said], said)
+    latin = b"x,y,name\n0,0,K\xf6ln\n1,0,b\n"
+    rows, _ = asking(["-q"], "--nearest", "x,y\n0,0\n", latin)
+    expect(rows[1][5] == "K\ufffdln", rows)
+    back = "x,y,ring\n0,0,a\n4,0,a\n4,4,a\n6,0,b\n9,0,b\n9,3,b\n0,9,a\n4,9,a\n4,12,a\n"
+    error = run([], back)[1]
+    expect("line 8: the ring a ended before; this is another (1 such)" in error, error)
+    expect("ended before" not in run([], rings)[1], "no ring comes back")
+
+
+def check_regions():
+    """Regions of a .poly file are polygons, with their attributes."""
+    regions = "2\n1 1 0.7 7.5 0.1\n2 3.1 2.5 -3\n"
+    text = room().poly() + regions
+    said, error = run(["--from", "poly", "--to", "csv"], text)
+    table = list(csv.reader(io.StringIO(said)))
+    expect(table[0][3:] == ["area", "polygon", "attribute"] and "regions" not in error, error)
+    found = {}
+    for row in table[1:]:
+        found[tuple(row[4:])] = found.get(tuple(row[4:]), 0) + Fraction(row[3])
+    # the room without its holes, the first hole, and the rest: the second hole and what is outside
+    expect(found == {("1", "7.5"): Fraction(96 - 4) - Fraction(9, 2), ("2", "-3"): 4,
+                     ("", ""): Fraction(9, 2) + 12}, found)
+    inside = run(["-q", "--from", "poly", "--to", "csv", "--keep", "inside"], text)[0]
+    expect({row[4] for row in csv.reader(io.StringIO(inside))} == {"polygon", "1", "2"}, inside)
+    rows, _ = asking(["-q", "--from", "poly"], "--locate", "x,y\n3.1,2.5\n0,0\n8.5,4.1\n", text)
+    expect([row[7:] for row in rows[1:]] == [["2", "-3"], ["1", "7.5"], ["", ""]], rows)
+    expect("left out: attributes of regions" in run(["--from", "poly"], text)[1], "regions")
+
+
+def check_overlaps():
+    """Overlaps of polygons and gaps between them, with their areas and places."""
+    states = [feature(square(0, 0), {"name": "A"}), feature(square(2, 2), {"name": "B"}),
+              feature([*square(10, 0, 8), *square(12, 2)], {"name": "C"}),
+              feature(square(13, 3, 2), {"name": "D"})]
+    said, error = run(["--overlaps"], collection(*states))
+    rows = list(csv.reader(io.StringIO(said)))
+    expect(rows[0] == ["kind", "polygon", "area", "x", "y", "name"], rows)
+    # D is within the hole of C, and leaves a gap round it
+    expect(sorted(row[:3] + row[5:] for row in rows[1:])
+           == [["gap", "3 4", "12", "C;D"], ["overlap", "1 2", "4", "A;B"]], rows)
+    for kind, numbers, _, x, y, _ in rows[1:]:
+        p = Fraction(x), Fraction(y)
+        found = [number for number, it in enumerate(states, 1)
+                 if sum(is_within(ring[:-1], p) for ring in it["geometry"]["coordinates"]) % 2]
+        expect(found == ([] if kind == "gap" else [1, 2]), f"{kind} at {p}: {found}")
+    expect("mesh: 1 overlaps, 1 gaps" in error, error)
+    expect(run(["-q", "--overlaps"], collection(states[0]))[0] == f"{','.join(rows[0])}\n", "one")
+    expect("--overlaps: the input has no polygons" in run(["--overlaps"], "x,y\n0,0\n", 1)[1], "no")
+    # squares of a board: every second one is missing, and those within are gaps
+    board = "x,y,ring\n" + "".join(
+        f"{x},{y},r{i}{j}\n" for i in range(7) for j in range(7) if (i + j) % 2 == 0
+        for x, y in ((i, j), (i + 1, j), (i + 1, j + 1), (i, j + 1)))
+    rows = list(csv.reader(io.StringIO(run(["-q", "--overlaps"], board)[0])))[1:]
+    expect({(row[0], row[2], len(row[1].split())) for row in rows} == {("gap", "1", 4)}, rows)
+    within = [(i, j) for i in range(1, 6) for j in range(1, 6) if (i + j) % 2]
+    expect(sorted((int(float(row[3])), int(float(row[4]))) for row in rows) == within, rows)
+
+
+def geometry(kind, coordinates):
+    return {"type": kind, "coordinates": coordinates}
+
+
+ROOM = geometry("Polygon", [[[0, 0], [9, 0], [9, 9], [0, 9], [0, 0]],
+                            [[3, 3], [6, 3], [6, 6], [3, 6], [3, 3]]])
+GRID = [(x, y) for y in range(3) for x in range(3)]
+PARTS = """9 2 0 0
+1 0 0
+2 9 0
+3 9 9
+4 0 9
+5 3 3
+6 6 3
+7 6 6
+8 3 6
+9 1 5
+8 0
+1 1 2
+2 2 3
+3 3 4
+4 4 1
+5 5 6
+6 6 7
+7 7 8
+8 8 5
+1
+1 4 5
+1
+1 1 2 17 0.5
+"""
+
+# The smallest of each kind of file that people have: the words, the text, and how many vertices and
+# faces come of it. With n vertices, h of them on the hull, all faces are 2 n - 2 - h.
+KINDS = {
+    "a coast whose ring is open":
+        ([], json.dumps(geometry("Polygon", [[[0, 0], [4, 1], [5, 5], [1, 4]]])), 4, 2),
+    "two countries with one border": ([], collection(
+        feature(square(0, 0), {"name": "A"}), feature(square(4, 0), {"name": "B"})), 6, 4),
+    "two countries that overlap": ([], collection(*STATES[:2]), 10, 12),
+    "tracts with more digits than fit": ([], "x,y\n-122.419416612345678901,37.774929512345678901\n"
+                                         "-122.42,37.78\n-122.41000000000000000001,37.8\n", 3, 1),
+    "a building with a court": (["--keep", "inside"], json.dumps(ROOM), 8, 8),
+    "a building whose court is a garden": (["--keep", "inside"], collection(
+        feature(ROOM["coordinates"], None), feature(square(3, 3, 3), None)), 8, 10),
+    "an elevation grid": ([], "".join(f"{x}   {y} {x + y}.5\n" for x, y in GRID), 9, 8),
+    "an elevation grid without data in the middle": (["--nodata", "-9999"], "".join(
+        f"{x} {y} {-9999 if (x, y) == (1, 1) else 5}\n" for x, y in GRID), 8, 6),
+    "survey points with tabs": ([], "name\tx\ty\tz\na b\t0\t0\t1\nc\t4\t0\t2\nd\t0\t4\t3\n", 3, 1),
+    "decimal commas": ([], "x;y;z\n0,5;0;1,25\n4,5;0;2\n0,5;4;3\n", 3, 1),
+    "longitudes and latitudes": ([], "id,lat,lon\n1,52.5,13.4\n2,48.1,11.6\n3,50.9,6.9\n", 3, 1),
+    "eastings in millimetres": ([], "easting,northing,height\n32500000.123,5700000.456,1.5\n"
+                                "32500100.124,5700000.457,2\n32500000.125,5700100.458,3\n", 3, 1),
+    "columns of other names": (["--x", "e", "--y", "n", "--z", "h"],
+                               "p,n,e,h\n1,0,0,1\n2,0,4,1\n3,4,0,1\n", 3, 1),
+    "no header": ([], "0,0,1\n4,0,1\n0,4,1\n4,4,2\n", 4, 2),
+    "a header with a comma at its end": ([], "x,y,\n0,0,\n4,0,\n0,4,\n", 3, 1),
+    "a byte order mark and other line ends": ([], "\ufeffx,y\r\n0,0\r\n4,0\r\n0,4\r\n", 3, 1),
+    "contours": ([], json.dumps(geometry("MultiLineString", [
+        [[0, 0, 10], [9, 1, 10]], [[0, 5, 20], [9, 6, 20]]])), 4, 2),
+    "a table of geometries": ([], 'id;wkt\n1;"POLYGON((0 0,4 0,4 4,0 4,0 0))"\n2;POINT(9 9)\n', 5, 4),
+    "a sequence of features": ([], "\n".join(map(json.dumps, STATES)), 14, 18),
+    "a sequence with separators": ([], "".join(
+        f"\x1e{json.dumps(state)}\n" for state in STATES[2:]), 4, 2),
+    "a collection of geometries": ([], json.dumps({"type": "GeometryCollection", "geometries": [
+        geometry("Point", [9, 9]), geometry("LineString", [[0, 0], [4, 0]]), ROOM]}), 9, 11),
+    "a feature without geometry": ([], collection(
+        {"type": "Feature", "geometry": None, "properties": {}}, STATES[0]), 4, 2),
+    "parts of Triangle": (["--from", "poly", "--keep", "inside"], PARTS, 9, 10),
+    "points of Triangle": (["--from", "node"], "3 2 1 0\n0 0 0 5\n1 4 0 5\n2 0 4 6\n", 3, 1),
+    "a ring that crosses itself": ([], "x,y,ring\n0,0,a\n4,4,a\n4,0,a\n0,4,a\n", 5, 4),
+    "walls that cross, touch and repeat": ([], "x,y,line\n0,0,a\n4,4,a\n4,0,b\n0,4,b\n0,0,c\n4,4,c\n"
+                                           "2,2,d\n2,0,d\n", 6, 5),
+    "a bad row": (["--skip-bad"], "x,y\n0,0\n4,0\nn/a,n/a\n0,4\n", 3, 1),
+}
+
+
+def check_nested():
+    """Segments of one line that overlap are the pieces that they cover; many of them take time in
+    proportion."""
+    chance = random.Random(3)
+    for _ in range(60):
+        points = [(chance.randint(0, 9), chance.choice((0, 0, 5))) for _ in range(8)]
+        segments = [(chance.randrange(8), chance.randrange(8)) for _ in range(7)]
+        texts = [(f"{x}", f"{y}") for x, y in points]
+        text = Drawing(texts, [(a, b) for a, b in segments if points[a][1] == points[b][1]]).poly()
+        first = {}
+        for place, point in enumerate(points):
+            first.setdefault(point, place)
+        wanted = {tuple(sorted(first[points[k]] for k in pair))
+                  for pair in pieces(points, [(a, b) for a, b in segments
+                                              if points[a][1] == points[b][1]])}
+        found = walls_of("obj", run(["--from", "poly", "-q"], text)[0])
+        expect({tuple(sorted(wall)) for wall in found} == wanted, f"{text}: {found}, not {wanted}")
+    times = []
+    for count in 1000, 8000:
+        lines = "".join(f"{count - k},0,a{k}\n{9 * count + k},0,a{k}\n" for k in range(count))
+        before = resource.getrusage(resource.RUSAGE_CHILDREN).ru_utime
+        error = run([], f"x,y,line\n{lines}5,7,\n")[1]
+        times.append(resource.getrusage(resource.RUSAGE_CHILDREN).ru_utime - before)
+        expect(f"{2 * count + 1} vertices, {2 * count - 1} faces, {2 * count - 1} constraints" in error,
+               error)
+    expect(times[1] < 24 * times[0] + 0.5, f"nested segments: {times}")
+
+
+def check_kinds():
+    """Each kind of file goes in, and has the vertices and faces that it should have."""
+    for name, (words, text, vertices, faces) in KINDS.items():
+        error = run(words, text)[1]
+        expect(f"mesh: {vertices} vertices, {faces} faces, " in error, f"{name}: {error}")
+
+
+def check_kept_answers():
+    """Questions are answered for the faces that are kept."""
+    room_text = room().poly()
+    words = ["-q", "--from", "poly", "--keep", "layers"]
+    asked = "x,y\n3.1,2.5\n0.5,0.7\n2,2\n3,2\n-1,0\n13,4.1\n15,4\n"
+    rows, _ = asking(words, "--locate", asked, room_text)
+    expect([row[2] for row in rows[1:]]
+           == ["outside", "face", "point", "edge", "outside", "outside", "outside"], rows)
+    rows, _ = asking(["-q", "--from", "poly"], "--locate", asked, room_text)
+    expect([row[2] for row in rows[1:]]
+           == ["face", "face", "point", "edge", "outside", "face", "point"], rows)
+    way = ["--line", "1", "2.6", "5", "3.5"]
+    every = run(["-q", "--from", "poly", *way], room_text)[0].splitlines()
+    some = run([*words, *way], room_text)[0].splitlines()
+    left = [line for line in every if line not in some]
+    expect(some == [line for line in every if line not in left] and len(left) == 1, left)
+    expect(set(left[0].split(",")[1:]) in ({"5", "7"}, {"6", "8"}), left)
+
+
+def check_skipping():
+    """Bad rows and features are errors, or are left out and told of."""
+    table = 'x,y,note\n0,0,\n4,zero,\n4,0,"a\nb"\n0,1e999,\n5,5,6,7\n0,4,\n'
+    expect("line 3: y is not a decimal number" in run([], table, 1)[1], "a bad row")
+    said, error = run(["--skip-bad"], table)
+    expect(read_obj(said)[0] == [(0, 0, 0), (4, 0, 0), (0, 4, 0)], said)
+    for told in ("line 3: y is not a decimal number; left out", "line 6: y has more than 17 digits",
+                 "line 7: the row has more or fewer fields"):
+        expect(f"standard input: {told}" in error, error)
+    expect(not run(["-q", "--skip-bad"], table)[1], "--quiet")
+    clean = "x,y\n0,0\n4,0\n0,4\n"
+    expect(run(["--skip-bad"], clean) == run([], clean), "nothing is bad")
+    expect("no column named y" in run(["--skip-bad"], "x\n0\n", 1)[1], "a bad header")
+    bad = feature([[[0, 0], [1, 1], [0, 0]]], None)
+    text = collection(STATES[0], bad, STATES[2]).replace('{"type": "Feature"', '\n{"type": "Feature"')
+    expect("line 3, feature 2: this ring has fewer than three corners" in run([], text, 1)[1], "ring")
+    said, error = run(["--skip-bad", "--to", "csv", "--keep", "inside"], text)
+    expect("line 3, feature 2: this ring has fewer than three corners" in error
+           and "; left out\n" in error, error)
+    expect({row[4] for row in csv.reader(io.StringIO(said))} == {"polygon", "1", "3"}, said)
+    expect("the file ends where more of it is expected" in run(["--skip-bad"], text[:-3], 1)[1],
+           "broken JSON")
+    grid = "x,y,z\n0,0,5\n1,0,-9999\n2,0,6.5\n0,2,-9999.0\n1,3,7\n"
+    said, error = run(["--nodata", "-9999"], grid)
+    expect(read_obj(said)[0] == [(0, 0, 5), (2, 0, Fraction(13, 2)), (1, 3, 7)], said)
+    expect("2 points without data are left out" in error, error)
+    expect("--nodata: none is not a decimal number" in run(["--nodata", "none"], grid, 1)[1], "nodata")
+
+
+# geometries as text, and what GeoJSON calls them
+GEOMETRIES = [
+    ("POINT (30 10)", "Point", [30, 10]), ("point z(3 1 7)", "Point", [3, 1, 7]),
+    ("LINESTRING (3 1,1 3, 4 4)", "LineString", [[3, 1], [1, 3], [4, 4]]),
+    ("SRID=4326;POLYGON((0 0,8 0,8 8,0 8,0 0),(1 1,1 2,2 2,1 1))", "Polygon",
+     [[[0, 0], [8, 0], [8, 8], [0, 8], [0, 0]], [[1, 1], [1, 2], [2, 2], [1, 1]]]),
+    ("MULTIPOINT (1 4, 4 3)", "MultiPoint", [[1, 4], [4, 3]]),
+    ("MULTIPOINT ((1 4), (4 3))", "MultiPoint", [[1, 4], [4, 3]]),
+    ("MULTILINESTRING ((1 1, 2 2),(4 4, 3 3.))", "MultiLineString",
+     [[[1, 1], [2, 2]], [[4, 4], [3, 3.0]]]),
+    ("MULTIPOLYGON (((0 0,4 0,0 4,0 0)),((9 9,9 8,8 9,9 9)))", "MultiPolygon",
+     [[[[0, 0], [4, 0], [0, 4], [0, 0]]], [[[9, 9], [9, 8], [8, 9], [9, 9]]]]),
+    ("POLYGON ZM ((0 0 1 5,4 0 2 6,0 4 .5 7,0 0 1 8))", "Polygon",
+     [[[0, 0, 1], [4, 0, 2], [0, 4, 0.5], [0, 0, 1]]]),
+    ("LINESTRING M (0 0 1,+4 -.5 2)", "LineString", [[0, 0], [4, -0.5]]),
+]
+
+
+def check_geometries():
+    """Tables with a column of geometries are read as GeoJSON of them."""
+    for text, kind, coordinates in GEOMETRIES:
+        for table in f'id,WKT\n7,"{text}"\n', f'id\tWKT\n7\t{text}\n':
+            shape = {"type": kind, "coordinates": coordinates}
+            wanted = collection({"type": "Feature", "properties": {"id": 7}, "geometry": shape})
+            for form in "obj", "geojson":
+                found, error = run(["--to", form, "--keep", "layers"], table)
+                named = [re.sub(r"\.0\b", "", it)
+                         for it in (found, run(["-q", "--to", form, "--keep", "layers"], wanted)[0])]
+                expect(named[0] == named[1], f"{table!r}: {named}")
+    states = "wkt;name\nPOLYGON((0 0,4 0,4 4,0 4,0 0));Berlin\n\nPOINT EMPTY;\n;\n" \
+             '"POLYGON((9 0,9 4,5 4,9 0))";"Po;ts"\n'
+    rows, _ = asking(["-q"], "--locate", "x,y\n1,2\n8,3\n", states)
+    expect([(row[7], row[8]) for row in rows[1:]] == [("1", "Berlin"), ("4", "Po;ts")], rows)
+    for wrong in "CURVE (0 0)", "POINT", "POINT (1)", "POINT (1 x)", "POLYGON ((0 0,1 1)", "POINT(1,)":
+        table = f'wkt,a\n"POINT (0 0)",1\n"{wrong}",2\n'
+        error = run([], table, 1)[1]
+        expect("line 3: a point, a line or a polygon of WKT is expected" in error, error)
+        said, error = run(["--skip-bad"], table)
+        expect(read_obj(said)[0] == [(0, 0, 0)] and "line 3: a point, a line" in error, error)
+    error = run([], 'wkt,a\n"POLYGON((0 0,1 1,0 0))",1\n', 1)[1]
+    expect("line 2, feature 1: this ring has fewer than three corners" in error, error)
+
+
+def check_degrees():
+    """Degrees are told of where distances come out."""
+    for text, is_told in (("lon,lat\n13.4,52.5\n", True), ("x,y\n13.4,52.5\n", False),
+                          ("Longitude;Latitude\n181;0\n", False),
+                          (collection(feature(square(0, 0), None)), True),
+                          (collection(feature(square(0, 0), None))[:-1]
+                           + ', "crs": {"type": "name", "properties": {"name": "EPSG:32632"}}}', False),
+                          (collection(feature(square(300, 0), None)), False)):
+        told = asking([], "--nearest", "x,y\n0,0\n", text)[1]
+        line = "mesh: coordinates look like degrees: distances are in degrees\n"
+        expect(told.count(line) == is_told, f"{text}: {told}")
+        expect("degrees" not in run([], text)[1], text)
 
 
 def check_lines_of_input():
@@ -981,6 +1526,39 @@ FOREIGN_ENDINGS = [("shp", "a Shapefile"), ("GPKG", "a GeoPackage"), ("dxf", "a 
                    ("Laz", "a LAZ file"), ("kml", "a KML file"), ("parquet", "a Parquet file")]
 
 
+# A point, a closed line and a feature with a polygon, as sequences of GeoJSON in several spellings.
+PARTS = [
+    '{"type":"Feature","properties":{"a":"}{"},"geometry":{"type":"Point","coordinates":[5,5]}}',
+    '{ "type" : "Feature", "geometry" :\n {"type":"LineString","coordinates":[[0,0],[1,0],[0,1]]}}',
+    '{"properties":null,"type":"Feature","geometry":{"type":"Polygon","coordinates":'
+    '[[[2,0],[4,0],[2,2],[2,0]]]}}',
+]
+
+
+def check_sequences():
+    """Sequences of GeoJSON objects are read as collections of them, however they are parted."""
+    wanted = run(["--from", "geojson"], '{"type":"FeatureCollection","features":[%s]}'
+                 % ",".join(PARTS))
+    for text in ("\n".join(PARTS), "\n\n".join(PARTS) + "\n", "".join(PARTS),
+                 "".join(f"\x1e{part}\n" for part in PARTS)):
+        for words in [], ["--from", "geojson"]:
+            expect(run(words, text) == wanted, f"{text!r}")
+    geometries = [json.dumps(json.loads(part)["geometry"]) for part in PARTS]
+    expect(run([], "\n".join(geometries))[0] == wanted[0], "a sequence of geometries")
+    # a first feature that is longer than what is looked at
+    line = [[k, k * k] for k in range(3000)]
+    long = json.dumps({"type": "Feature", "properties": None,
+                       "geometry": {"type": "LineString", "coordinates": line}})
+    points, _ = read_obj(run(["-q"], f"{long}\n{PARTS[0]}\n")[0])
+    expect(len(points) == 3001, "a long feature")
+    with tempfile.NamedTemporaryFile("w", suffix=".geojsonl") as file:
+        file.write(PARTS[2].replace("null", '{"a":"%s"}' % ("b" * 9000)) + PARTS[1])
+        file.flush()
+        expect(len(read_obj(run(["-q", file.name])[0])[0]) == 6, "a name that ends in geojsonl")
+    error = run([], PARTS[0] + "\n" + PARTS[1].replace("[0,1]", "[0]"), 1)[1]
+    expect("line 3, feature 2: y is missing" in error, error)
+
+
 def check_tables():
     """Tables of other separators, with decimal commas, without a header, with columns of other
     names; files of other programs; the lines that faults are told of."""
@@ -1005,7 +1583,10 @@ def check_tables():
         row = said.splitlines()[1].split(",")
         expect((row[2], {*row[3:6]}, Fraction(row[6])) == ("face", {"1", "2", "3"}, 2),
                f"questions have no height: {said}")
+    error = run([], "\ufeffeast; north;h\n1;2;3\n", 1)[1]
+    expect(error.endswith("; the header is east; north;h\n"), error)
     error = run(["--x", "q"], "x,y\n", 1)[1]
+    expect(error.endswith("; the header is x,y\n"), error)
     expect("line 1: no column has the name that --x gives" in error, error)
     for text, told in FOREIGN:
         error = run([], text, 1)[1]
@@ -1229,6 +1810,24 @@ def check_line(name, drawing, p, q):
             expect(along(p, q, a) < along(p, q, b), f"{name}: a direction")
 
 
+def check_way(name, drawing, p, q):
+    """A way is a taut chain over points of the drawing, and there is none exactly where no chain
+    joins its ends."""
+    ends = [f"{float(n):g}" for n in (*p, *q)]
+    answer, faces = ask(drawing, ["--way", *ends], None)
+    rows = rows_of(answer, "x,y,point")
+    way = [tuple(map(Fraction, row[:2])) for row in rows]
+    points = drawing.points
+    for row, point in zip(rows, way):
+        expect(row[2] == "" or points[int(row[2]) - 1] == point, f"{name}: {row} is another point")
+    expect(all(row[2] for row in rows[1:-1]), f"{name}: the way turns at no point of the drawing")
+    sees, vertices = Sight([[points[k] for k in face] for face in faces]), set(points)
+    is_joined = shortest(p, q, vertices, sees) is not None
+    expect(bool(way) == is_joined, f"{name}: a way from {p} to {q}: {way}")
+    wrong = fault(way, p, q, vertices, sees) if way else None
+    expect(wrong is None, f"{name}: the way from {p} to {q}: {way}: {wrong}")
+
+
 def check_questions(name, drawing):
     """Questions about the points themselves, means of them, and points all round."""
     chance = random.Random(11)
@@ -1245,6 +1844,33 @@ def check_questions(name, drawing):
     for p, q in [*zip(spots, spots[5:]), (spots[0], spots[1]), (spots[1], spots[0])]:
         if p != q:
             check_line(name, drawing, p, q)
+    if len(drawing.points) < 30:
+        for p, q in zip(spots[::9], spots[5::9]):
+            check_way(name, drawing, p, q)
+
+
+# A hall of 9 by 9 with a wall from below.
+HALL = {"type": "Polygon", "coordinates": [
+    [[0, 0], [4, 0], [4, 6], [5, 6], [5, 0], [9, 0], [9, 9.5], [0, 9], [0, 0]]]}
+
+
+def check_ways_told():
+    """A way round a wall, in each form, and none."""
+    text, words = json.dumps(HALL), ["--from", "geojson", "--keep", "inside", "--way"]
+    said, _ = run(["-q", *words, "1", "1", "8", "1"], text)
+    expect(said == "x,y,point\n1,1,\n4,6,3\n5,6,4\n8,1,\n", said)
+    said, _ = run(["-q", "--to", "geojson", *words, "1", "1", "8", "1.5"], text)
+    line = {"type": "LineString", "coordinates": [[1, 1], [4, 6], [5, 6], [8, 1.5]]}
+    expect(json.loads(said) == {"type": "Feature", "properties": {}, "geometry": line}, said)
+    said, error = run([*words, "1", "1", "4.5", "1"], text)
+    expect(said == "x,y,point\n" and "mesh: there is no way from the one point" in error, error)
+    said, _ = run(["-q", "--to", "geojson", *words, "1", "1", "4.5", "1"], text)
+    expect(json.loads(said)["geometry"] is None, said)
+    _, error = run([*words, "1", "1", "one", "1"], text, 1)
+    expect("--way: x is not a decimal number" in error, error)
+    _, error = run([*words, "1", "1", "1000000003", "1000000000"], text, 1)
+    expect("--way: an end is more than 2^29 units from the middle" in error, error)
+    run(["--line", "1", "1", "2", "2", *words, "1", "1", "2", "2"], text, 2)
 
 
 ASKED_FAULTS = [
@@ -1281,6 +1907,7 @@ def check_asked_faults():
             expect(said.splitlines()[1:] == ["1,0.0000000001" + told], said)
         said, _ = run(["-q", "--line", "1", "1", "1", "-1", "-o", mesh], text)
         expect(said == "meets,a,b\ncrosses,2,1\n" and os.path.exists(mesh), said)
+    check_ways_told()
     _, error = run(["--line", "1", "1", "one", "1"], text, 1)
     expect("--line: x is not a decimal number" in error, error)
     run(["--line", "1", "1", "1"], text, 2)
@@ -1387,9 +2014,23 @@ def main():
     check_faults()
     check_choices()
     check_crossings()
+    check_splits()
+    check_polygons()
+    check_compact()
+    check_properties()
+    check_records()
+    check_regions()
+    check_overlaps()
+    check_nested()
+    check_kinds()
+    check_kept_answers()
+    check_skipping()
+    check_geometries()
+    check_degrees()
     check_hole_points()
     check_spellings()
     check_long_numbers()
+    check_sequences()
     check_tables()
     check_more_forms()
     check_far_questions()

@@ -46,6 +46,11 @@ RINGS = "x,y,ring,note\n0,0,a,one\n9,0,a,\n9,9,a,\n0,9,a,\n3,3,b,\n6,3,b,\n4,6,b
 GEOJSON = """{"type":"FeatureCollection","features":[{"type":"Feature","properties":{"a":1},
 "geometry":{"type":"Polygon","coordinates":[[[0,0],[9,0],[9,9],[0,9],[0,0]],[[2,2],[6,2],[2,6],[2,2]]]}},
 {"type":"Feature","geometry":{"type":"LineString","coordinates":[[7,7],[8,5.5],[7,3]]}}]}"""
+# Lines that cross, with heights; and a sequence of polygons that overlap and repeat a point.
+LINES = "x,y,z,line\n0,0,0,a\n4,4,8,a\n0,4,1,b\n4,0,3,b\n1,0,5,c\n1,4,5,c\n"
+PARCELS = """{"type":"Polygon","coordinates":[[[0,0],[6,0],[6,6],[0,6],[0,0]]]}
+{"type":"Polygon","coordinates":[[[6,6],[3,9],[3,3],[6,6]],[[5,6],[4,6],[4,5],[5,6]]]}
+"""
 ASKED = "x,y\n1,1\n0,0\n-5,4.125\n4.5,0\n"
 # The words, the text and, if any, the table that the words end in.
 RUNS = [
@@ -54,6 +59,8 @@ RUNS = [
     (["--from", "csv", "--keep", "inside", "--to", "ply"], RINGS, None),
     (["--from", "geojson", "--keep", "inside", "--to", "svg"], GEOJSON, None),
     (["--from", "geojson", "--to", "geojson"], GEOJSON, None),
+    (["--from", "csv", "--to", "obj"], LINES, None),
+    (["--from", "geojson", "--keep", "inside", "--compact", "--to", "csv"], PARCELS, None),
     (["--from", "csv", "--to", "node", "--lines"], RINGS, "from,to\n1,5\n8,4\n"),
     (["--from", "csv", "-q", "--nearest"], RINGS, ASKED),
     (["--from", "poly", "-q", "--locate"], POLY, ASKED),

@@ -70,7 +70,7 @@ typedef enum tevasulim_status {
     TEVASULIM_IS_CONSTRAINED = 5,  /* the call is for plain triangulations alone */
     TEVASULIM_UNEQUAL_LENGTHS = 6, /* two lists that go together have different lengths */
     TEVASULIM_TOO_LARGE = 7,       /* a coordinate is out of range */
-    TEVASULIM_NEGATIVE = 8,        /* a squared radius is negative */
+    TEVASULIM_NEGATIVE = 8,        /* a squared radius or width is negative */
     TEVASULIM_NO_SUCH_VERTEX = 9,  /* there is no vertex with this index */
     TEVASULIM_NO_SUCH_POINT = 10,  /* a segment names a point that is not in the list */
     TEVASULIM_CROSSING = 11,       /* a constraint crosses the segment */
@@ -363,6 +363,33 @@ tevasulim_status tevasulim_way(tevasulim_triangulation *self, const tevasulim_po
                                const tevasulim_point *to, const uint8_t *is_free,
                                size_t free_count, tevasulim_point *points, size_t room,
                                size_t *length);
+
+/* Writes a label for each face, by index: TEVASULIM_NONE for a face that is not free; and two free
+ * faces have the same label exactly where `tevasulim_way` joins each point of the one with each
+ * point of the other. So one call answers for any two points whether there is a way. The labels are
+ * 0, 1 and so on, in the order of the first faces that have them. Face f is free where is_free[f]
+ * is not 0. TEVASULIM_UNEQUAL_LENGTHS: `free_count` is not the number of faces.
+ * TEVASULIM_TOO_SHORT. TEVASULIM_OUT_OF_MEMORY. */
+tevasulim_status tevasulim_reachable(tevasulim_triangulation *self, const uint8_t *is_free,
+                                     size_t free_count, uint32_t *labels, size_t room,
+                                     size_t *length);
+
+/* Writes a flag for each face, by index: 1 where the face is free and the square of each of its
+ * three heights is `width_2` or more, which is found exactly; and else 0. Such a face is wide
+ * enough for a disc with the squared diameter `width_2`. `tevasulim_way`, `tevasulim_reachable` and
+ * `tevasulim_in_sight` take these flags as their `is_free`.
+ *
+ * A disc whose centre goes straight from the middle of one side of such a face to the middle of
+ * another covers no corner of the face. That is all: a way through wide faces still goes along
+ * sides and past corners, also where two wide faces have only a corner in common, and there the
+ * disc has to keep away from the corner by itself. A face that is not wide may let the disc pass
+ * where no wall is near. Face f is free where is_free[f] is not 0.
+ *
+ * TEVASULIM_UNEQUAL_LENGTHS: `free_count` is not the number of faces. TEVASULIM_NEGATIVE: `width_2`
+ * is negative. TEVASULIM_TOO_SHORT. TEVASULIM_OUT_OF_MEMORY. */
+tevasulim_status tevasulim_wide_faces(tevasulim_triangulation *self, const uint8_t *is_free,
+                                      size_t free_count, int64_t width_2, uint8_t *flags,
+                                      size_t room, size_t *length);
 
 /* Writes the vertices in a closed shape, each once, in no promised order. TEVASULIM_NO_SUCH_KIND:
  * the shape is of no kind. TEVASULIM_TOO_LARGE: a coordinate of the shape is out of range.

@@ -274,6 +274,21 @@ public:
         });
     }
 
+    // Two free faces have the same label exactly where ways join them; other faces have `none`.
+    Status reachable(Span<std::uint8_t> is_free, std::vector<std::uint32_t> &labels) const {
+        return detail::fill(labels, is_free.size(), [&](auto... room) {
+            return tevasulim_reachable(&handle_, is_free.data(), is_free.size(), room...);
+        });
+    }
+
+    // The flags are for the `is_free` of other calls.
+    Status wide_faces(Span<std::uint8_t> is_free, std::int64_t width_2,
+                      std::vector<std::uint8_t> &flags) const {
+        return detail::fill(flags, is_free.size(), [&](auto... room) {
+            return tevasulim_wide_faces(&handle_, is_free.data(), is_free.size(), width_2, room...);
+        });
+    }
+
     Status vertices_in(Shape shape, std::vector<std::uint32_t> &vertices) const {
         return detail::fill(vertices, 64, [&](auto... room) {
             return tevasulim_vertices_in(&handle_, &shape, room...);
@@ -444,6 +459,16 @@ public:
     // Empty where there is none.
     std::vector<Point> way(Point from, Point to, Span<std::uint8_t> is_free) const {
         return found<Point>([&](auto &way) { return handle_.way(from, to, is_free, way); });
+    }
+
+    std::vector<std::uint32_t> reachable(Span<std::uint8_t> is_free) const {
+        return found<std::uint32_t>(
+            [&](auto &labels) { return handle_.reachable(is_free, labels); });
+    }
+
+    std::vector<std::uint8_t> wide_faces(Span<std::uint8_t> is_free, std::int64_t width_2) const {
+        return found<std::uint8_t>(
+            [&](auto &flags) { return handle_.wide_faces(is_free, width_2, flags); });
     }
 
     std::vector<std::uint32_t> vertices_in(Shape shape) const {

@@ -80,6 +80,8 @@ def growing_calls():
         Word("allow_constraints", lambda kept, other: kept.call("allow_constraints")),
         Word("face_layers", lambda kept, other: kept.all("face_layers", 1)[0]),
         Word("way", lambda kept, other: kept.way((0, 0), (8, 8), all_free(kept))[0]),
+        Word("reachable", lambda kept, other: kept.reachable(all_free(kept))[0]),
+        Word("wide_faces", lambda kept, other: kept.wide_faces(all_free(kept), 1)[0]),
         Word("triangulate", lambda kept, other: kept.library.status("triangulate", *drawn)),
     ]
     for kind in range(2):

@@ -67,6 +67,8 @@ CALLS = {
     "conflicts": (KEPT, *SEGMENT, *WORDS, SIZE),
     "in_sight": (KEPT, *SEGMENT, *BYTES, POINTER(c_uint32)),
     "way": (KEPT, *SEGMENT, *BYTES, *POINTS, SIZE),
+    "reachable": (KEPT, *BYTES, *WORDS, SIZE),
+    "wide_faces": (KEPT, *BYTES, c_int64, *BYTES, SIZE),
     "vertices_in": (KEPT, POINTER(Shape), *WORDS, SIZE),
     "edges_in": (KEPT, POINTER(Shape), *WORDS, SIZE),
     "triangulate": (*POINTS, *WORDS, *WORDS, SIZE, SIZE),
@@ -190,3 +192,14 @@ class Kept:
         """A status and the points of a way."""
         words = (points_of([p])[0], points_of([q])[0], *words_of(marks, c_uint8))
         return self.all("way", 2, *words, room=room, kind=c_int32)[:2]
+
+    def reachable(self, marks, room=400):
+        """A status and the label of each face."""
+        status, rows, _ = self.all("reachable", 1, *words_of(marks, c_uint8), room=room)
+        return status, [label for (label,) in rows]
+
+    def wide_faces(self, marks, width_2, room=400):
+        """A status and the flag of each face."""
+        words = *words_of(marks, c_uint8), width_2
+        status, rows, _ = self.all("wide_faces", 1, *words, room=room, kind=c_uint8)
+        return status, [flag for (flag,) in rows]

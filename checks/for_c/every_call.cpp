@@ -92,6 +92,16 @@ static void ask_with_statuses(Handle &site) {
     EXPECT(way[0].x == 0 && way[0].y == 5 && way[1].x == 9 && way[1].y == 5);
     EXPECT(site.way({0, 5}, {9, 5}, none_free, way) == TEVASULIM_OK && way.empty());
     EXPECT(site.way({0, 5}, {9, 5}, {}, way) == TEVASULIM_UNEQUAL_LENGTHS && way.empty());
+    EXPECT(site.reachable(all, found) == TEVASULIM_OK && found.size() == 10);
+    EXPECT(std::count(found.begin(), found.end(), 0u) == 10);
+    EXPECT(site.reachable(none_free, found) == TEVASULIM_OK && found.size() == 10);
+    EXPECT(std::count(found.begin(), found.end(), none) == 10);
+    EXPECT(site.reachable({}, found) == TEVASULIM_UNEQUAL_LENGTHS && found.empty());
+    std::vector<std::uint8_t> flags;
+    EXPECT(site.wide_faces(all, 1, flags) == TEVASULIM_OK && flags == all);
+    EXPECT(site.wide_faces(all, 100, flags) == TEVASULIM_OK && flags == none_free);
+    EXPECT(site.wide_faces(all, -1, flags) == TEVASULIM_NEGATIVE && flags.empty());
+    EXPECT(site.wide_faces({}, 1, flags) == TEVASULIM_UNEQUAL_LENGTHS && flags.empty());
     Handle copy;
     EXPECT(site.copy_to(site) == TEVASULIM_ALREADY_OPEN);
     EXPECT(site.copy_to(copy) == TEVASULIM_OK && copy.clear() == TEVASULIM_OK);
@@ -113,7 +123,7 @@ static void call_with_statuses() {
     std::size_t at = 0;
     EXPECT(triangulate(points, {}, faces, at) == TEVASULIM_OK && faces.size() == 10);
     EXPECT(triangulate(points, {{0, 8}}, faces, at) == TEVASULIM_NO_SUCH_POINT && at == 0);
-    const char *negative = "a squared radius is negative: it has to be 0 or more";
+    const char *negative = "a squared radius or width is negative: it has to be 0 or more";
     EXPECT(!std::strcmp(text_of(TEVASULIM_NEGATIVE), negative));
     EXPECT(tevasulim_version() == TEVASULIM_VERSION);
     std::printf("proved: %s\n", is_proved() ? "yes" : "no");
@@ -160,6 +170,7 @@ static void call_with_exceptions() {
     const auto way = site.way({0, 4}, {9, 4}, outside);
     EXPECT(way.size() >= 3 && way[0].x == 0 && way[0].y == 4);
     EXPECT(site.way({4, 4}, {9, 4}, outside).empty());
+    EXPECT(site.reachable(outside) != site.reachable(site.wide_faces(outside, 100)));
     EXPECT(site.vertices_in(circle({3, 3}, 9)).size() == 3);
     EXPECT(!site.edges_in(rectangle({8, 1}, {9, 8})).empty());
     EXPECT(refusal([&] { site.in_sight({0, 0}, {1, 1}, {}); }) == TEVASULIM_UNEQUAL_LENGTHS);

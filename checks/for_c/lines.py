@@ -146,6 +146,15 @@ class Lines:
                 self.asked.way(p, q, marks)
                 self.queries += 1
 
+    def query_wide(self, *widths_2):
+        """Which faces are wide, by some squared widths, and which of them ways join: of all faces,
+        and of those but each third."""
+        count = len(self.asked.corners)
+        for marks in [1] * count, [int(k % 3 > 0) for k in range(count)]:
+            for width_2 in widths_2:
+                self.asked.wide(marks, width_2)
+                self.queries += 1
+
     def query_circle(self, x, y, radius_2):
         self.asked.circle((x, y), radius_2)
         self.queries += 1

@@ -124,8 +124,10 @@ class List:
         if self.chance.random() < 0.02:
             marks = [self.chance.choice([0, 1, 255, 1]) for _ in self.asked.corners]
             marks += [1] * (self.chance.random() < 0.05)
-            self.say("a way through", marks)
+            width_2 = self.radius_2()
+            self.say("a way through", marks, "and the squared width", width_2)
             self.asked.way(p, q, marks)
+            self.asked.wide(marks, width_2)
 
     def run(self):
         """How many edits there were."""

@@ -11,7 +11,7 @@ from model.geometry import (
 )
 from model.places import outer_sides, place_of
 from model.session import in_range
-from model.ways import Sight, fault, shortest
+from model.ways import Sight, fault, is_wide, labels_of, shortest
 
 # Where a point is, and what a line meets, by number.
 VERTEX, EDGE, FACE, OUTSIDE, NOWHERE = range(5)
@@ -123,6 +123,27 @@ class Queries:
             is_joined = shortest(p, q, vertices, sees) is not None
             expect((status, bool(way)), ("OK", is_joined), what)
             expect(fault(way, p, q, vertices, sees) if way else None, None, f"{what}: {way}")
+
+    def wide(self, marks, width_2):
+        """Which faces with marks are wide, and the labels of these and of all with marks."""
+        status, flags = self.kept.wide_faces(marks, width_2, self.room)
+        if len(marks) != len(self.corners):
+            expect(status, "UNEQUAL_LENGTHS", "wide_faces")
+            expect(self.kept.reachable(marks, self.room)[0], "UNEQUAL_LENGTHS", "reachable")
+            return
+        self.labels(marks)
+        if width_2 < 0:
+            expect(status, "NEGATIVE", "wide_faces")
+            return
+        faces = [[self.points[i] for i in c] for c in self.corners]
+        wanted = [int(mark and is_wide(it, width_2)) for it, mark in zip(faces, marks)]
+        expect((status, flags), ("OK", wanted), f"the faces of the squared width {width_2}")
+        self.labels(flags)
+
+    def labels(self, marks):
+        """The label of each face, which tells what faces with marks share corners."""
+        wanted = [NONE if it is None else it for it in labels_of(self.corners, marks)]
+        expect(self.kept.reachable(marks, self.room), ("OK", wanted), f"the labels by {marks}")
 
     def free(self, marks):
         """The corners of each face with a mark."""

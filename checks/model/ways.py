@@ -1,9 +1,11 @@
 """Ways through free faces, by brute force: which positions see each other, how long the shortest
-chain of positions is, and what is wrong with a way. Numbers are exact, but for lengths."""
+chain of positions is, what is wrong with a way, which triangles are wide, and which of them ways
+join. Numbers are exact, but for lengths."""
 import heapq
 from math import dist
 
 from model.floor import is_in_sight
+from model.geometry import distance_2, side
 
 
 class Sight:
@@ -49,3 +51,29 @@ def fault(way, start, end, vertices, sees):
     if any(map(sees, way, way[2:])):
         return "it is not taut"
     return None
+
+
+def is_wide(corners, width_2):
+    """Whether the square of each height of a triangle is at least so much."""
+    a, b, c = corners
+    longest_2 = max(distance_2(a, b), distance_2(b, c), distance_2(c, a))
+    return side(a, b, c) ** 2 >= width_2 * longest_2
+
+
+def labels_of(faces, marks):
+    """The label of each face, by which those with marks are joined that share a corner, and none of
+    each other face. The labels are in the order of the first faces that have them."""
+    labels, count = [None] * len(faces), 0
+    free = [f for f, mark in enumerate(marks) if mark]
+    for first in free:
+        if labels[first] is not None:
+            continue
+        labels[first], left = count, [first]
+        while left:
+            here = set(faces[left.pop()])
+            for f in free:
+                if labels[f] is None and here.intersection(faces[f]):
+                    labels[f] = count
+                    left.append(f)
+        count += 1
+    return labels

@@ -12,7 +12,7 @@ SURFACE = {
     "Many vertices, and lists of edits": "InsertAll BulkInsertion BulkInsertionError Edit Outcome "
     "Replayable *delaunay_journal",
     "Location, lines and sight": "PositionInTriangulation LineIntersectionIterator Intersection "
-    "ConflictingEdgesIterator HasMesh FreeFaces *delaunay_shapes *delaunay_ways",
+    "ConflictingEdgesIterator HasMesh FreeFaces WideFaces *delaunay_shapes *delaunay_ways",
     "Shapes": "DistanceMetric CircleMetric RectangleMetric EdgesInShapeIterator "
     "VerticesInShapeIterator",
     "Points and tests": "Point2 HasPosition SpadeNum LineSideInfo PointProjection PlaneTests "

@@ -6,7 +6,7 @@ from fractions import Fraction
 
 import numpy as np
 from tevasulim import Triangulation
-from tevasulim.errors import ClosedError
+from tevasulim.errors import ClosedError, NegativeError
 
 # A hall of 9 by 9, and a wall from below.
 HALL = [(0, 0), (9, 0), (9, 9), (0, 9), (4, 0), (5, 0), (5, 6), (4, 6)]
@@ -57,6 +57,27 @@ def are_joined(start, end, points, triangles):
     return end in reached
 
 
+def are_wide(triangles, width_2):
+    """Whether the square of each height of each triangle is at least so much."""
+    longest_2 = ((triangles - np.roll(triangles, 1, 1)) ** 2).sum(2).max(1)
+    return np.array([turn(*it) ** 2 for it in triangles]) >= width_2 * longest_2
+
+
+def labels(corners, free):
+    """The label of each face, where free faces are joined over corners that they share."""
+    found = np.full(len(corners), -1)
+    for face in np.flatnonzero(free):
+        if found[face] < 0:
+            reached = np.isin(np.arange(len(corners)), face)
+            while True:
+                more = free & np.isin(corners, corners[reached]).any(1)
+                if (more == reached).all():
+                    break
+                reached = more
+            found[reached] = found.max() + 1
+    return found
+
+
 class Ways(unittest.TestCase):
     def check(self, tri, start, end, free):
         """One way beside brute force, and whether there is one."""
@@ -73,6 +94,14 @@ class Ways(unittest.TestCase):
         self.assertFalse(any(sees(p, q, triangles) for p, q in zip(way, way[2:])), way)
         return True
 
+    def check_parts(self, tri, free, radius):
+        """The labels of free faces and of those that are wide, beside brute force."""
+        self.assertEqual(tri.reachable(free).tolist(), labels(tri.simplices, free).tolist())
+        wide = free & are_wide(tri.points[tri.simplices], 4 * radius**2)
+        self.assertEqual(tri.wide_faces(radius, free).tolist(), wide.tolist())
+        wanted = labels(tri.simplices, wide).tolist()
+        self.assertEqual(tri.reachable(free, radius).tolist(), wanted)
+
     def test_random_rooms(self):
         chance, found = random.Random(94), []
         places = list(itertools.product(range(0, 9, 2), repeat=2))
@@ -82,6 +111,7 @@ class Ways(unittest.TestCase):
                 free = np.array([chance.random() < 0.85 for _ in range(len(tri))], bool)
                 ends = [chance.choice(near if chance.random() < 0.3 else places) for _ in range(2)]
                 found.append(self.check(tri, *ends, free))
+                self.check_parts(tri, free, chance.choice([0, 0.5, 1, 1.5, 2]))
         self.assertTrue(15 < sum(found) < 65, f"{sum(found)} ways")
 
     def test_round_a_wall(self):
@@ -103,6 +133,38 @@ class Ways(unittest.TestCase):
                 wanted = np.array([(1, 1), (4, 6), (5, 6), (8, 1)]) * unit
                 np.testing.assert_allclose(way, wanted)
 
+    def test_a_gap_and_discs(self):
+        """Each face beside the gap between the wall and the hall's side is 3 high at least."""
+        gap = [(0, 0), (9, 0), (9, 9), (0, 9), (4, 0), (5, 0), (5, 6), (4, 6)]
+        with Triangulation(gap, WALL) as tri:
+            free = ~tri.faces_inside(gap[4:])
+            self.assertEqual(set(tri.reachable(free).tolist()), {-1, 0})
+            for radius, is_open in (0, True), (0.25, True), (5, False), (float("inf"), False):
+                way = tri.way((1, 1), (8, 1), free, radius=radius)
+                self.assertEqual(way is not None, is_open, radius)
+                wide = tri.wide_faces(radius, free)
+                self.assertEqual(wide.dtype, bool)
+                self.assertEqual(bool(wide.any()), is_open)
+                self.assertEqual(tri.reachable(wide).max(), 0 if is_open else -1)
+
+    def test_units_of_a_radius(self):
+        """A height of 0.3 is wide enough for a radius of 0.15, and not for the next float."""
+        strip = np.array([(0, 0), (9, 0), (3, 3)]) / 10
+        for named in {}, {"scale": 10}:
+            with Triangulation(strip, **named) as tri:
+                self.assertEqual(tri.wide_faces(0.15).tolist(), [True])
+                self.assertEqual(tri.wide_faces(np.nextafter(0.15, 1)).tolist(), [False])
+                self.assertEqual(tri.reachable(radius=0.16).tolist(), [-1])
+        with Triangulation([(0, 0), (9, 0), (3, 3)]) as tri:
+            self.assertEqual(tri.wide_faces(1).tolist(), [True])
+            self.assertEqual(tri.wide_faces(10**400).tolist(), [False])
+
+    def test_no_faces(self):
+        with Triangulation([(0, 0), (4, 0)]) as tri:
+            self.assertEqual(tri.reachable().tolist(), [])
+            self.assertEqual(tri.reachable(radius=2).dtype, np.int32)
+            self.assertEqual(tri.wide_faces(2, np.zeros(0, bool)).tolist(), [])
+
     def test_ends_that_are_nowhere(self):
         with Triangulation(HALL, WALL) as tri:
             for end in (10, 1), (1e30, 1), (float("nan"), 1):
@@ -115,6 +177,17 @@ class Ways(unittest.TestCase):
             for wrong in [True], np.ones(len(tri)), np.ones((len(tri), 1), bool):
                 with self.assertRaisesRegex(ValueError, "one bool for each of the 8 faces"):
                     tri.way((1, 1), (8, 1), wrong)
+                with self.assertRaisesRegex(ValueError, "one bool for each of the 8 faces"):
+                    tri.reachable(wrong)
+            for ask in tri.reachable, tri.wide_faces, lambda **it: tri.way((1, 1), (8, 1), **it):
+                with self.assertRaisesRegex(NegativeError, "the radius is -0.5"):
+                    ask(radius=-0.5)
+                with self.assertRaisesRegex(TypeError, "the radius is a bool"):
+                    ask(radius=True)
+                with self.assertRaisesRegex(ValueError, "the radius is nan"):
+                    ask(radius=float("nan"))
+            with self.assertRaises(TypeError):
+                tri.wide_faces(None)
             for wrong in (1, 2, 3), ["a", "b"], [(1, 2)]:
                 with self.assertRaises((TypeError, ValueError)):
                     tri.way(wrong, (1, 1))

@@ -5,6 +5,8 @@ stands for the float nearest to `k / scale + origin`. Both axes have one scale, 
 circles."""
 from __future__ import annotations
 
+import math
+from fractions import Fraction
 from typing import Any, NamedTuple, Optional, Tuple, Union
 
 import numpy as np
@@ -22,6 +24,8 @@ DIGITS = 15
 ROOM = 2.0
 # What is farther out is taken to be so far: its square is still a float.
 HUGE = 1e150
+# No face has a height of so many steps.
+WIDE = 2**31
 # A sample of so many rows rules out most powers of ten.
 SAMPLE = 64
 
@@ -119,6 +123,21 @@ class Grid(NamedTuple):
                 rest = np.where(is_far, beyond, rest)
                 return Asked(clipped.astype(np.int32), rest, is_far.any(-1))
         return Asked(steps.astype(np.int32), rest if rest.any() else None, None)
+
+    def width_2(self, radius: Any) -> int:
+        """The squared diameter of a disc in square steps, rounded up to a whole number where it is
+        none."""
+        value = number(radius, "the radius")
+        if value < 0:
+            raise NegativeError(f"the radius is {value}, but must not be negative")
+        width = 2 * min(value, HUGE)
+        if width * self.scale >= WIDE:
+            return WIDE**2
+        # A width of 0.3 is three steps of a tenth, although neither is such a float.
+        nearest = round(width * self.scale)
+        is_nearest = nearest / self.scale == width
+        steps = Fraction(nearest) if is_nearest else Fraction(width) * Fraction(self.scale)
+        return math.ceil(steps * steps)
 
     def squared(self, radius_2: Any) -> float:
         """A squared radius in square steps."""

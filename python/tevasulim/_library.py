@@ -91,6 +91,8 @@ CALLS = {
     "conflicts": (MESH, POINTER(POINT), POINTER(POINT), *FOUND),
     "in_sight": (MESH, POINTER(POINT), POINTER(POINT), *LIST, POINTER(c_uint32)),
     "way": (MESH, POINTER(POINT), POINTER(POINT), *LIST, *FOUND),
+    "reachable": (MESH, *LIST, *FOUND),
+    "wide_faces": (MESH, *LIST, c_int64, *FOUND),
     "vertices_in": (MESH, POINTER(Shape), *FOUND),
     "edges_in": (MESH, POINTER(Shape), *FOUND),
     "triangulate": (*LIST, *LIST, *LIST, SIZE, SIZE),

@@ -1,7 +1,7 @@
 """What constraints and polygons enclose, what is seen past them, and ways round them."""
 from __future__ import annotations
 
-from ctypes import byref, c_uint32
+from ctypes import byref, c_size_t, c_uint32
 from typing import Any, Iterable, Iterator, List, Optional
 
 import numpy as np
@@ -86,7 +86,9 @@ class Regions(Queries):
             self._call("in_sight", *words, *library.rows(flags), byref(seen))
             return bool(seen.value)
 
-    def way(self, start: Any, end: Any, free: Any = None) -> Optional[NDArray[Any]]:
+    def way(
+        self, start: Any, end: Any, free: Any = None, radius: Optional[float] = None
+    ) -> Optional[NDArray[Any]]:
         """A way from one point to another through free faces.
 
         Parameters
@@ -95,6 +97,9 @@ class Regions(Queries):
             The ends, which are rounded to the grid.
         free : array_like of bool, of shape (f,), optional
             Which faces are free. Without it all are.
+        radius : float, optional
+            Only those of them are free that `wide_faces` gives for this radius. For many ways, call
+            `wide_faces` once, and hand in what it gives as `free`.
 
         Returns
         -------
@@ -109,11 +114,14 @@ class Regions(Queries):
         ------
         ValueError
             `free` does not have one bool for each face.
+        NegativeError
+            The radius is negative.
 
         Notes
         -----
         A way may run along the sides of free faces and through their corners, also past a corner
-        at which two free faces only meet.
+        at which two free faces only meet. So it does with a radius, too: there a disc has to keep
+        away from the corner by itself.
 
         Examples
         --------
@@ -123,21 +131,93 @@ class Regions(Queries):
         >>> free = ~tri.faces_inside([(4, 0), (5, 0), (5, 6), (4, 6)])
         >>> tri.way((1, 1), (8, 1), free).tolist()
         [[1, 1], [4, 6], [5, 6], [8, 1]]
-        >>> tri.way((1, 1), (10, 1), free) is None
+        >>> tri.way((1, 1), (8, 1), free, radius=2) is None
         True
         """
         ends = ends_of(start, end)
         with self._lock:
             self._ready()
-            flags, words = self._flags(free), self._words(ends)
+            flags, words = self._flags(free, radius), self._words(ends)
             if words is None:
                 return None
             given = (*words, *library.rows(flags))
             steps = library.found(2, lambda *out: self._call("way", *given, *out))
             return self._grid_now().points(steps.view(np.int32)) if len(steps) else None
 
-    def _flags(self, free: Any) -> NDArray[np.uint8]:
-        """A flag for each face: whether it is free."""
+    def reachable(self, free: Any = None, radius: Optional[float] = None) -> Ints:
+        """int32 array of shape (f,): a label for each face, and -1 for a face that is not free. Two
+        free faces have the same label exactly where `way` joins each point of the one with each
+        point of the other. The labels are 0, 1 and so on, in the order of the first faces that have
+        them.
+
+        Parameters
+        ----------
+        free : array_like of bool, of shape (f,), optional
+            Which faces are free, as for `way`.
+        radius : float, optional
+            As for `way`.
+
+        Raises
+        ------
+        ValueError
+            `free` does not have one bool for each face.
+        NegativeError
+            The radius is negative.
+
+        Examples
+        --------
+        >>> import tevasulim
+        >>> tri = tevasulim.Triangulation([(0, 0), (9, 0), (9, 1), (0, 1)], [(0, 2)])
+        >>> tri.reachable().tolist(), tri.reachable(radius=3).tolist()
+        ([0, 0], [-1, -1])
+        """
+        with self._lock:
+            self._ready()
+            flags = self._flags(free, radius)
+            ask = lambda *out: self._call("reachable", *library.rows(flags), *out)  # noqa: E731
+            return library.found(1, ask, len(flags))[:, 0].view(np.int32).copy()
+
+    def wide_faces(self, radius: float, free: Any = None) -> NDArray[np.bool_]:
+        """bool array of shape (f,): which free faces are wide enough for a disc: those of which
+        each height is as long as its diameter, or longer. `way`, `reachable` and `is_in_sight` take
+        the array as `free`.
+
+        Parameters
+        ----------
+        radius : float
+            The radius of the disc, in the units of the points. Heights are compared exactly with
+            its diameter. For this the square of the diameter, in square steps of the grid, is
+            rounded up if it is no whole number.
+        free : array_like of bool, of shape (f,), optional
+            Which faces are free, as for `way`.
+
+        Raises
+        ------
+        ValueError
+            `free` does not have one bool for each face.
+        NegativeError
+            The radius is negative.
+
+        Notes
+        -----
+        A disc whose centre goes straight from the middle of one side of such a face to the middle
+        of another covers no corner of the face. That is all: a way through wide faces still goes
+        along sides and past corners, also where two wide faces have only a corner in common. And a
+        face that is not wide may let the disc pass where no closed face is near.
+
+        Examples
+        --------
+        >>> import tevasulim
+        >>> tri = tevasulim.Triangulation([(0, 0), (4, 0), (4, 3), (0, 3)], [(0, 2)])
+        >>> tri.wide_faces(1).tolist(), tri.wide_faces(1.5).tolist()
+        ([True, True], [False, False])
+        """
+        with self._lock:
+            self._ready()
+            return self._wide(self._flags(free), radius).astype(bool)
+
+    def _flags(self, free: Any, radius: Optional[float] = None) -> NDArray[np.uint8]:
+        """A flag for each face: whether it is free, and wide enough for a disc."""
         count = self._counts().faces
         mask = np.ones(count, bool) if free is None else unmasked(free, "the face")
         if mask.dtype != bool or mask.shape != (count,):
@@ -145,7 +225,15 @@ class Regions(Queries):
                 f"free has the type {mask.dtype} and the shape {mask.shape}, but needs one "
                 f"bool for each of the {count} faces: make it anew after each edit"
             )
-        return np.ascontiguousarray(mask, np.uint8)
+        flags = np.ascontiguousarray(mask, np.uint8)
+        return flags if radius is None else self._wide(flags, radius)
+
+    def _wide(self, flags: NDArray[np.uint8], radius: float) -> NDArray[np.uint8]:
+        """A flag for each face: whether it has one of these, and is wide enough for a disc."""
+        given = (*library.rows(flags), self._grid_now().width_2(radius))
+        wide, length = np.empty_like(flags), c_size_t()
+        self._call("wide_faces", *given, *library.rows(wide), byref(length))
+        return wide
 
     def _words(self, ends: Floats) -> Optional[List[Any]]:
         """Two points for the library, or none where one is out of range."""

@@ -1,5 +1,5 @@
 -- Ways, as C is told of them.
--- Notion: IsFound. Lemmas: images_more, images_all, way_told, no_way_told.
+-- Notion: IsFound. Lemmas: images_more, images_all, joined_same, way_told, no_way_told.
 use Rattle.std.proofs.Common.{◌≡◌, ◌∙◌, ◌+◌, ◌<◌, [], ◌∷◌, ℕ, ℤ, Bool, List, length, take, set}
 use Rattle.std.proofs.Common.{get_or, map, refl, sym, ap, subst, inl, inr, arith}
 use mathlib.Core.Path.{subst₂}
@@ -7,8 +7,7 @@ use Rattle.std.specs.Prelude.{MatchOption, None, Option, Some}
 use Rattle.std.proofs.lemmas.List.{map-append, take_all, take_more}
 use Rattle.plane.specs.{Fraction, Point, Triangulation, whole}
 use Rattle.plane_theorems.specs.Ways.Chains.{IsChain, IsJoined}
-use Rattle.delaunay_shapes.specs.{by_place}
-use Rattle.delaunay_ways.specs.Ways.{IsWay}
+use Rattle.{delaunay_shapes.specs.by_place, delaunay_ways.specs.Ways.IsWay}
 use Rattle.c_calls.specs.{is_free_face, is_marked, plain_point, raw_point, RawPoint}
 use Rattle.{c_calls.specs.Ways.IsRawWay, delaunay_core.specs.place_of, delaunay_core.specs.Point2}
 use Rattle.c_calls.proofs.{Seen.free_by_place, Seen.sight_same, Telling.IsTold, Telling.told_more}
@@ -38,7 +37,7 @@ module _ (t : Triangulation) (f g : ℕ → Bool) (same : (n : ℕ) → f n ≡ 
   chain_same p q (r ∷ rs) chain =
       (sight_same t f g same p r chain.0, chain_same r q rs chain.1)
 
-  joined_same : (p q : Fraction) → IsJoined t f p q → IsJoined t g p q
+  pub joined_same : (p q : Fraction) → IsJoined t f p q → IsJoined t g p q
   joined_same p q joined = (joined.0, chain_same p q joined.0 joined.1)
 
   way_same : (p q : Point) (points : List Point) → IsWay t f p q points → IsWay t g p q points

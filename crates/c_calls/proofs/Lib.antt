@@ -20,3 +20,5 @@ pub mod Walked
 pub mod Crossed
 pub mod Seen
 pub mod Guided
+pub mod Labels
+pub mod Widths

@@ -1,14 +1,15 @@
 -- What each call says of the triangulation that a handle has, where it has one.
-use Rattle.std.specs.Prelude.{◌≡◌, ℕ, List, Option, None, Some, MatchOption}
+use Rattle.std.specs.Prelude.{◌≡◌, ℕ, ℤ, List, Option, None, Some, MatchOption}
 use Rattle.c_calls.specs.{Answers.OpensAt, Answers.OpensCopy, declared.raw.RawMeeting.RawMeeting}
-use Rattle.c_calls.specs.{Beyond.ListsBeyond, Sight.FindsSight, Written.Answering}
+use Rattle.c_calls.specs.{Beyond.ListsBeyond, Reach.ListsLabels, Ways.FindsWay, Written.Answering}
 use Rattle.c_calls.specs.{Conflicts.FindsConflicts, declared.kept.AnyTriangulation.AnyTriangulation}
 use Rattle.c_calls.specs.Kept.{CountsKept, kept_drawing, kept_links, kept_state, kept_vertices}
 use Rattle.c_calls.specs.{declared.raw.RawCounts.RawCounts, Layers.kept_marked, Layers.ListsLayers}
 use Rattle.c_calls.specs.Queries.{FindsKeptNearest, FindsLine, IsKeptPlace, ListsNumbers}
 use Rattle.c_calls.specs.Queries.{ListsPositions, ListsRawEdges, ListsRawFaces}
 use Rattle.c_calls.specs.{declared.raw.RawEdge.RawEdge, Shapes.FindsEdgesIn, Shapes.FindsVerticesIn}
-use Rattle.c_calls.specs.{declared.raw.RawBox.RawBox, declared.raw.RawFace.RawFace, Ways.FindsWay}
+use Rattle.c_calls.specs.Sight.{FindsSight}
+use Rattle.c_calls.specs.{declared.raw.RawBox.RawBox, declared.raw.RawFace.RawFace, Wide.ListsWide}
 use Rattle.c_calls.specs.{declared.raw.RawPlace.RawPlace, declared.raw.RawSegment.RawSegment}
 use Rattle.c_calls.specs.{declared.raw.RawPoint.RawPoint, declared.raw.RawShape.RawShape}
 use Rattle.c_calls.specs.declared.statuses.TheConstants.{ALREADY_OPEN, CLOSED, WELL}
@@ -110,3 +111,11 @@ abbrev pub TellsWay : Option AnyTriangulation → RawPoint → RawPoint → List
     → List RawPoint → List RawPoint → Type 0
 TellsWay kept from to bytes status was told old new = AsksOpen ((new ≡ old) × (told ≡ was))
     (λ k. FindsWay (kept_drawing k) from to bytes status was told old new) status kept
+
+abbrev pub TellsLabels : Option AnyTriangulation → List ℕ → ℕ → ℕ → ℕ → List ℕ → List ℕ → Type 0
+TellsLabels kept bytes status was told old new = AsksOpen ((new ≡ old) × (told ≡ was))
+    (λ k. ListsLabels (kept_drawing k) bytes status was told old new) status kept
+
+abbrev pub TellsWide : Option AnyTriangulation → List ℕ → ℤ → ℕ → ℕ → ℕ → List ℕ → List ℕ → Type 0
+TellsWide kept bytes width_2 status was told old new = AsksOpen ((new ≡ old) × (told ≡ was))
+    (λ k. ListsWide (kept_drawing k) bytes width_2 status was told old new) status kept

@@ -10,6 +10,8 @@ pub mod Words
 pub mod Layers
 pub mod Sight
 pub mod Ways
+pub mod Reach
+pub mod Wide
 pub mod Conflicts
 pub mod Shapes
 pub mod Calls

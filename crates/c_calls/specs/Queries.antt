@@ -2,8 +2,8 @@
 use Rattle.std.specs.Prelude.{◌≡◌, ◌⊎◌, ◌-◌, ◌/◌, ◌==◌, if◌then◌else◌, ℕ, List, length, map}
 use Rattle.std.specs.Prelude.{Some, slice_get, IsSomeAnd}
 use Rattle.std.specs.List.{AllZip}
-use Rattle.plane.specs.{across, along, at_vertex, Face, face, HasFace, IsLineList}
-use Rattle.plane.specs.{IsNearest, Item, Joins, Point, Triangulation, whole}
+use Rattle.plane.specs.{across, along, at_vertex, Face, face, HasFace, IsLineList, IsNearest, Item}
+use Rattle.plane.specs.{Joins, Point, Triangulation, whole}
 use Rattle.{delaunay_legalization.specs.State.State, delaunay_legalization.specs.triangulation_of}
 use Rattle.delaunay_location.specs.{NoTriangulation, OnEdge, OnFace, OnVertex, OutsideOfConvexHull}
 use Rattle.{delaunay_edit.specs.FindsLocation, delaunay_location.specs.PositionInTriangulation}

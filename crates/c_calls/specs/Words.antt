@@ -16,7 +16,7 @@ status_words s =
     else if s == 6 then codes "two lists that go together have different lengths"
     else if s == 7 then
     codes "a coordinate is out of range: it is more than 2^29 or less than -2^29"
-    else if s == 8 then codes "a squared radius is negative: it has to be 0 or more"
+    else if s == 8 then codes "a squared radius or width is negative: it has to be 0 or more"
     else if s == 9 then
     codes "there is no vertex with this index: the last is the number of vertices less 1"
     else if s == 10 then

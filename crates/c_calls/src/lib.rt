@@ -18,11 +18,13 @@ mod loose;
 mod queries;
 mod query;
 mod raw;
+mod reach;
 mod shapes;
 mod sight;
 pub mod statuses;
 mod told;
 mod ways;
+mod wide;
 mod words;
 
 pub use beyond::ListBeyond;
@@ -36,7 +38,9 @@ pub use query::Query;
 pub use raw::{
     RawBox, RawCounts, RawEdge, RawFace, RawMeeting, RawPlace, RawPoint, RawSegment, RawShape,
 };
+pub use reach::ListLabels;
 pub use shapes::{Edges, InShape, Part, Vertices};
 pub use sight::LookAlong;
 pub use ways::FindWay;
+pub use wide::ListWide;
 pub use words::{ended_words_of, write_words};

@@ -29,7 +29,7 @@ pub const UNEQUAL_LENGTHS: u32 = 6;
 /// A coordinate is out of range.
 pub const TOO_LARGE: u32 = 7;
 
-/// A squared radius is negative.
+/// A squared radius or width is negative.
 pub const NEGATIVE: u32 = 8;
 
 /// An index of a vertex is out of range.

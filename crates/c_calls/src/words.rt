@@ -17,7 +17,7 @@ pub fn ended_words_of(status: u32) -> &'static str
         5 => "the triangulation is constrained: this call is for plain ones\0",
         6 => "two lists that go together have different lengths\0",
         7 => "a coordinate is out of range: it is more than 2^29 or less than -2^29\0",
-        8 => "a squared radius is negative: it has to be 0 or more\0",
+        8 => "a squared radius or width is negative: it has to be 0 or more\0",
         9 => "there is no vertex with this index: the last is the number of vertices less 1\0",
         10 => "a segment names a point that is not in the list: indexes of points start at 0\0",
         11 => "a constraint crosses the segment: leave one out, or cut both where they meet\0",

@@ -1,5 +1,5 @@
 -- Sides of free faces, as edges of the mesh that draws them.
--- Lemmas: side_is_link, link_has_side, end_exists.
+-- Lemmas: face_count, corners_named, side_is_link, link_has_side, end_exists.
 use Rattle.std.proofs.Common.{◌≡◌, ◌⊎◌, ◌+◌, ◌-◌, ◌<◌, ◌∙◌, ℕ, Bool, IsTrue, List, length}
 use Rattle.std.proofs.Common.{sym, ap, subst, inl, inr, arith}
 use Rattle.std.specs.Prelude.{slice_index_or}
@@ -8,8 +8,7 @@ use Rattle.plane.specs.{Face, Point, Triangulation}
 use Rattle.half_edge_links.specs.{face, face_edge, IsValidMesh, Mesh, next, origin, prev, rev}
 use Rattle.half_edge_links.specs.{Triangle, triangle_at, triangles}
 use Rattle.half_edge_links.proofs.{rev-rev, rev_within}
-use Rattle.plane_theorems.specs.{face_at, HasFreeFace, IsTurned}
-use Rattle.plane_theorems.specs.Ways.Links.{IsLinked}
+use Rattle.plane_theorems.specs.{face_at, HasFreeFace, IsTurned, Ways.Links.IsLinked}
 use Rattle.delaunay_legalization.specs.{corners_of, drawn}
 use Rattle.delaunay_shapes.specs.{by_place, IsFreeBeside}
 use Rattle.half_edge_links.proofs.Sound.Triangles as T
@@ -26,11 +25,11 @@ module _ (points : List Point) (m : Mesh) (s : IsValidMesh m) (free : ℕ → Bo
   no_triangle : Triangle
   no_triangle = record { first = 0; second = 0; third = 0 }
 
-  count : length t.faces ≡ length m.face_edges
-  count = length-map (triangles m) corners_of ∙ length-map m.face_edges (triangle_at m)
+  pub face_count : length t.faces ≡ length m.face_edges
+  face_count = length-map (triangles m) corners_of ∙ length-map m.face_edges (triangle_at m)
 
   -- the n-th face of the list has the corners round the edge that it names
-  corners_named : (n : ℕ) → n < length m.face_edges
+  pub corners_named : (n : ℕ) → n < length m.face_edges
       → face_at t n ≡ corners_of (triangle_at m (slice_index_or m.face_edges n 0))
   corners_named n within =
       get_or-map corners_of (triangles m) n no_triangle (D.face 0 0 0)
@@ -80,7 +79,7 @@ module _ (points : List Point) (m : Mesh) (s : IsValidMesh m) (free : ℕ → Bo
       let p = f.0 in omega (arith, i, p) in
       record {
         index = n;
-        within = subst (λ k. n < k) (sym count) inside;
+        within = subst (λ k. n < k) (sym face_count) inside;
         is_free = subst (λ k. IsTrue (free k)) (sym (back_one (face m h) f.0)) f.1;
         third = origin m (prev m h);
         corners = subst (λ (c : Face). IsTurned c.a c.b c.c (origin m h) (origin m (rev h))
@@ -99,7 +98,7 @@ module _ (points : List Point) (m : Mesh) (s : IsValidMesh m) (free : ℕ → Bo
       n = f.index
 
       inside : f.index < length m.face_edges
-      inside = subst (λ k. f.index < k) count f.within
+      inside = subst (λ k. f.index < k) face_count f.within
 
       less : f.index + 1 - 1 ≡ f.index
       less = omega arith

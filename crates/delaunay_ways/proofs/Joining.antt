@@ -4,14 +4,11 @@ use Rattle.std.proofs.Common.{◌<◌, [], ◌∷◌, ℕ, Bool, List, length, g
 use Rattle.std.specs.Prelude.{Err, IfOk, MatchOption, None, Ok, Option, Result, Some}
 use Rattle.std.proofs.lemmas.List.Elements.{Contains-get_or}
 use Rattle.plane.specs.{Fraction, TilesHull, Triangulation}
-use Rattle.plane.proofs.Segments.{end_on_segment, on_segment-same, only_point, same-refl, same-sym}
-use Rattle.plane.proofs.Segments.{start_on_segment}
-use Rattle.plane_theorems.specs.{IsInFree, IsInSight}
-use Rattle.plane_theorems.specs.Ways.Chains.{IsChain, IsJoined}
-use Rattle.plane_theorems.specs.Ways.Links.{AreApart}
+use Rattle.plane.proofs.{end_on_segment, on_segment-same, only_point, same-refl, same-sym}
+use Rattle.{plane.proofs.start_on_segment, plane_theorems.specs.Ways.Links.AreApart}
+use Rattle.plane_theorems.specs.{IsInFree, IsInSight, Ways.Chains.IsChain, Ways.Chains.IsJoined}
 use Rattle.plane_theorems.proofs.Ways.Trails.{apart_is_not_joined, path_is_chain}
-use Rattle.delaunay_ways.specs.Steps.{LeadsOver}
-use Rattle.delaunay_ways.specs.Ways.{IsPathBetween, IsSurrounded}
+use Rattle.delaunay_ways.specs.{Steps.LeadsOver, Ways.IsPathBetween, Ways.IsSurrounded}
 
 module _ (t : Triangulation) (free : ℕ → Bool) where
   -- a position at the end of a segment that is seen sees itself

@@ -5,3 +5,8 @@ pub mod FreeSides
 pub mod Spreading
 pub mod Surrounding
 pub mod Joining
+pub mod Joins
+pub mod Flooding
+pub mod Labelled
+pub mod LabelRounds
+pub mod Heights

@@ -16,10 +16,10 @@ use Rattle.std.proofs.lemmas.List.Elements.{Contains-append_right, Contains-get_
 use Rattle.std.proofs.lemmas.List.Sums.{sum_by-set}
 use Rattle.plane.specs.{IsVertex, Triangulation}
 use Rattle.plane_theorems.specs.Ways.Links.{AreApart, IsLinked, IsMarked}
-use Rattle.delaunay_ways.specs.{AreSteps, declared.leads.Lead.Lead, IsStep}
-use Rattle.delaunay_ways.specs.Search.{Begins, count_unmarked, IsMet, IsSearch, Spreads, Takes}
+use Rattle.delaunay_ways.specs.{AreSteps, Begins, count_unmarked, IsStep, Spreads}
+use Rattle.delaunay_ways.specs.Search.{IsMet, IsSearch, Takes}
 use Rattle.delaunay_ways.specs.{declared.reading.Step.Step, Steps.AreEarlier, Steps.step_at}
-use Rattle.delaunay_ways.proofs.PathsRead.{only_one}
+use Rattle.{delaunay_ways.proofs.PathsRead.only_one, delaunay_ways.specs.declared.leads.Lead.Lead}
 
 none_in : {X : Type 0} (x : X) → Contains [] x → ⊥
 none_in x c = let w = c.1 in omega (arith, w)

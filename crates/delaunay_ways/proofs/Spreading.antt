@@ -11,15 +11,12 @@ use Rattle.std.proofs.lemmas.List.Elements.{Contains-append_cases, Contains-appe
 use Rattle.plane.specs.{IsVertex, Point, Triangulation}
 use Rattle.half_edge_links.specs.{Mesh, origin, rev}
 use Rattle.half_edge_dcel.specs.{Contents}
-use Rattle.plane_theorems.specs.Ways.Links.{IsLinked}
 use Rattle.delaunay_legalization.specs.{drawn, IsTriangulated, state_of}
-use Rattle.delaunay_legalization.proofs.{IsGoingRound}
-use Rattle.delaunay_legalization.proofs.Rounds.{seen_as, round_goes_on, round_ends}
-use Rattle.delaunay_shapes.specs.{by_place}
-use Rattle.delaunay_ways.specs.declared.leads.Lead.{Lead}
-use Rattle.delaunay_ways.specs.Search.{Spreads}
-use Rattle.delaunay_ways.proofs.FreeSides.{IsSide, side_is_link, link_has_side, end_exists}
-use Rattle.delaunay_ways.proofs.PathsRead.{only_one}
+use Rattle.{delaunay_legalization.proofs.IsGoingRound, plane_theorems.specs.Ways.Links.IsLinked}
+use Rattle.delaunay_legalization.proofs.Rounds.{round_ends, round_goes_on, seen_as}
+use Rattle.{delaunay_shapes.specs.by_place, delaunay_ways.proofs.PathsRead.only_one}
+use Rattle.delaunay_ways.specs.{declared.leads.Lead.Lead, Spreads}
+use Rattle.delaunay_ways.proofs.FreeSides.{end_exists, IsSide, link_has_side, side_is_link}
 
 module _ {V D U F : Type 0} (at : V → Point) (c : Contents V D U F) (free : ℕ → Bool)
     (v before : ℕ) (old : List Lead) where

@@ -8,15 +8,13 @@ use Rattle.std.proofs.lemmas.List.{length-map}
 use Rattle.std.proofs.lemmas.List.Elements.{All-cons}
 use Rattle.plane.specs.{Face, IsVertex, Point, TilesHull, Triangulation, whole}
 use Rattle.half_edge_links.specs.{face_edge, Mesh, next, origin, prev, rev}
-use Rattle.half_edge_links.proofs.{rev_within}
-use Rattle.half_edge_dcel.specs.{Contents}
+use Rattle.{half_edge_links.proofs.rev_within, plane_theorems.proofs.Sight.Sights.in_free_by_place}
 use Rattle.plane_theorems.specs.{IsLaid}
 use Rattle.plane_theorems.proofs.Segments.Walking.LaidMeshes.{meshes_are_laid}
-use Rattle.plane_theorems.proofs.Sight.Sights.{in_free_by_place}
 use Rattle.plane_theorems.proofs.Ways.Trails.{corners_at_vertex, corners_in_face, corners_on_edge}
 use Rattle.delaunay_legalization.specs.{drawn, edges_of, faces_of, IsEmbedding, IsTriangulated}
 use Rattle.delaunay_legalization.specs.{outer_of, state_of}
-use Rattle.delaunay_legalization.proofs.{own_edges}
+use Rattle.{delaunay_legalization.proofs.own_edges, half_edge_dcel.specs.Contents}
 use Rattle.delaunay_location.specs.{Locates, NoTriangulation, OnEdge, OnFace, OnVertex}
 use Rattle.delaunay_location.specs.{OutsideOfConvexHull, PositionInTriangulation, StartsOutside}
 use Rattle.delaunay_location.proofs.Located.{outside_that_edge, without_triangulation}

@@ -9,10 +9,9 @@ use Rattle.std.proofs.lemmas.List.{drop_all, drop_more, get_or-map, get_or_appen
 use Rattle.std.proofs.lemmas.List.{length-append, length-map, map-append}
 use Rattle.std.proofs.Math.Seq.{get_or-append_seam}
 use Rattle.plane.specs.{IsVertex, place, Point, Triangulation, vertex, whole}
-use Rattle.plane_theorems.specs.{IsInSight}
-use Rattle.plane_theorems.specs.Ways.Chains.{IsChain, IsJoined}
-use Rattle.delaunay_ways.specs.Pulling.{CanGoOn, CanSkipLast, GoesOn}
-use Rattle.delaunay_ways.specs.Ways.{IsTaut, IsWay, point_at}
+use Rattle.plane_theorems.specs.{IsInSight, Ways.Chains.IsChain, Ways.Chains.IsJoined}
+use Rattle.delaunay_ways.specs.{point_at, Pulling.CanGoOn, Pulling.CanSkipLast, Pulling.GoesOn}
+use Rattle.delaunay_ways.specs.Ways.{IsTaut, IsWay}
 
 abbrev no_point : Point
 no_point = record { x = pos 0; y = pos 0 }

@@ -2,8 +2,7 @@
 use Rattle.std.specs.Prelude.{◌≡◌, ◌+◌, ◌-◌, ◌<◌, ℕ, Bool, List, length, pos, slice_index_or}
 use Rattle.std.specs.Prelude.{map, All}
 use Rattle.plane.specs.{Fraction, IsVertex, place, Point, Triangulation, vertex, whole}
-use Rattle.plane_theorems.specs.{IsInFree, IsInSight}
-use Rattle.plane_theorems.specs.Ways.Chains.{IsChain, IsJoined}
+use Rattle.plane_theorems.specs.{IsInFree, IsInSight, Ways.Chains.IsChain, Ways.Chains.IsJoined}
 use Rattle.plane_theorems.specs.Ways.Links.{AreSharedCorners}
 
 -- the point of an index (at an index past the end, (0, 0))

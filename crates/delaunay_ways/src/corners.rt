@@ -1,8 +1,7 @@
 //! The vertices round a position.
 ghost use Rattle.std.specs.Prelude.{◌≡◌, ◌<◌, ◌≤◌, [], ◌∷◌, length, MatchOption};
-ghost use Rattle.plane.specs.{whole as fraction};
 ghost use Rattle.half_edge_links.specs.{face_edge, next, origin, prev, rev};
-ghost use Rattle.delaunay_core.specs.{place_of};
+ghost use Rattle.{delaunay_core.specs.place_of, plane.specs.whole as fraction};
 ghost use Rattle.delaunay_legalization.specs.{state_of, triangulation_of};
 ghost use Rattle.delaunay_ways.specs.Ways.{IsInNone, IsSurrounded};
 
@@ -42,6 +41,42 @@ fn corners_of<V, DE, UE, F>(
     let second = edge.next().from().fix();
     let third = edge.prev_from().fix();
     [first, second, third]
+}
+
+/// The vertex where the edge that an inner face names starts.
+pub(crate) fn first_corner<V, DE, UE, F>(
+    dcel: &Dcel<V, DE, UE, F>,
+    face: FixedFaceHandle,
+) -> FixedVertexHandle
+    requires { (0 < face) × (face ≤ length dcel.now.faces) }
+    ensures value { result ≡ origin dcel.now.mesh (face_edge dcel.now.mesh face) }
+    ensures in_range { result < length dcel.now.vertices }
+{
+    dcel.face(face).adjacent_edge().from().fix()
+}
+
+/// The corner after it.
+pub(crate) fn second_corner<V, DE, UE, F>(
+    dcel: &Dcel<V, DE, UE, F>,
+    face: FixedFaceHandle,
+) -> FixedVertexHandle
+    requires { (0 < face) × (face ≤ length dcel.now.faces) }
+    ensures value { let m = dcel.now.mesh in result ≡ origin m (next m (face_edge m face)) }
+    ensures in_range { result < length dcel.now.vertices }
+{
+    dcel.face(face).adjacent_edge().next().from().fix()
+}
+
+/// The corner before it.
+pub(crate) fn third_corner<V, DE, UE, F>(
+    dcel: &Dcel<V, DE, UE, F>,
+    face: FixedFaceHandle,
+) -> FixedVertexHandle
+    requires { (0 < face) × (face ≤ length dcel.now.faces) }
+    ensures value { let m = dcel.now.mesh in result ≡ origin m (prev m (face_edge m face)) }
+    ensures in_range { result < length dcel.now.vertices }
+{
+    dcel.face(face).adjacent_edge().prev_from().fix()
 }
 
 /// Vertices that each closed face with a position has as corners: the vertex there, the ends of

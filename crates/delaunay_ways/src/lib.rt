@@ -1,13 +1,19 @@
-//! A way through free faces: a chain of positions, each in sight of the next.
+//! A way through free faces: a chain of positions, each in sight of the next. Which free faces such
+//! chains join, and which are wide enough.
 #![tactic(auto)]
 
 mod corners;
 mod distances;
+mod labels;
 mod leads;
+mod parts;
 mod reading;
 mod search;
 mod sides;
 mod taut;
 mod way;
+mod wide;
 
+pub use parts::reachable;
 pub use way::find_way;
+pub use wide::WideFaces;

@@ -3,8 +3,7 @@ ghost use Rattle.std.specs.Prelude.{map, All, IfOk, OnOk};
 ghost use Rattle.plane.specs.{InRange, IsVertex, vertex, whole as fraction};
 ghost use Rattle.{delaunay_core.specs.place_of, plane_theorems.specs.Ways.Chains.IsChain};
 ghost use Rattle.{delaunay_legalization.specs.triangulation_of, delaunay_shapes.specs.by_place};
-ghost use Rattle.delaunay_ways.specs.Pulling.{CanGoOn, GoesOn};
-ghost use Rattle.delaunay_ways.specs.Ways.{IsWay};
+ghost use Rattle.delaunay_ways.specs.{Pulling.CanGoOn, Pulling.GoesOn, Ways.IsWay};
 
 use delaunay_core::math::PlaneTests;
 use delaunay_core::point::{HasPosition, Point2};

@@ -1,8 +1,7 @@
 //! A way through free faces.
 ghost use Rattle.std.specs.Prelude.{map, All, IfOk, MatchOption};
 ghost use Rattle.plane.specs.{InRange, IsVertex, vertex, whole as fraction};
-ghost use Rattle.plane_theorems.specs.{IsInFree};
-ghost use Rattle.plane_theorems.specs.Ways.Chains.{IsChain, IsJoined};
+ghost use Rattle.plane_theorems.specs.{IsInFree, Ways.Chains.IsChain, Ways.Chains.IsJoined};
 ghost use Rattle.delaunay_core.specs.{place_of};
 ghost use Rattle.{delaunay_legalization.specs.triangulation_of, delaunay_shapes.specs.by_place};
 ghost use Rattle.delaunay_ways.specs.Ways.{IsPathBetween, IsWay};

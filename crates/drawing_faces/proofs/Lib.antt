@@ -13,3 +13,5 @@ pub mod Beside
 pub mod Keeping
 -- All steps together.
 pub mod Together
+-- Segments that were split.
+pub mod Leading

@@ -6,12 +6,15 @@ pub mod Flood
 pub mod Holes
 pub mod Sides
 pub mod Drawing
+pub mod Splitting
+pub mod Within
 pub use Drawing.{ends_of, face_of, faces_inside, indexes_at, memory_refused, RefusesDrawing}
 pub use Flood.{IsFlood, IsReached, MarkOpenFaces}
 pub use Holes.{AreIn}
 pub use Kept.{AreKept, IsLeftOut}
 pub use Names.{places_of, position}
 pub use Refusals.{HasEnds, MayTake, RefusesEnds, RefusesPoints}
+pub use Splitting.{AreLed, IsAnyPoint}
 pub use declared.edits.DrawnSegment.{DrawnSegment}
 pub use declared.error.DrawingError.{DrawingError}
 pub use declared.error.DrawingError.TheVariants.{OutOfMemory}

@@ -9,8 +9,12 @@ mod flood;
 mod holes;
 mod names;
 mod sides;
+mod splits;
+mod within;
 
 pub use drawn::{DrawnMesh, PlacedPoints, Plain, Site, place_points, triangulate_drawing};
 pub use edits::{DrawnSegment, add_segments, insert_points};
 pub use error::DrawingError;
 pub use faces::{FaceCorners, Kept, faces_inside, faces_of, kept_faces};
+pub use splits::{Lead, SegmentError, VertexPair, split_segments};
+pub use within::named_faces;

@@ -1,13 +1,19 @@
 //! The triangulation of a drawing, and what is told of it.
-use crate::crossings::first_crossed;
+use crate::crossings::{crossing_point, first_crossed};
+use crate::pieces::pieces_of;
+use crate::splitting::{SplitMesh, split_scene};
 use anyhow::{anyhow, bail};
+use decimal_numbers::Decimal;
 use delaunay_core::point::Point2;
 use delaunay_interface::Triangulation;
+use delaunay_journal::Replayable;
 use delaunay_legalization::ConstraintMarker;
 use drawing_faces::{DrawingError, DrawnMesh, DrawnSegment, Kept, triangulate_drawing};
 use half_edge_dcel::UndirectedEdgeHandle;
-use mesh_files::{Drawing, FileLine, MeshText, hole_sides};
-use mesh_io::{Scene, Task, input_name, write_mesh};
+use mesh_files::{Drawing, FacePolygons, FileLine, Form, MeshText, WrittenPoints, hole_sides};
+use mesh_io::{
+    CrossingRule, KeepRule, Question, Scene, Task, input_name, refine_scene, write_mesh,
+};
 use std::alloc::{AllocError, Global};
 use std::fmt;
 
@@ -20,8 +26,30 @@ pub struct DrawnLists<'a> {
     pub taken: &'a [bool],
     /// The faces that are kept, by the places of their corners.
     pub faces: &'a [[u32; 3]],
+    /// The polygons that each of them is in, where the drawing has polygons.
+    pub polygons: Option<FacePolygons<'a>>,
     /// How many edges are constraints.
     pub constraints: usize,
+}
+
+impl<'a> DrawnLists<'a> {
+    /// The lists of a drawing with polygons.
+    pub fn with_polygons(
+        places: &'a [u32],
+        taken: &'a [bool],
+        faces: &'a [[u32; 3]],
+        polygons: FacePolygons<'a>,
+        constraints: usize,
+    ) -> DrawnLists<'a> {
+        let polygons = Some(polygons);
+        DrawnLists {
+            places,
+            taken,
+            faces,
+            polygons,
+            constraints,
+        }
+    }
 }
 
 /// Where a segment stands in its file.
@@ -40,26 +68,52 @@ fn segment_file<'a>(task: &Task<'a>, scene: &Scene, place: usize) -> &'a str {
     }
 }
 
-/// That a segment crosses another, by where they stand, if it is known which.
+/// That a segment crosses another, by where they stand, if it is known which, and where.
 #[derive(Clone, Copy)]
-struct Crossing<'a> {
+pub struct Crossing<'a> {
     file: &'a str,
     place: FileLine,
     other: Option<(&'a str, FileLine)>,
+    at: Option<[Decimal; 2]>,
+}
+
+/// Tells which segment of a file is crossed by one of another file, or of the same.
+fn write_crossed<W: fmt::Write>(
+    f: &mut fmt::Formatter<W>,
+    file: &str,
+    other_file: &str,
+    other: FileLine,
+) -> fmt::Result {
+    write!(f, "that of {other}")?;
+    if file == other_file {
+        return Ok(());
+    }
+    write!(f, " of {other_file}")
+}
+
+/// Tells where a segment stands that crosses another.
+fn write_crossing<W: fmt::Write>(
+    f: &mut fmt::Formatter<W>,
+    file: &str,
+    place: FileLine,
+) -> fmt::Result {
+    write!(f, "{file}: {place}: the segment crosses ")
 }
 
 impl fmt::Display for Crossing<'_> {
     fn fmt<W: fmt::Write>(&self, f: &mut fmt::Formatter<W>) -> fmt::Result {
-        let (file, place) = (self.file, self.place);
-        write!(f, "{file}: {place}: the segment crosses ")?;
-        let Some((other_file, other)) = self.other else {
-            return f.write_str("another");
-        };
-        write!(f, "that of {other}")?;
-        if file == other_file {
-            return Ok(());
+        write_crossing(f, self.file, self.place)?;
+        match self.other {
+            None => f.write_str("another")?,
+            Some((file, other)) => write_crossed(f, self.file, file, other)?,
         }
-        write!(f, " of {other_file}")
+        match self.at {
+            Some(at) => {
+                let [x, y] = at;
+                write!(f, " at {x},{y}")
+            }
+            None => Ok(()),
+        }
     }
 }
 
@@ -70,11 +124,19 @@ fn crossing_of<'a>(
     place: usize,
     crossed: Option<usize>,
 ) -> Crossing<'a> {
+    let at = match crossed {
+        Some(other) => crossing_point(scene, place, other),
+        None => None,
+    };
     Crossing {
         file: segment_file(task, scene, place),
         place: segment_line(scene, place),
         other: match crossed {
             Some(other) => Some((segment_file(task, scene, other), segment_line(scene, other))),
+            None => None,
+        },
+        at: match at {
+            Some(point) => Some(scene.scaled.numbers_at(point)),
             None => None,
         },
     }
@@ -104,13 +166,28 @@ fn sides_of(sides: &[[u32; 2]], alloc: Global) -> Result<Vec<DrawnSegment>, Allo
     Ok(segments)
 }
 
-/// The sides of the drawing's rings round holes, where only the inside is kept.
-fn drawn_sides(
+/// Whether a drawing has polygons: rings, or regions.
+fn has_polygons(scene: &Scene) -> bool {
+    !scene.drawing.rings.is_empty() || !scene.regions.spots.is_empty()
+}
+
+/// Whether the faces are kept that segments close off. Where a drawing has polygons, the inside is
+/// theirs.
+fn keeps_layers(task: &Task<'_>, scene: &Scene) -> bool {
+    match task.keep {
+        KeepRule::All => false,
+        KeepRule::Inside => !has_polygons(scene),
+        KeepRule::Layers => true,
+    }
+}
+
+/// The sides of the drawing's rings round holes, where only what segments close off is kept.
+pub fn drawn_sides(
     task: &Task<'_>,
     scene: &Scene,
     alloc: Global,
 ) -> Result<Vec<DrawnSegment>, AllocError> {
-    if !task.keeps_inside {
+    if !keeps_layers(task, scene) {
         return Ok(Vec::new(alloc));
     }
     let sides = hole_sides(&scene.drawing, scene.scaled.points.as_slice(), alloc)?;
@@ -119,7 +196,7 @@ fn drawn_sides(
 
 /// Tells that a segment was left out, or gives that as an error.
 fn tell_crossing(rt: &impl Eprint, task: &Task<'_>, crossing: Crossing<'_>) -> anyhow::Result<()> {
-    if !task.skips_crossing {
+    if task.crossing != CrossingRule::Skip {
         bail!("{crossing}");
     }
     let _ = eprintln!(rt; "mesh: {crossing}, and is left out");
@@ -134,7 +211,10 @@ fn tell_crossings<T: Triangulation<Vertex = Point2<i32>>>(
     site: &T,
     taken: &[bool],
 ) -> anyhow::Result<()> {
-    if task.skips_crossing && task.is_quiet {
+    if task.crossing == CrossingRule::Split {
+        return Ok(());
+    }
+    if task.crossing == CrossingRule::Skip && task.is_quiet {
         return Ok(());
     }
     for (place, is_taken) in taken.iter().enumerate() {
@@ -179,7 +259,7 @@ fn constraint_ends<T: Triangulation<Vertex = Point2<i32>>>(
 }
 
 /// Why a drawing was not triangulated, with the line of a point in a hole.
-fn drawing_fault(task: &Task<'_>, drawing: &Drawing, error: DrawingError) -> anyhow::Error {
+pub fn drawing_fault(task: &Task<'_>, drawing: &Drawing, error: DrawingError) -> anyhow::Error {
     let name = input_name(task);
     match error {
         DrawingError::HoleTooLarge(place)
@@ -208,30 +288,123 @@ fn tell_counts(rt: &impl Eprint, points: usize, drawn: &DrawnLists<'_>) {
     let _ = eprintln!(rt; "mesh: {vertices} vertices, {faces} faces, {constraints} constraints");
 }
 
-/// The triangulation of a drawing, with the faces that are kept.
-pub fn triangulate_scene(
-    task: &Task<'_>,
-    scene: &Scene,
-    alloc: Global,
-) -> anyhow::Result<DrawnMesh> {
-    let segments = segments_of(&scene.drawing, alloc)?;
-    let sides = drawn_sides(task, scene, alloc)?;
-    let (kept, holes) = if task.keeps_inside {
+/// Which faces are kept, and the points in holes that count for that.
+pub fn kept_part<'a>(task: &Task<'_>, scene: &'a Scene) -> (Kept, &'a [Point2<i32>]) {
+    if keeps_layers(task, scene) {
         (Kept::Inside, scene.scaled.holes.as_slice())
     } else {
         (Kept::All, [].as_slice())
-    };
-    match triangulate_drawing(
-        scene.scaled.points.as_slice(),
-        segments.as_slice(),
-        holes,
-        sides.as_slice(),
-        kept,
-        alloc,
-    ) {
+    }
+}
+
+/// The triangulation of a drawing with these segments, with the faces that are kept.
+fn triangulate_segments(
+    task: &Task<'_>,
+    scene: &Scene,
+    segments: &[DrawnSegment],
+    sides: &[DrawnSegment],
+    alloc: Global,
+) -> anyhow::Result<DrawnMesh> {
+    let (kept, holes) = kept_part(task, scene);
+    let points = scene.scaled.points.as_slice();
+    match triangulate_drawing(points, segments, holes, sides, kept, alloc) {
         Ok(drawn) => Ok(drawn),
         Err(error) => Err(drawing_fault(task, &scene.drawing, error)),
     }
+}
+
+/// Whether all segments of a drawing were taken.
+fn are_all_taken(drawn: &DrawnMesh) -> bool {
+    drawn.taken.iter().all(|is_taken| *is_taken)
+}
+
+/// The triangulation of a drawing, with the faces that are kept. Segments that overlap become pieces
+/// that do not, if all of these can be taken: else each walks over all that it covers.
+fn triangulate_scene(task: &Task<'_>, scene: &Scene, alloc: Global) -> anyhow::Result<DrawnMesh> {
+    let segments = segments_of(&scene.drawing, alloc)?;
+    let sides = drawn_sides(task, scene, alloc)?;
+    let points = scene.scaled.points.as_slice();
+    if let Some(pieces) = pieces_of(points, segments.as_slice(), alloc)? {
+        let mut drawn = triangulate_segments(
+            task,
+            scene,
+            pieces.as_slice(),
+            sides.as_slice(),
+            alloc,
+        )?;
+        if are_all_taken(&drawn) {
+            drawn.taken = Vec::from_elem(alloc, true, segments.len())?;
+            return Ok(drawn);
+        }
+    }
+    triangulate_segments(task, scene, segments.as_slice(), sides.as_slice(), alloc)
+}
+
+/// The triangulation of a drawing, with the faces that are kept, on a scale with room for the points
+/// at which segments are split, if some are to be.
+pub fn triangulate_with_room(
+    task: &Task<'_>,
+    scene: &mut Scene,
+    alloc: Global,
+) -> anyhow::Result<DrawnMesh> {
+    let drawn = triangulate_scene(task, scene, alloc)?;
+    if task.crossing == CrossingRule::Skip || are_all_taken(&drawn) {
+        return Ok(drawn);
+    }
+    let digits = scene.scaled.x_scale.digits;
+    refine_scene(task, scene, alloc)?;
+    if scene.scaled.x_scale.digits == digits {
+        return Ok(drawn);
+    }
+    triangulate_scene(task, scene, alloc)
+}
+
+/// Whether it counts which polygons faces are in.
+pub fn needs_polygons(task: &Task<'_>, scene: &Scene) -> bool {
+    let is_told = match task.question {
+        Some(Question::Locate(_) | Question::Overlaps) => true,
+        _ => task.form == Some(Form::GeoJson) || task.form == Some(Form::Csv),
+    };
+    has_polygons(scene) && (is_told || task.keep == KeepRule::Inside)
+}
+
+/// The first segment that was left out, as one that crosses another.
+fn first_crossing<'a, T: Triangulation<Vertex = Point2<i32>>>(
+    task: &Task<'a>,
+    scene: &Scene,
+    site: &T,
+    taken: &[bool],
+) -> Option<Crossing<'a>> {
+    let place = taken.iter().position(|is_taken| !*is_taken)?;
+    let crossed = first_crossed(scene, site, taken, place);
+    Some(crossing_of(task, scene, place, crossed))
+}
+
+/// Splits the segments that cross, where that is asked for, tells how many times and how far that
+/// moved them, and gives what came of it.
+pub fn split_crossing<T: Replayable<Vertex = Point2<i32>>>(
+    rt: &HostRuntime,
+    task: &Task<'_>,
+    scene: &mut Scene,
+    site: &mut T,
+    names: &mut Vec<u32>,
+    taken: &[bool],
+) -> anyhow::Result<Option<SplitMesh>> {
+    site.recall_invariant();
+    if task.crossing != CrossingRule::Split {
+        return Ok(None);
+    }
+    let Some(crossing) = first_crossing(task, scene, site, taken) else {
+        return Ok(None);
+    };
+    let split = split_scene(task, scene, site, names, taken, rt.alloc())?;
+    if !task.is_quiet {
+        let (count, largest) = (split.count, split.largest(scene.scaled.x_scale.digits));
+        let _ = eprintln!(rt;
+            "mesh: {crossing}; both are split there ({count} such, by at most {largest})"
+        );
+    }
+    Ok(Some(split))
 }
 
 /// Tells what is to be told of a triangulation.
@@ -249,6 +422,25 @@ pub fn tell_drawn<T: Triangulation<Vertex = Point2<i32>>>(
     Ok(())
 }
 
+/// The places of the points of vertices, in order.
+fn written_places(places: &[u32], alloc: Global) -> Result<Vec<u32>, AllocError> {
+    let mut written = Vec::with_capacity(alloc, places.len())?;
+    written.extend_from_slice(places)?;
+    written.sort()?;
+    Ok(written)
+}
+
+/// Of each of so many points how many come before it of those at these places.
+fn ranks_of(written: &[u32], points: usize, alloc: Global) -> Result<Vec<u32>, AllocError> {
+    let mut ranks = Vec::from_elem(alloc, 0, points)?;
+    for (rank, place) in written.iter().enumerate() {
+        if let Some(entry) = ranks.get_mut(*place as usize) {
+            *entry = u32::try_from(rank).unwrap_or(u32::MAX);
+        }
+    }
+    Ok(ranks)
+}
+
 /// Writes a mesh to standard output, or to the file that is asked for.
 pub fn write_triangulated<T: Triangulation<Vertex = Point2<i32>>>(
     rt: &HostRuntime,
@@ -258,9 +450,17 @@ pub fn write_triangulated<T: Triangulation<Vertex = Point2<i32>>>(
     drawn: &DrawnLists<'_>,
 ) -> anyhow::Result<()> {
     let constraints = constraint_ends(site, drawn, rt.alloc())?;
+    let written = written_places(drawn.places, rt.alloc())?;
+    let ranks = ranks_of(written.as_slice(), scene.scaled.points.len(), rt.alloc())?;
+    let points = WrittenPoints {
+        places: written.as_slice(),
+        ranks: ranks.as_slice(),
+    };
     let text = MeshText {
         drawing: &scene.drawing,
         scaled: &scene.scaled,
+        points: if task.is_compact { Some(points) } else { None },
+        polygons: drawn.polygons,
         faces: drawn.faces,
         constraints: constraints.as_slice(),
         width: task.width,

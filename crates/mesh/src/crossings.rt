@@ -51,6 +51,31 @@ fn meeting_point(one: SegmentEnds, two: SegmentEnds) -> Option<Point2<i32>> {
     Some(Point2::new(x, y))
 }
 
+/// The coordinate nearest to that at a part of the way from one to another.
+fn nearest_part(from: i32, to: i32, part: i64, whole: i64) -> Option<i32> {
+    let way = i128::from(to).wrapping_sub(i128::from(from));
+    let whole = i128::from(whole);
+    let twice = way.wrapping_mul(i128::from(part)).wrapping_mul(2);
+    let moved = twice
+        .wrapping_add(whole)
+        .checked_div_euclid(whole.wrapping_mul(2))?;
+    i32::try_from(moved.wrapping_add(i128::from(from))).ok()
+}
+
+/// The whole coordinates nearest to where two segments of a drawing cross, by their places.
+pub fn crossing_point(scene: &Scene, place: usize, other: usize) -> Option<Point2<i32>> {
+    let (one, two) = (segment_ends(scene, place)?, segment_ends(scene, other)?);
+    let before = turned_area(two.from, two.to, one.from);
+    let behind = turned_area(two.from, two.to, one.to);
+    let (part, whole) = if before < behind {
+        (before.wrapping_neg(), behind.wrapping_sub(before))
+    } else {
+        (before, before.wrapping_sub(behind))
+    };
+    let x = nearest_part(one.from.x, one.to.x, part, whole)?;
+    Some(Point2::new(x, nearest_part(one.from.y, one.to.y, part, whole)?))
+}
+
 /// Whether two segments that cross meet in a point of the drawing, where both are cut.
 fn meet_in_vertex<T: Triangulation<Vertex = Point2<i32>>>(
     site: &T,

@@ -6,34 +6,60 @@ mod areas;
 mod building;
 mod crossings;
 mod heights;
+mod kept;
 mod nearest;
+mod overlaps;
+mod paths;
+mod pieces;
 mod places;
+mod polygons;
+mod splitting;
 mod way;
+mod ways;
 mod wide;
 
-use crate::building::{DrawnLists, tell_drawn, triangulate_scene, write_triangulated};
+use crate::building::{
+    DrawnLists, needs_polygons, split_crossing, tell_drawn, triangulate_with_room,
+    write_triangulated,
+};
+use crate::kept::KeptFaces;
 use crate::nearest::tell_nearest;
+use crate::overlaps::tell_overlaps;
+use crate::paths::Turn;
 use crate::places::tell_places;
+use crate::polygons::polygon_lists;
+use crate::splitting::SplitMesh;
 use crate::way::tell_way;
+use crate::ways::tell_way_between;
 use anyhow::bail;
 use delaunay_core::point::Point2;
 use delaunay_interface::Triangulation;
-use mesh_io::{Question, Scene, Task, command, read_scene, task_of, tell_step};
+use mesh_io::{KeepRule, Question, Scene, Task, command, read_scene, task_of, tell_step};
 use std::process::ExitCode;
 
-/// Answers a question of the triangulation with its constraints.
+/// Answers a question of the triangulation with its constraints, for the faces that are kept.
 fn answer_question<T: Triangulation<Vertex = Point2<i32>>>(
     rt: &HostRuntime,
+    task: &Task<'_>,
     question: Question<'_>,
     scene: &Scene,
     site: &T,
-    places: &[u32],
+    drawn: &DrawnLists<'_>,
 ) -> anyhow::Result<()> {
-    match question {
-        Question::Nearest(_) => Ok(()),
-        Question::Locate(_) => tell_places(rt, scene, site, places),
-        Question::Line(_) => tell_way(rt, scene, site, places),
+    if let Question::Nearest(_) = question {
+        return Ok(());
     }
+    if let Question::Overlaps = question {
+        return tell_overlaps(rt, task.is_quiet, scene, drawn);
+    }
+    if let Question::Way(_) = question {
+        return tell_way_between(rt, task, scene, site, drawn);
+    }
+    let kept = KeptFaces::of(task, drawn, rt.alloc())?;
+    if let Question::Line(_) = question {
+        return tell_way(rt, scene, site, &kept);
+    }
+    tell_places(rt, scene, site, &kept)
 }
 
 /// Tells what is to be told of a triangulation, answers the question, and writes the mesh: where
@@ -47,7 +73,7 @@ fn tell_and_write<T: Triangulation<Vertex = Point2<i32>>>(
 ) -> anyhow::Result<()> {
     tell_drawn(rt, task, scene, site, drawn)?;
     if let Some(question) = task.question {
-        answer_question(rt, question, scene, site, drawn.places)?;
+        answer_question(rt, task, question, scene, site, drawn)?;
         if task.output.is_none() {
             return Ok(());
         }
@@ -56,17 +82,65 @@ fn tell_and_write<T: Triangulation<Vertex = Point2<i32>>>(
     write_triangulated(rt, task, scene, site, drawn)
 }
 
+/// Keeps the faces in polygons, where that is asked for, and tells and writes what is asked for.
+fn keep_and_write<T: Triangulation<Vertex = Point2<i32>>>(
+    rt: &HostRuntime,
+    task: &Task<'_>,
+    scene: &Scene,
+    site: &T,
+    drawn: &DrawnLists<'_>,
+    turns: &[Turn],
+) -> anyhow::Result<()> {
+    if !needs_polygons(task, scene) {
+        return tell_and_write(rt, task, scene, site, drawn);
+    }
+    let alloc = rt.alloc();
+    let (places, taken, constraints) = (drawn.places, drawn.taken, drawn.constraints);
+    let lists = polygon_lists(scene, site, places, turns, drawn.faces, alloc)?;
+    if task.keep != KeepRule::Inside {
+        let polygons = lists.lists(&scene.records);
+        let drawn = DrawnLists::with_polygons(places, taken, drawn.faces, polygons, constraints);
+        return tell_and_write(rt, task, scene, site, &drawn);
+    }
+    let (faces, lists) = lists.within(drawn.faces, alloc)?;
+    let polygons = lists.lists(&scene.records);
+    let drawn = DrawnLists::with_polygons(places, taken, faces.as_slice(), polygons, constraints);
+    tell_and_write(rt, task, scene, site, &drawn)
+}
+
+/// The faces that are kept, and by which vertices segments go: those after a split, if there was
+/// one.
+fn kept_lists<'a>(
+    faces: &'a [[u32; 3]],
+    split: &'a Option<SplitMesh>,
+) -> (&'a [[u32; 3]], &'a [Turn]) {
+    match split {
+        Some(split) => (split.faces.as_slice(), split.turns.as_slice()),
+        None => (faces, [].as_slice()),
+    }
+}
+
 /// Triangulates a drawing, and tells and writes what is asked for.
-fn build_and_write(rt: &HostRuntime, task: &Task<'_>, scene: &Scene) -> anyhow::Result<()> {
+fn build_and_write(rt: &HostRuntime, task: &Task<'_>, scene: &mut Scene) -> anyhow::Result<()> {
     tell_step(rt, task, scene.scaled.points.len(), "triangulating");
-    let drawn = triangulate_scene(task, scene, rt.alloc())?;
+    let mut drawn = triangulate_with_room(task, scene, rt.alloc())?;
+    let split = split_crossing(
+        rt,
+        task,
+        scene,
+        &mut drawn.site,
+        &mut drawn.vertices,
+        drawn.taken.as_slice(),
+    )?;
+    let (faces, turns) = kept_lists(drawn.faces.as_slice(), &split);
     let lists = DrawnLists {
         places: drawn.vertices.as_slice(),
         taken: drawn.taken.as_slice(),
-        faces: drawn.faces.as_slice(),
+        faces,
+        polygons: None,
         constraints: drawn.site.num_constraints(),
     };
-    tell_and_write(rt, task, scene, &drawn.site, &lists)
+    keep_and_write(rt, task, scene, &drawn.site, &lists, turns)
 }
 
 /// Does what a task asks for. Which point is nearest does not depend on the segments.
@@ -75,20 +149,24 @@ fn carry_out(rt: &HostRuntime, task: &Task<'_>) -> anyhow::Result<()> {
         let name = task.output.unwrap_or("");
         bail!("{name}: no form that is written has this ending: name a form with --to");
     }
-    let scene = read_scene(rt, task)?;
+    let mut scene = read_scene(rt, task)?;
     if let Some(Question::Nearest(_)) = task.question {
         tell_nearest(rt, &scene)?;
         if task.output.is_none() {
             return Ok(());
         }
     }
-    build_and_write(rt, task, &scene)
+    build_and_write(rt, task, &mut scene)
 }
 
-/// Tells what is wrong with the command line, or what it asks to be told of it.
+/// Tells what is wrong with the command line, or what it asks to be told of it. Only what is asked
+/// for has to be written.
 fn tell_words(rt: &HostRuntime, error: &clap::Error) -> anyhow::Result<ExitCode> {
-    error.print(rt)?;
-    Ok(ExitCode::from(error.exit_code() as u8))
+    let code = error.exit_code();
+    match error.print(rt) {
+        Err(fault) if code == 0 => Err(fault.into()),
+        _ => Ok(ExitCode::from(code as u8)),
+    }
 }
 
 /// Tells what went wrong, if something did.

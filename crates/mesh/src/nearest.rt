@@ -9,7 +9,7 @@ use delaunay_interface::{DelaunayTriangulation, Triangulation};
 use drawing_faces::place_points;
 use exact_predicates::ExactTests;
 use half_edge_dcel::VertexHandle;
-use mesh_files::{Asked, Drawing, Number, Spot};
+use mesh_files::{Asked, Drawing, Named, Number, Spot};
 use mesh_io::Scene;
 use std::alloc::{AllocError, Global};
 use std::io;
@@ -107,15 +107,14 @@ fn push_nearest(
     nearest: Option<NearestPoint>,
 ) -> Result<(), AllocError> {
     let Some(nearest) = nearest else {
-        return line.push_str(",,\n");
+        return line.push_str(",,");
     };
     let number = u64::from(nearest.place) + 1;
     write!(line, "{number},")?;
     let distance = thousandths_of_root(nearest.squared);
     push_wide(line, distance, digits.saturating_add(3))?;
     line.push(',')?;
-    push_wide(line, nearest.squared, digits.saturating_mul(2))?;
-    line.push('\n')
+    push_wide(line, nearest.squared, digits.saturating_mul(2))
 }
 
 /// Where a point is that is asked about, if it is not too far to be compared.
@@ -130,18 +129,34 @@ fn wide_point(asked: Asked) -> Option<WidePoint> {
     }
 }
 
-/// Puts the nearest point to one behind a line, or that it is too far to be compared.
+/// What an answer names: the nearest point, if there is one.
+fn named(nearest: Option<NearestPoint>) -> Named<'static> {
+    match nearest {
+        Some(nearest) => Named::Point(nearest.place),
+        None => Named::Nothing,
+    }
+}
+
+/// Puts the nearest point to one behind a line, or that it is too far to be compared, and what the
+/// file says of it.
 fn push_answer<DE, UE, F, L: HintGenerator<i32>>(
     line: &mut String,
-    digits: u32,
+    scene: &Scene,
     plain: &DelaunayTriangulation<Point2<i32>, DE, UE, F, L>,
     places: &[u32],
     asked: Asked,
 ) -> Result<(), AllocError> {
-    match wide_point(asked) {
-        Some(point) => push_nearest(line, digits, nearest_to(plain, places, point)),
-        None => line.push_str("too far,,\n"),
+    let mut nearest = None;
+    if let Some(point) = wide_point(asked) {
+        nearest = nearest_to(plain, places, point);
+        push_nearest(line, scene.scaled.x_scale.digits, nearest)?;
+    } else {
+        line.push_str("too far,,")?;
     }
+    scene
+        .records
+        .push_fields(line, &scene.drawing, named(nearest))?;
+    line.push('\n')
 }
 
 fn write_nearest<W: Write, DE, UE, F, L: HintGenerator<i32>>(
@@ -151,13 +166,15 @@ fn write_nearest<W: Write, DE, UE, F, L: HintGenerator<i32>>(
     places: &[u32],
     alloc: Global,
 ) -> io::Result<()> {
-    let digits = scene.scaled.x_scale.digits;
-    writer.write_all(b"x,y,point,distance,distance_2\n")?;
     let mut line = String::new(alloc);
+    line.push_str("x,y,point,distance,distance_2")?;
+    scene.records.push_names(&mut line)?;
+    line.push('\n')?;
+    writer.write_all(line.as_bytes())?;
     for (spot, point) in scene.asked.spots.iter().zip(&scene.asked_points) {
         line.clear();
         push_spot(&mut line, &scene.asked, spot)?;
-        push_answer(&mut line, digits, plain, places, *point)?;
+        push_answer(&mut line, scene, plain, places, *point)?;
         writer.write_all(line.as_bytes())?;
     }
     writer.flush()

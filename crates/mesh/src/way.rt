@@ -1,5 +1,6 @@
 //! What the way from one point to another meets.
 use crate::building::point_place;
+use crate::kept::KeptFaces;
 use anyhow::{Context, bail};
 use delaunay_core::math::validate_vertex;
 use delaunay_core::point::Point2;
@@ -54,11 +55,26 @@ fn push_met<V, DE, UE, F>(
     }
 }
 
-/// Writes what the way between two points in range meets.
+/// Whether what a way meets is at a face that is kept.
+fn is_kept<V, DE, UE, F>(
+    kept: &KeptFaces<'_>,
+    met: &Intersection<'_, V, DE, UE, F>,
+    numbers: &mut Vec<u32>,
+) -> Result<bool, AllocError> {
+    numbers.clear();
+    match met {
+        Intersection::VertexIntersection(vertex) => kept.add_round(*vertex, numbers),
+        Intersection::EdgeIntersection(edge) | Intersection::EdgeOverlap(edge) => {
+            kept.add_beside(*edge, numbers)
+        }
+    }
+}
+
+/// Writes what the way between two points in range meets at faces that are kept.
 fn write_way<W: Write, T: Triangulation<Vertex = Point2<i32>>>(
     writer: &mut W,
     site: &T,
-    places: &[u32],
+    kept: &KeptFaces<'_>,
     from: Point2<i32>,
     to: Point2<i32>,
     alloc: Global,
@@ -69,20 +85,24 @@ fn write_way<W: Write, T: Triangulation<Vertex = Point2<i32>>>(
     }
     writer.write_all(b"meets,a,b\n")?;
     let mut line = String::new(alloc);
+    let mut numbers = Vec::new(alloc);
     for met in LineIntersectionIterator::new(site, from, to, &ExactTests) {
         line.clear();
-        push_met(&mut line, places, &met)?;
-        writer.write_all(line.as_bytes())?;
+        if is_kept(kept, &met, &mut numbers)? {
+            push_met(&mut line, kept.drawn.places, &met)?;
+            writer.write_all(line.as_bytes())?;
+        }
     }
     writer.flush()
 }
 
-/// Tells what the way between the two points that are asked about meets, in order.
+/// Tells what the way between the two points that are asked about meets, in order, at faces that
+/// are kept.
 pub fn tell_way<T: Triangulation<Vertex = Point2<i32>>>(
     rt: &HostRuntime,
     scene: &Scene,
     site: &T,
-    places: &[u32],
+    kept: &KeptFaces<'_>,
 ) -> anyhow::Result<()> {
     let [Asked::Near(from), Asked::Near(to)] = scene.asked_points.as_slice() else {
         bail!(
@@ -90,5 +110,5 @@ pub fn tell_way<T: Triangulation<Vertex = Point2<i32>>>(
         );
     };
     let mut writer = BufWriter::new(rt.alloc(), io::writer(rt))?;
-    write_way(&mut writer, site, places, *from, *to, rt.alloc()).context("standard output")
+    write_way(&mut writer, site, kept, *from, *to, rt.alloc()).context("standard output")
 }

@@ -111,6 +111,11 @@ impl Columns {
         })
     }
 
+    /// Whether a column has numbers of points.
+    pub(crate) fn is_number(&self, column: usize) -> bool {
+        column == self.x || column == self.y || self.z == Some(column)
+    }
+
     /// Whether a column is one of these.
     pub(crate) fn has(&self, column: usize) -> bool {
         let others = [self.z, self.ring, self.path];
@@ -119,7 +124,7 @@ impl Columns {
 }
 
 /// The name of a column, if a line of text can show it.
-fn shown_name(header: &ByteRecord, column: usize) -> Option<&str> {
+pub(crate) fn shown_name(header: &ByteRecord, column: usize) -> Option<&str> {
     let name = str::from_utf8(word_of(header, column)).ok()?;
     if name.is_empty() || name.chars().any(|c| c.is_control()) {
         None

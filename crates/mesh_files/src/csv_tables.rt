@@ -22,7 +22,7 @@ fn line_of(line: u64) -> u32 {
 }
 
 /// What is wrong where a record could not be read, the last before it being in this line.
-fn fault_of(error: &csv::Error, line: u32) -> FileFault {
+pub(crate) fn fault_of(error: &csv::Error, line: u32) -> FileFault {
     match error.kind() {
         ErrorKind::UnequalLengths { pos, .. } => FileFault::at(
             match pos {
@@ -63,6 +63,7 @@ impl Run {
     {
         if self.closes && !self.word.is_empty() && self.first != self.last {
             drawing.join(self.last, self.first, FileLine::of_line(self.line))?;
+            drawing.add_ring(self.first, self.last.saturating_add(1), false)?;
         }
         self.word.clear();
         Ok(())
@@ -226,7 +227,10 @@ fn read_points<R: Read>(
 }
 
 /// The header of a table.
-fn header_of<R: Read>(reader: &mut Reader<R>, alloc: Global) -> Result<ByteRecord, FileFault>
+pub(crate) fn header_of<R: Read>(
+    reader: &mut Reader<R>,
+    alloc: Global,
+) -> Result<ByteRecord, FileFault>
     ensures { IfOk result (λ header. (text : List ℕ) → HasRead R.remaining text [] reader.old
         → HasRead R.remaining text (fields_of header ∷ []) reader.new) }
 {
@@ -238,7 +242,7 @@ fn header_of<R: Read>(reader: &mut Reader<R>, alloc: Global) -> Result<ByteRecor
 }
 
 /// The reader of a table.
-fn open_table<R: Read + Drop>(text: R, alloc: Global) -> Reader<R>
+pub(crate) fn open_table<R: Read + Drop>(text: R, alloc: Global) -> Reader<R>
     ensures { IfSome (R.remaining text) (λ bytes. HasRead R.remaining bytes [] result) }
 {
     ReaderBuilder::new()

@@ -78,12 +78,14 @@ impl Segment {
 }
 
 /// A ring of a polygon: points next to one another in the list, from `start` up to `end`, each of
-/// them joined to the next, and the last to the first.
+/// them joined to the next, and the last to the first. The rings of a feature are one polygon, which
+/// has the feature's number; else a polygon has its own, from 1.
 #[derive(Clone, Copy)]
 pub struct Ring {
     pub start: u32,
     pub end: u32,
     pub is_hole: bool,
+    pub polygon: u32,
 }
 
 /// The texts of numbers, one behind the other, and how exact those are that have more digits than
@@ -114,6 +116,13 @@ impl NumberTexts {
             start: start as u32,
             end: end as u32,
         })
+    }
+
+    /// Takes a number in that no file has, and spells it.
+    fn spell(&mut self, decimal: Decimal, at: FileLine) -> Result<Number, FileFault> {
+        let mut word = String::new(*self.bytes.allocator());
+        write!(word, "{decimal}")?;
+        self.keep(decimal, word.as_bytes(), at)
     }
 
     /// Notes a number with more digits than fit, of which these are kept; `name` is what it is.
@@ -168,14 +177,14 @@ impl NumberTexts {
 }
 
 /// Points, their heights, which all of them have or none, segments between them, points in holes,
-/// and the rings of polygons whose holes have rings.
+/// and the rings of polygons.
 #[derive(Drop)]
 pub struct Drawing {
     pub spots: Vec<Spot>,
     pub heights: Vec<Number>,
     pub segments: Vec<Segment>,
     pub holes: Vec<Spot>,
-    pub(crate) rings: Vec<Ring>,
+    pub rings: Vec<Ring>,
     pub(crate) texts: NumberTexts,
     left_out: String,
     open_rings: u32,
@@ -269,6 +278,22 @@ impl Drawing {
         Ok(())
     }
 
+    /// Takes a point in that no file has, with its height where points have heights. It stands
+    /// where the segment stands for which it was made.
+    pub(crate) fn add_made(
+        &mut self,
+        [x, y]: [Decimal; 2],
+        height: Option<Decimal>,
+        at: FileLine,
+    ) -> Result<(), FileFault> {
+        let spot = Spot::new(self.texts.spell(x, at)?, self.texts.spell(y, at)?, at);
+        let height = match height {
+            Some(height) => Some(self.texts.spell(height, at)?),
+            None => None,
+        };
+        self.add_spot(spot, height)
+    }
+
     /// Asks for a point by its place in the list.
     fn check_point(&self, point: u32, at: FileLine) -> Result<(), FileFault>
         ensures { OnOk result (point < length self.now.spots.items) }
@@ -291,6 +316,32 @@ impl Drawing {
             to,
             line,
             feature,
+        })?;
+        Ok(())
+    }
+
+    /// Takes a ring of points in, from one place up to another.
+    pub(crate) fn add_ring(&mut self, start: u32, end: u32, is_hole: bool) -> Result<(), AllocError>
+        ensures { OnOk result (SameNumbers self.old self.new) }
+    {
+        let feature = match self.spots.get(start as usize) {
+            Some(spot) => spot.feature,
+            None => 0,
+        };
+        let last = match self.rings.last() {
+            Some(ring) => ring.polygon,
+            None => 0,
+        };
+        let polygon = if feature > 0 {
+            feature
+        } else {
+            last.saturating_add(u32::from(!is_hole))
+        };
+        self.rings.push(Ring {
+            start,
+            end,
+            is_hole,
+            polygon,
         })?;
         Ok(())
     }

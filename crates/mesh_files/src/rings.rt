@@ -1,6 +1,5 @@
 //! The sides of the rings round holes.
-use crate::Drawing;
-use crate::drawing::Ring;
+use crate::{Drawing, Ring};
 use delaunay_core::point::Point2;
 use std::alloc::{AllocError, Global};
 

@@ -19,6 +19,41 @@ pub struct Scaled {
     pub moves: Moves,
 }
 
+/// The number that a coordinate stands for.
+fn number_at(scale: &Scale, coordinate: i32) -> Decimal {
+    let units = scale.origin.saturating_add(i64::from(coordinate));
+    let number = Decimal {
+        negative: units < 0,
+        magnitude: units.unsigned_abs(),
+        digits: scale.digits,
+    };
+    number.shortened()
+}
+
+impl Scaled {
+    /// The numbers that the coordinates of a point stand for.
+    pub fn numbers_at(&self, point: Point2<i32>) -> [Decimal; 2] {
+        [
+            number_at(&self.x_scale, point.x),
+            number_at(&self.y_scale, point.y),
+        ]
+    }
+
+    /// Adds a point that no file has, behind the others, to the drawing too: with its height where
+    /// points have heights, for a segment that stands there.
+    pub fn add_made(
+        &mut self,
+        drawing: &mut Drawing,
+        point: Point2<i32>,
+        height: Option<Decimal>,
+        at: FileLine,
+    ) -> Result<(), FileFault> {
+        drawing.add_made(self.numbers_at(point), height, at)?;
+        self.points.push(point)?;
+        Ok(())
+    }
+}
+
 /// Whether numbers are rounded to as many digits behind the point as fit, are rounded to so many,
 /// or have to be exact.
 #[derive(Clone, Copy)]

@@ -4,7 +4,6 @@ ghost use Rattle.json.specs.Token.{Token};
 ghost use Rattle.mesh_files.specs.Drawn.{SameNumbers};
 ghost use Rattle.mesh_files.specs.Runs.{AddsRun, DrawsRuns, HasPositions, IsPosition, KeepsRuns};
 
-use crate::drawing::Ring;
 use crate::{Drawing, FileFault, FileLine, Number, Reason, Spot};
 use std::alloc::Global;
 
@@ -130,11 +129,7 @@ impl WholeLine {
             LineKind::Path => self.join(false, drawing),
             LineKind::Ring => {
                 self.check_ring()?;
-                drawing.rings.push(Ring {
-                    start: self.start,
-                    end: self.end,
-                    is_hole: self.is_inner,
-                })?;
+                drawing.add_ring(self.start, self.end, self.is_inner)?;
                 self.join(true, drawing)
             }
         }

@@ -1,6 +1,6 @@
 //! A mesh that is to be written, and its forms.
 use crate::neighbours::{NO_FACE, neighbours_of};
-use crate::{Drawing, Number, Scaled};
+use crate::{Drawing, Number, Records, Scaled};
 use std::alloc::{AllocError, Global};
 use std::io;
 use std::io::Write;
@@ -60,12 +60,53 @@ const PARTS: [Part; 6] = [
     Part::Tail,
 ];
 
+/// The points that are written where not all are.
+#[derive(Clone, Copy)]
+pub struct WrittenPoints<'a> {
+    /// Their places, in order.
+    pub places: &'a [u32],
+    /// Of each point of the drawing how many of these stand before it.
+    pub ranks: &'a [u32],
+}
+
+/// The polygons that each face is in, by their numbers, those of a face one behind the other.
+#[derive(Clone, Copy)]
+pub struct FacePolygons<'a> {
+    /// Of each face where its numbers begin, and where those of the last end.
+    pub starts: &'a [u32],
+    pub numbers: &'a [u32],
+    /// What the file says of polygons, where that is written.
+    pub records: Option<&'a Records>,
+}
+
+impl<'a> FacePolygons<'a> {
+    /// What the numbers of polygons are called.
+    pub fn number_name(&self) -> &'static str {
+        match self.records {
+            Some(records) => records.number_name(),
+            None => "polygon",
+        }
+    }
+
+    /// The numbers of a face's polygons.
+    pub fn of(&self, face: usize) -> &'a [u32] {
+        let start = self.starts.get(face).copied().unwrap_or(0) as usize;
+        let end = self.starts.get(face.saturating_add(1));
+        let end = end.copied().unwrap_or(0) as usize;
+        self.numbers.get(start..end).unwrap_or(&[])
+    }
+}
+
 /// A mesh that is to be written: a drawing, faces by the places of their corners in its list of
 /// points, and in the same way the edges that are constraints. A picture has this width, in pixels.
 #[derive(Drop)]
 pub struct MeshText<'a> {
     pub drawing: &'a Drawing,
     pub scaled: &'a Scaled,
+    /// The points that are written, where not all are.
+    pub points: Option<WrittenPoints<'a>>,
+    /// Which polygons each face is in, where the drawing has polygons.
+    pub polygons: Option<FacePolygons<'a>>,
     pub faces: &'a [[u32; 3]],
     pub constraints: &'a [[u32; 2]],
     pub width: u32,
@@ -81,6 +122,31 @@ fn push_neighbour(line: &mut String, face: u32) -> Result<(), AllocError> {
 }
 
 impl MeshText<'_> {
+    /// How many points are written.
+    fn point_count(&self) -> usize {
+        match self.points {
+            Some(points) => points.places.len(),
+            None => self.drawing.spots.len(),
+        }
+    }
+
+    /// The place in the drawing of a point that is written.
+    fn place_at(&self, place: usize) -> usize {
+        match self.points {
+            Some(points) => points.places.get(place).copied().unwrap_or(u32::MAX) as usize,
+            None => place,
+        }
+    }
+
+    /// The number that a point has in this form: from 0 in `ply`, else from 1.
+    pub(crate) fn number_of(&self, form: Form, place: u32) -> u64 {
+        let place = match self.points {
+            Some(points) => points.ranks.get(place as usize).copied().unwrap_or(place),
+            None => place,
+        };
+        u64::from(place).saturating_add(u64::from(form != Form::Ply))
+    }
+
     /// Puts a number behind a line, as it came.
     fn push_number(&self, line: &mut String, number: Number) -> Result<(), AllocError> {
         match str::from_utf8(self.drawing.text_of(&number)) {
@@ -118,6 +184,11 @@ impl MeshText<'_> {
             }
             _ => {}
         }
+        let place = if form == Form::Stl {
+            place
+        } else {
+            self.place_at(place)
+        };
         self.push_point(line, place)?;
         let needs_height = !matches!(form, Form::Node | Form::Poly);
         line.push_str(if self.drawing.heights.is_empty() && needs_height {
@@ -127,20 +198,25 @@ impl MeshText<'_> {
         })
     }
 
-    /// Puts a constraint behind a line, by the numbers of its ends.
+    /// Puts a constraint behind a line, by the numbers of its ends or, in GeoJSON, as a line.
     fn push_segment(&self, form: Form, line: &mut String, place: usize) -> Result<(), AllocError> {
-        let Some([a, b]) = self.constraints.get(place) else {
+        let Some([from, to]) = self.constraints.get(place) else {
             return Ok(());
         };
-        let (a, b) = (
-            u64::from(*a).saturating_add(1),
-            u64::from(*b).saturating_add(1),
-        );
-        if form == Form::Obj {
-            return writeln!(line, "l {a} {b}");
+        let (a, b) = (self.number_of(form, *from), self.number_of(form, *to));
+        match form {
+            Form::Obj => writeln!(line, "l {a} {b}"),
+            Form::Ply => writeln!(line, "{a} {b}"),
+            Form::GeoJson => {
+                let is_first = place == 0 && self.faces.is_empty();
+                line.push_str(if is_first { "\n" } else { ",\n" })?;
+                self.push_line_string(line, [*from, *to])
+            }
+            _ => {
+                let number = place.saturating_add(1);
+                writeln!(line, "{number} {a} {b}")
+            }
         }
-        let number = place.saturating_add(1);
-        writeln!(line, "{number} {a} {b}")
     }
 
     /// Puts the corners of a face behind a line, as a facet of a solid.
@@ -172,15 +248,21 @@ impl MeshText<'_> {
     }
 
     fn push_ply_head(&self, line: &mut String) -> Result<(), AllocError> {
-        let (points, faces) = (self.drawing.spots.len(), self.faces.len());
+        let (points, faces) = (self.point_count(), self.faces.len());
         writeln!(line, "ply\nformat ascii 1.0\nelement vertex {points}")?;
         line.push_str("property double x\nproperty double y\nproperty double z\n")?;
         writeln!(line, "element face {faces}")?;
-        line.push_str("property list uchar uint vertex_indices\nend_header\n")
+        line.push_str("property list uchar uint vertex_indices\n")?;
+        let edges = self.constraints.len();
+        if edges > 0 {
+            writeln!(line, "element edge {edges}")?;
+            line.push_str("property int vertex1\nproperty int vertex2\n")?;
+        }
+        line.push_str("end_header\n")
     }
 
     fn push_node_head(&self, line: &mut String) -> Result<(), AllocError> {
-        let count = self.drawing.spots.len();
+        let count = self.point_count();
         let attributes = u8::from(!self.drawing.heights.is_empty());
         writeln!(line, "{count} 2 {attributes} 0")
     }
@@ -188,6 +270,18 @@ impl MeshText<'_> {
     fn push_ele_head(&self, line: &mut String) -> Result<(), AllocError> {
         let count = self.faces.len();
         writeln!(line, "{count} 3 0")
+    }
+
+    fn push_csv_head(&self, line: &mut String) -> Result<(), AllocError> {
+        line.push_str("a,b,c,area")?;
+        if let Some(polygons) = &self.polygons {
+            let name = polygons.number_name();
+            write!(line, ",{name}")?;
+            if let Some(records) = polygons.records {
+                records.push_names(line)?;
+            }
+        }
+        line.push('\n')
     }
 
     fn push_head(&self, form: Form, line: &mut String) -> Result<(), AllocError> {
@@ -199,7 +293,7 @@ impl MeshText<'_> {
             Form::Ele | Form::Neigh => self.push_ele_head(line),
             Form::Node | Form::Poly => self.push_node_head(line),
             Form::Stl => line.push_str("solid mesh\n"),
-            Form::Csv => line.push_str("a,b,c,area\n"),
+            Form::Csv => self.push_csv_head(line),
         }
     }
 
@@ -208,11 +302,14 @@ impl MeshText<'_> {
         match (part, form) {
             (Part::Head, _) => 1,
             (Part::Points, Form::Obj | Form::Ply | Form::Node | Form::Poly) => {
-                self.drawing.spots.len()
+                self.point_count()
             }
             (Part::Faces, Form::Node | Form::Poly) => 0,
             (Part::Faces, _) => self.faces.len(),
-            (Part::Constraints, Form::Svg | Form::Poly | Form::Obj) => self.constraints.len(),
+            (Part::Constraints, Form::Svg | Form::Poly | Form::Obj | Form::Ply) => {
+                self.constraints.len()
+            }
+            (Part::Constraints, Form::GeoJson) => self.constraints.len(),
             (Part::ConstraintHead, Form::Svg | Form::Poly) => 1,
             (Part::Tail, Form::GeoJson | Form::Svg | Form::Stl | Form::Poly) => 1,
             _ => 0,

@@ -82,7 +82,7 @@ fn has_section(bytes: &[u8]) -> bool {
 }
 
 /// The bytes before the first end of a line.
-fn first_line(bytes: &[u8]) -> &[u8] {
+pub fn first_line(bytes: &[u8]) -> &[u8] {
     for (i, byte) in bytes.iter().enumerate() {
         if *byte == b'\n' {
             return bytes.get(..i).unwrap_or(bytes);
@@ -102,7 +102,8 @@ pub fn without_mark(bytes: &[u8]) -> &[u8] {
 /// What a text is of which the form is not given.
 pub fn source_of(bytes: &[u8]) -> Source {
     match without_mark(bytes).trim_ascii_start().first() {
-        Some(b'{') => Source::GeoJson,
+        // an object, or the separator that may stand before one
+        Some(b'{' | 0x1E) => Source::GeoJson,
         _ => Source::Csv,
     }
 }

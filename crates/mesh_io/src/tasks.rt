@@ -13,6 +13,24 @@ pub enum Source {
     GeoJson,
 }
 
+/// What becomes of segments that cross: both are split, the file is refused, or the later one is
+/// left out.
+#[derive(Clone, Copy, PartialEq, Eq)]
+pub enum CrossingRule {
+    Split,
+    Refuse,
+    Skip,
+}
+
+/// Which faces are kept: all; those in a polygon, where the drawing has polygons; or those that
+/// segments close off.
+#[derive(Clone, Copy, PartialEq, Eq)]
+pub enum KeepRule {
+    All,
+    Inside,
+    Layers,
+}
+
 /// The coordinates of the ends of a way, as words.
 #[derive(Clone, Copy)]
 pub struct Way<'a> {
@@ -29,6 +47,8 @@ pub enum Question<'a> {
     Nearest(&'a str),
     Locate(&'a str),
     Line(Way<'a>),
+    Overlaps,
+    Way(Way<'a>),
 }
 
 /// What is asked for.
@@ -43,10 +63,16 @@ pub struct Task<'a> {
     pub output: Option<&'a str>,
     pub lines: Option<&'a str>,
     pub question: Option<Question<'a>>,
+    /// The height that stands for none.
+    pub nodata: Option<&'a str>,
+    /// Whether bad rows and features are left out.
+    pub skips_bad: bool,
     pub rounding: Rounding,
-    pub skips_crossing: bool,
-    pub keeps_inside: bool,
+    pub crossing: CrossingRule,
+    pub keep: KeepRule,
     pub is_quiet: bool,
+    /// Whether points that repeat others are left out of what is written.
+    pub is_compact: bool,
     pub width: u32,
 }
 
@@ -66,7 +92,7 @@ struct Choice {
     help: &'static str,
 }
 
-static CHOICES: [Choice; 16] = [
+static CHOICES: [Choice; 21] = [
     Choice {
         name: "from",
         letter: None,
@@ -140,13 +166,33 @@ static CHOICES: [Choice; 16] = [
         help: "Names the column of heights; else z",
     },
     Choice {
+        name: "nodata",
+        letter: None,
+        action: ArgAction::Set,
+        operand: ValueParser::String,
+        values: &["VALUE"],
+        may_be_negative: true,
+        rivals: &["lines"],
+        help: "Leaves out the rows of a table with this height",
+    },
+    Choice {
+        name: "skip-bad",
+        letter: None,
+        action: ArgAction::SetTrue,
+        operand: ValueParser::Bool,
+        values: &[],
+        may_be_negative: false,
+        rivals: &["lines"],
+        help: "Leaves out bad rows of tables and bad features of GeoJSON, and says which",
+    },
+    Choice {
         name: "nearest",
         letter: None,
         action: ArgAction::Set,
         operand: ValueParser::String,
         values: &["FILE"],
         may_be_negative: false,
-        rivals: &["locate", "line"],
+        rivals: &["locate", "line", "way"],
         help: "Says which point is nearest to each point of a table, and how far away it is",
     },
     Choice {
@@ -156,7 +202,7 @@ static CHOICES: [Choice; 16] = [
         operand: ValueParser::String,
         values: &["FILE"],
         may_be_negative: false,
-        rivals: &["line"],
+        rivals: &["line", "way"],
         help: "Says which face, edge or point each point of a table is on, and its height",
     },
     Choice {
@@ -166,8 +212,28 @@ static CHOICES: [Choice; 16] = [
         operand: ValueParser::String,
         values: &["X1", "Y1", "X2", "Y2"],
         may_be_negative: true,
-        rivals: &[],
+        rivals: &["way"],
         help: "Lists the edges and points that the segment between two points meets",
+    },
+    Choice {
+        name: "overlaps",
+        letter: None,
+        action: ArgAction::SetTrue,
+        operand: ValueParser::Bool,
+        values: &[],
+        may_be_negative: false,
+        rivals: &["nearest", "locate", "line", "way", "keep"],
+        help: "Lists where polygons overlap and which gaps they leave, with areas",
+    },
+    Choice {
+        name: "way",
+        letter: None,
+        action: ArgAction::Set,
+        operand: ValueParser::String,
+        values: &["X1", "Y1", "X2", "Y2"],
+        may_be_negative: true,
+        rivals: &[],
+        help: "Lists the points of a short way between two points through the faces that are kept",
     },
     Choice {
         name: "round",
@@ -190,24 +256,34 @@ static CHOICES: [Choice; 16] = [
         help: "Refuses numbers that would have to be rounded",
     },
     Choice {
-        name: "skip-crossing",
+        name: "crossing",
+        letter: None,
+        action: ArgAction::Set,
+        operand: ValueParser::Names(&["split", "refuse", "skip"]),
+        values: &["RULE"],
+        may_be_negative: false,
+        rivals: &[],
+        help: "Where segments cross, splits both, refuses the file, or skips the later one; else split",
+    },
+    Choice {
+        name: "keep",
+        letter: None,
+        action: ArgAction::Set,
+        operand: ValueParser::Names(&["inside", "layers"]),
+        values: &["PART"],
+        may_be_negative: false,
+        rivals: &[],
+        help: "Keeps faces: inside polygons if there are some, or in layers that segments close off",
+    },
+    Choice {
+        name: "compact",
         letter: None,
         action: ArgAction::SetTrue,
         operand: ValueParser::Bool,
         values: &[],
         may_be_negative: false,
         rivals: &[],
-        help: "Leaves out segments that cross those before them",
-    },
-    Choice {
-        name: "keep",
-        letter: None,
-        action: ArgAction::Set,
-        operand: ValueParser::Names(&["inside"]),
-        values: &["PART"],
-        may_be_negative: false,
-        rivals: &[],
-        help: "Keeps the faces that segments close off from outside and from holes",
+        help: "Leaves out points that repeat others, and numbers those that are left",
     },
     Choice {
         name: "size",
@@ -288,7 +364,7 @@ fn source_named(name: &str) -> Option<Source> {
         "csv" => Some(Source::Csv),
         "node" => Some(Source::Node),
         "poly" => Some(Source::Poly),
-        "geojson" | "json" => Some(Source::GeoJson),
+        "geojson" | "json" | "geojsonl" | "geojsons" | "geojsonseq" => Some(Source::GeoJson),
         _ => None,
     }
 }
@@ -305,6 +381,19 @@ fn form_of(matches: &ArgMatches<'_>, output: Option<&str>) -> Option<Form> {
     }
 }
 
+/// The ends that an option has, if it is given.
+fn ends_of<'a>(matches: &ArgMatches<'a>, option: &str) -> Option<Way<'a>> {
+    match matches.get_strs(option) {
+        Some([x1, y1, x2, y2]) => Some(Way {
+            x1: *x1,
+            y1: *y1,
+            x2: *x2,
+            y2: *y2,
+        }),
+        _ => None,
+    }
+}
+
 /// The question that is asked, if one is.
 fn question_of<'a>(matches: &ArgMatches<'a>) -> Option<Question<'a>> {
     if let Some(file) = matches.get_str("nearest") {
@@ -313,15 +402,13 @@ fn question_of<'a>(matches: &ArgMatches<'a>) -> Option<Question<'a>> {
     if let Some(file) = matches.get_str("locate") {
         return Some(Question::Locate(file));
     }
-    match matches.get_strs("line") {
-        Some([x1, y1, x2, y2]) => Some(Question::Line(Way {
-            x1: *x1,
-            y1: *y1,
-            x2: *x2,
-            y2: *y2,
-        })),
-        _ => None,
+    if matches.get_flag("overlaps") {
+        return Some(Question::Overlaps);
     }
+    if let Some(ends) = ends_of(matches, "line") {
+        return Some(Question::Line(ends));
+    }
+    Some(Question::Way(ends_of(matches, "way")?))
 }
 
 /// How numbers are rounded.
@@ -330,6 +417,24 @@ fn rounding_of(matches: &ArgMatches<'_>) -> Rounding {
         Some(digits) => Rounding::To(digits),
         None if matches.get_flag("exact") => Rounding::Exact,
         None => Rounding::Fit,
+    }
+}
+
+/// What becomes of segments that cross.
+fn crossing_of(matches: &ArgMatches<'_>) -> CrossingRule {
+    match matches.get_str("crossing") {
+        Some("refuse") => CrossingRule::Refuse,
+        Some("skip") => CrossingRule::Skip,
+        _ => CrossingRule::Split,
+    }
+}
+
+/// Which faces are kept.
+fn keep_of(matches: &ArgMatches<'_>) -> KeepRule {
+    match matches.get_str("keep") {
+        Some("inside") => KeepRule::Inside,
+        Some("layers") => KeepRule::Layers,
+        _ => KeepRule::All,
     }
 }
 
@@ -349,10 +454,13 @@ pub fn task_of<'a>(matches: &ArgMatches<'a>) -> Task<'a> {
         output,
         lines: matches.get_str("lines"),
         question: question_of(matches),
+        nodata: matches.get_str("nodata"),
+        skips_bad: matches.get_flag("skip-bad"),
         rounding: rounding_of(matches),
-        skips_crossing: matches.get_flag("skip-crossing"),
-        keeps_inside: matches.contains_id("keep"),
+        crossing: crossing_of(matches),
+        keep: keep_of(matches),
         is_quiet: matches.get_flag("quiet"),
+        is_compact: matches.get_flag("compact"),
         width: matches.get_one::<u32>("size").unwrap_or(800),
     }
 }

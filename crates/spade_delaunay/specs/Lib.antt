@@ -53,3 +53,5 @@ pub use Rattle.delaunay_queries.specs.Layers
 pub use Rattle.delaunay_queries.specs.Distances
 pub use Rattle.delaunay_queries.specs.Found
 pub use Rattle.delaunay_ways.specs.Ways
+pub use Rattle.delaunay_ways.specs.Parts
+pub use Rattle.delaunay_ways.specs.Widths

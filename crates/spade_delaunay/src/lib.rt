@@ -23,7 +23,7 @@ pub use delaunay_queries::{
     VerticesInShapeIterator, face_layers,
 };
 pub use delaunay_shapes::{FreeFaces, is_in_sight};
-pub use delaunay_ways::find_way;
+pub use delaunay_ways::{WideFaces, find_way, reachable};
 pub use hint_hierarchy::delaunay_core::line_side_info::LineSideInfo;
 pub use hint_hierarchy::delaunay_core::math::{
     InsertionError, MAX_ALLOWED_VALUE, PlaneTests, PointProjection, is_ordered_ccw, project_point,

@@ -1,6 +1,6 @@
-//! A way from one position of a line to another. The other numbers of the line are segments, four
-//! numbers each: their ends become vertices, and each segment a constraint unless one crosses it. The
-//! inner faces whose index is no multiple of 3 are free.
+//! A way from one position of a line to another, and which faces ways join. The other numbers of the
+//! line are segments, four numbers each: their ends become vertices, and each segment a constraint
+//! unless one crosses it. The inner faces whose index is no multiple of 3 are free.
 
 ghost use Rattle.std.specs.Prelude.{◌%◌, ◌==◌, not};
 
@@ -9,7 +9,7 @@ use delaunay_core::point::Point2;
 use delaunay_interface::{ConstrainedDelaunayTriangulation, Triangulation};
 use delaunay_journal::{PairEdit, Replayable};
 use delaunay_shapes::FreeFaces;
-use delaunay_ways::find_way;
+use delaunay_ways::{WideFaces, find_way, reachable};
 use exact_predicates::ExactTests;
 use half_edge_links::FixedFaceHandle;
 use std::alloc::{AllocError, Global};
@@ -102,4 +102,43 @@ fn answer<T: Replayable<Vertex = Point2<i64>>>(
 pub fn tell_way(rt: &(impl Print + AllocGlobal), call: &Call<'_>) -> anyhow::Result<()> {
     let mut site = ConstrainedDelaunayTriangulation::<Point2<i64>>::new(rt.alloc());
     answer(rt, &mut site, call)
+}
+
+// The label of each inner face, or -1 where it is not free.
+fn labels_of<T: Triangulation<Vertex = Point2<i64>>, G: FreeFaces>(
+    site: &T,
+    free: &G,
+    alloc: Global,
+) -> Result<Vec<i64>, AllocError> {
+    let mut labels = Vec::new(alloc);
+    for label in reachable(site, free, alloc)?.iter().skip(1) {
+        labels.push(label.map_or(-1, i64::from))?;
+    }
+    Ok(labels)
+}
+
+fn answer_parts<T: Replayable<Vertex = Point2<i64>>>(
+    rt: &(impl Print + AllocGlobal),
+    site: &mut T,
+    call: &Call<'_>,
+) -> anyhow::Result<()> {
+    let positions = call.positions(rt.alloc())?;
+    build(site, positions.get(1..).unwrap_or(&[]))?;
+    let faces = faces_of(site, rt.alloc())?;
+    println!(rt; "{faces:?}")?;
+    let labels = labels_of(site, &TwoOfThree, rt.alloc())?;
+    println!(rt; "{labels:?}")?;
+    let width_2 = call.numbers[0];
+    let wide = WideFaces::new(site, &TwoOfThree, width_2, rt.alloc())?;
+    let labels = labels_of(site, &wide, rt.alloc())?;
+    println!(rt; "{labels:?}")?;
+    Ok(())
+}
+
+/// Prints the corners of the inner faces, and their labels. The first number of the line is a
+/// squared diameter, and the second one 0: then it prints the labels where only faces are free that
+/// are so wide.
+pub fn tell_parts(rt: &(impl Print + AllocGlobal), call: &Call<'_>) -> anyhow::Result<()> {
+    let mut site = ConstrainedDelaunayTriangulation::<Point2<i64>>::new(rt.alloc());
+    answer_parts(rt, &mut site, call)
 }

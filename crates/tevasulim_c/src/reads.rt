@@ -2,16 +2,16 @@
 ghost use Rattle.std.specs.Prelude.{◌≡◌, None};
 ghost use Rattle.c_calls.specs.Calls.{CopiesOpen, OpensClosed, TellsBeyond, TellsCounts};
 ghost use Rattle.c_calls.specs.Calls.{TellsCrossed, TellsEdges, TellsEdgesIn, TellsFaces};
-ghost use Rattle.c_calls.specs.Calls.{TellsInSight, TellsLayers, TellsLine, TellsNearest};
-ghost use Rattle.c_calls.specs.Calls.{TellsNumbers, TellsPlaces, TellsPositions, TellsVerticesIn};
-ghost use Rattle.c_calls.specs.Calls.{TellsWay};
+ghost use Rattle.c_calls.specs.Calls.{TellsInSight, TellsLabels, TellsLayers, TellsLine};
+ghost use Rattle.c_calls.specs.Calls.{TellsNearest, TellsNumbers, TellsPlaces, TellsPositions};
+ghost use Rattle.c_calls.specs.Calls.{TellsVerticesIn, TellsWay, TellsWide};
 ghost use Rattle.{c_calls.specs.Words.TellsWords, tevasulim_c.specs.Whole.Triangulates};
 
 use crate::whole::triangulate;
 use c_calls::{
-    Edges, FindWay, Handle, InShape, ListBeyond, ListConflicts, ListEdges, ListFaces, ListLayers,
-    ListNumbers, ListPositions, Locate, LookAlong, RawBox, RawCounts, RawEdge, RawFace, RawMeeting,
-    RawPlace, RawPoint, RawSegment, RawShape, Vertices, WalkLine,
+    Edges, FindWay, Handle, InShape, ListBeyond, ListConflicts, ListEdges, ListFaces, ListLabels,
+    ListLayers, ListNumbers, ListPositions, ListWide, Locate, LookAlong, RawBox, RawCounts,
+    RawEdge, RawFace, RawMeeting, RawPlace, RawPoint, RawSegment, RawShape, Vertices, WalkLine,
 };
 use std::alloc::Global;
 
@@ -249,6 +249,37 @@ pub extern "C" fn tevasulim_way(
         bytes,
     };
     handle.ask(alloc, &query, points, length)
+}
+
+#[unsafe(no_mangle)]
+pub extern "C" fn tevasulim_reachable(
+    alloc: Global,
+    handle: &mut Handle,
+    bytes: &[u8],
+    labels: &mut [u32],
+    length: &mut usize,
+) -> u32
+    ensures kept { handle.new.kept ≡ handle.old.kept }
+    ensures labels { TellsLabels handle.old.kept bytes.now result length.old length.new labels.old
+        labels.new }
+{
+    handle.ask(alloc, &ListLabels { bytes }, labels, length)
+}
+
+#[unsafe(no_mangle)]
+pub extern "C" fn tevasulim_wide_faces(
+    alloc: Global,
+    handle: &mut Handle,
+    bytes: &[u8],
+    width_2: i64,
+    flags: &mut [u8],
+    length: &mut usize,
+) -> u32
+    ensures kept { handle.new.kept ≡ handle.old.kept }
+    ensures flags { TellsWide handle.old.kept bytes.now width_2 result length.old length.new
+        flags.old flags.new }
+{
+    handle.ask(alloc, &ListWide { bytes, width_2 }, flags, length)
 }
 
 #[unsafe(no_mangle)]

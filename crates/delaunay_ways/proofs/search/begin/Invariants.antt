@@ -1,7 +1,7 @@
 use Rattle.std.proofs.Common.{◌≡◌, [], length, false}
 use Rattle.std.specs.Prelude.{replicate}
 use Rattle.std.specs.BinaryHeap.{heap_items}
-use Rattle.delaunay_ways.specs.Search.{Begins}
+use Rattle.delaunay_ways.specs.{Begins}
 use Rattle.delaunay_ways.proofs.search.begin.Given as goal
 
 abbrev pub invariant-loop-vertex : goal.invariant-loop-vertex

@@ -4,10 +4,8 @@ use Rattle.std.specs.Prelude.{All, replicate}
 use Rattle.std.specs.BinaryHeap.{heap_items}
 use Rattle.std.proofs.lemmas.List.{length-map}
 use Rattle.delaunay_legalization.specs.{state_of, triangulation_of}
-use Rattle.delaunay_legalization.proofs.{both_ways}
-use Rattle.delaunay_shapes.specs.{by_place}
-use Rattle.delaunay_ways.specs.Search.{Begins, count_unmarked, Spreads}
-use Rattle.delaunay_ways.specs.Steps.{AreSteps, IsStep}
+use Rattle.{delaunay_legalization.proofs.both_ways, delaunay_shapes.specs.by_place}
+use Rattle.delaunay_ways.specs.{AreSteps, Begins, count_unmarked, IsStep, Spreads}
 use Rattle.delaunay_ways.proofs.Searching.{fewer_unmarked, found_step, lead_fits, search_begins}
 use Rattle.delaunay_ways.proofs.Searching.{search_ends, search_moves}
 use Rattle.delaunay_ways.proofs.search.find_path.Goals as goal

@@ -1,7 +1,7 @@
 use Rattle.std.specs.BinaryHeap.{heap_items}
 use Rattle.delaunay_legalization.specs.{state_of, triangulation_of}
 use Rattle.delaunay_shapes.specs.{by_place}
-use Rattle.delaunay_ways.specs.Search.{count_unmarked, IsSearch}
+use Rattle.{delaunay_ways.specs.count_unmarked, delaunay_ways.specs.Search.IsSearch}
 use Rattle.delaunay_ways.proofs.search.find_path.Given as goal
 
 abbrev pub invariant-loop-lead : goal.invariant-loop-lead

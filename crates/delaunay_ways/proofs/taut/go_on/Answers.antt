@@ -1,14 +1,11 @@
 use Rattle.std.proofs.Common.{◌-◌, map, arith}
 use Rattle.std.proofs.lemmas.List.{length-map}
-use Rattle.delaunay_core.specs.{place_of}
-use Rattle.delaunay_legalization.specs.{triangulation_of}
-use Rattle.delaunay_legalization.proofs.{both_ways}
-use Rattle.delaunay_shapes.specs.{by_place}
+use Rattle.{delaunay_core.specs.place_of, delaunay_shapes.specs.by_place}
+use Rattle.{delaunay_legalization.proofs.both_ways, delaunay_legalization.specs.triangulation_of}
 use Rattle.delaunay_ways.proofs.Tautness.{all_before, map_push, part_goes_on, part_pops, popped}
 use Rattle.delaunay_ways.proofs.Tautness.{seen_of, skip_of}
-use Rattle.delaunay_ways.proofs.taut.go_on.Goals.{else-loop-way-test}
-use Rattle.delaunay_ways.proofs.taut.go_on.Goals.{then-loop-way-test+then-not-is_in_sight}
 use Rattle.delaunay_ways.proofs.taut.go_on.Goals as goal
+use goal.{else-loop-way-test, then-loop-way-test+then-not-is_in_sight}
 
 pub loop-way-preserved : goal.loop-way-preserved
 loop-way-preserved g c =

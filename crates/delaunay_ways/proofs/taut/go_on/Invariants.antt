@@ -1,9 +1,7 @@
 use Rattle.std.proofs.Common.{map}
 use Rattle.std.specs.Prelude.{All, vec_len}
-use Rattle.delaunay_core.specs.{place_of}
-use Rattle.delaunay_legalization.specs.{triangulation_of}
-use Rattle.delaunay_shapes.specs.{by_place}
-use Rattle.delaunay_ways.proofs.Tautness.{IsFirstPart}
+use Rattle.{delaunay_core.specs.place_of, delaunay_shapes.specs.by_place}
+use Rattle.{delaunay_legalization.specs.triangulation_of, delaunay_ways.proofs.Tautness.IsFirstPart}
 use Rattle.delaunay_ways.proofs.taut.go_on.Given as goal
 
 abbrev pub invariant-loop-way : goal.invariant-loop-way

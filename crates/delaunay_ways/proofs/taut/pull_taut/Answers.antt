@@ -2,11 +2,9 @@ use Rattle.std.proofs.Common.{◌≡◌, ◌<◌, ◌∙◌, get_or, length, map
 use Rattle.std.specs.Prelude.{All}
 use Rattle.std.proofs.lemmas.List.{get_or_default, length-map}
 use Rattle.std.proofs.lemmas.List.Elements.{All-contains}
-use Rattle.plane.specs.{InRange, vertex}
-use Rattle.delaunay_core.specs.{place_of}
-use Rattle.delaunay_legalization.specs.{triangulation_of}
-use Rattle.delaunay_shapes.specs.{by_place}
-use Rattle.delaunay_ways.specs.Ways.{point_at}
+use Rattle.{delaunay_core.specs.place_of, delaunay_shapes.specs.by_place}
+use Rattle.{delaunay_legalization.specs.triangulation_of, plane.specs.InRange, plane.specs.vertex}
+use Rattle.delaunay_ways.specs.{point_at}
 use Rattle.delaunay_ways.proofs.Tautness.{end_is_seen, next_is_seen, pull_ends, pull_goes_on}
 use Rattle.delaunay_ways.proofs.taut.pull_taut.Goals as goal
 

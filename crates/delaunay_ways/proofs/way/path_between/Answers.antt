@@ -1,15 +1,11 @@
 use Rattle.std.proofs.Common.{◌<◌, ℕ, subst, sym}
 use Rattle.std.specs.Prelude.{All, IfOk, MatchOption}
 use Rattle.std.proofs.lemmas.List.{length-map}
-use Rattle.plane.specs.{whole}
-use Rattle.plane_theorems.specs.{IsInFree}
-use Rattle.plane_theorems.specs.Ways.Chains.{IsJoined}
 use Rattle.delaunay_core.specs.{place_of}
 use Rattle.delaunay_legalization.specs.{state_of, triangulation_of}
-use Rattle.delaunay_shapes.specs.{by_place}
-use Rattle.delaunay_ways.specs.Ways.{IsPathBetween}
-use Rattle.delaunay_ways.proofs.Joining.{between_of}
-use Rattle.delaunay_ways.proofs.Surrounding.{hull_of}
+use Rattle.{delaunay_shapes.specs.by_place, plane.specs.whole, plane_theorems.specs.IsInFree}
+use Rattle.{delaunay_ways.specs.Ways.IsPathBetween, plane_theorems.specs.Ways.Chains.IsJoined}
+use Rattle.delaunay_ways.proofs.{Joining.between_of, Surrounding.hull_of}
 use Rattle.delaunay_ways.proofs.way.path_between.Goals as goal
 
 pub returns-in_default : goal.returns-in_default

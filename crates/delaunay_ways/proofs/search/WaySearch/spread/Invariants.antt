@@ -1,7 +1,6 @@
 use Rattle.std.proofs.Common.{◌≡◌, length}
 use Rattle.std.specs.BinaryHeap.{heap_items}
-use Rattle.half_edge_dcel.specs.{out_edges_left}
-use Rattle.delaunay_legalization.proofs.{IsGoingRound}
+use Rattle.{delaunay_legalization.proofs.IsGoingRound, half_edge_dcel.specs.out_edges_left}
 use Rattle.delaunay_ways.proofs.Spreading.{HasLead, IsSpreading}
 use Rattle.delaunay_ways.proofs.search.WaySearch.spread.Given as goal
 

@@ -1,4 +1,4 @@
-use Rattle.std.proofs.Common.{inl, inr}
+use Rattle.std.proofs.Common.{inr}
 use Rattle.mesh_files.proofs.drawing.Drawing.long_number.Goals as goal
 
 pub returns-clause-written : goal.returns-clause-written
