@@ -318,8 +318,8 @@ fn are_all_taken(drawn: &DrawnMesh) -> bool {
     drawn.taken.iter().all(|is_taken| *is_taken)
 }
 
-/// The triangulation of a drawing, with the faces that are kept. Segments that overlap become pieces
-/// that do not, if all of these can be taken: else each walks over all that it covers.
+/// The triangulation of a drawing, with the faces that are kept. Segments that overlap become
+/// pieces that do not, if all of these can be taken: else each walks over all that it covers.
 fn triangulate_scene(task: &Task<'_>, scene: &Scene, alloc: Global) -> anyhow::Result<DrawnMesh> {
     let segments = segments_of(&scene.drawing, alloc)?;
     let sides = drawn_sides(task, scene, alloc)?;
@@ -340,8 +340,8 @@ fn triangulate_scene(task: &Task<'_>, scene: &Scene, alloc: Global) -> anyhow::R
     triangulate_segments(task, scene, segments.as_slice(), sides.as_slice(), alloc)
 }
 
-/// The triangulation of a drawing, with the faces that are kept, on a scale with room for the points
-/// at which segments are split, if some are to be.
+/// The triangulation of a drawing, with the faces that are kept, on a scale with room for the
+/// points at which segments are split, if some are to be.
 pub fn triangulate_with_room(
     task: &Task<'_>,
     scene: &mut Scene,

@@ -93,8 +93,8 @@ enum Left {
     Behind(DrawnSegment),
 }
 
-/// What of a segment is left without the last that was left before it on its line: all where that is
-/// the same segment, which costs no more than it does.
+/// What of a segment is left without the last that was left before it on its line: all where that
+/// is the same segment, which costs no more than it does.
 fn part_of(segment: &OnLine, last: &OnLine) -> Left {
     let is_same = last.from == segment.from && last.back == segment.back;
     if !last.is_along(segment) || is_same || last.back.wrapping_neg() <= segment.from {

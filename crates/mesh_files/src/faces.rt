@@ -148,7 +148,7 @@ impl MeshText<'_> {
             let (x, y) = (spot.x.decimal, spot.y.decimal);
             write!(line, "{x},{y}")?;
         }
-        if let Some(height) = self.drawing.heights.get(place) {
+        if let Some(height) = self.drawing.height(place) {
             let z = height.decimal;
             write!(line, ",{z}")?;
         }
