@@ -338,7 +338,7 @@ fn take_row(rewriting: &mut Rewriting, row: &ByteRecord, alloc: Global) -> Resul
 fn named_columns(header: &ByteRecord) -> usize {
     let mut count = 0;
     for column in 0..header.len() {
-        if !field_text(header, column).is_empty() {
+        if !field_bytes(header, column).is_empty() {
             count = column.saturating_add(1);
         }
     }
