@@ -14,8 +14,8 @@ use crate::raw::NumberedPoint;
 use crate::statuses::{
     IS_PLAIN, NO_SUCH_VERTEX, OUT_OF_MEMORY, TOO_LARGE, TOO_SHORT, UNEQUAL_LENGTHS, WELL, status_of,
 };
-use delaunay_bulk::InsertAll;
 use delaunay_core::point::Point2;
+use delaunay_extensions::InsertAll;
 use delaunay_interface::Triangulation;
 use exact_predicates::ExactTests;
 use half_edge_links::FixedVertexHandle;

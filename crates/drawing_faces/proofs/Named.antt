@@ -14,7 +14,7 @@ use Rattle.plane.specs.{DifferInPosition, insert, Inserts, Plain, Point, points_
 use Rattle.{delaunay_core.specs.Point2, delaunay_journal.proofs.Inserted.appended_points}
 use Rattle.delaunay_legalization.specs.{IsKnown, point_at, points_and_constraints_by, State.State}
 use Rattle.{delaunay_edit.specs.IsWellFormed, plane.proofs.below_or_last, plane.proofs.less_or_more}
-use Rattle.delaunay_bulk.specs.{HaveHandles, InsertsAll, IsAt}
+use Rattle.delaunay_extensions.specs.{HaveHandles, InsertsAll, IsAt}
 use Rattle.drawing_faces.specs.{Names.AreFirsts, Names.NamesVertices, position}
 
 -- ---- where vertices come from

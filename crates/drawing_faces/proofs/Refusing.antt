@@ -14,8 +14,8 @@ use Rattle.half_edge_links.specs.{MAX_ELEMENTS}
 use Rattle.delaunay_core.specs.{InsertionError, Point2}
 use Rattle.{delaunay_legalization.specs.point_at, plane.specs.InRange, plane.specs.Point}
 use Rattle.{delaunay_legalization.specs.State.State, drawing_faces.proofs.Named.handle_below}
-use Rattle.delaunay_bulk.specs.{BulkInsertionError, HaveHandles, IsAt, NoRoom, RefusesWhere}
-use Rattle.delaunay_bulk.specs.{StopsAt, Vertex}
+use Rattle.delaunay_extensions.specs.{BulkInsertionError, HaveHandles, IsAt, NoRoom, RefusesWhere}
+use Rattle.delaunay_extensions.specs.{StopsAt, Vertex}
 use Rattle.drawing_faces.specs.{AreIn, DrawingError, DrawnSegment, HasEnds, MayTake, position}
 use Rattle.drawing_faces.specs.{Holes.RefusesHole, Holes.RefusesHoles, RefusesEnds, RefusesPoints}
 use Rattle.drawing_faces.specs.Refusals.{bulk_fault, EndsAtPoints}

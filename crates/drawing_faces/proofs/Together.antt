@@ -6,7 +6,7 @@ use Rattle.std.specs.Prelude.{ℤ, Bool, All}
 use Rattle.delaunay_legalization.specs.{constraints_by, declared.cdt_edge.CdtEdge.CdtEdge}
 use Rattle.{delaunay_legalization.specs.State.State, drawing_faces.specs.Names.NamesVertices}
 use Rattle.delaunay_edit.specs.{constraint_edges, constraints_of, IsDelaunay}
-use Rattle.{delaunay_bulk.specs.HaveHandles, delaunay_core.specs.Point2}
+use Rattle.{delaunay_extensions.specs.HaveHandles, delaunay_core.specs.Point2}
 use Rattle.drawing_faces.specs.{AreIn, DrawingError, DrawnSegment, ends_of, HasEnds, MayTake}
 use Rattle.drawing_faces.specs.{memory_refused, OutOfMemory, position, RefusesDrawing, RefusesEnds}
 use Rattle.drawing_faces.specs.Drawing.{HasDrawing, IsDrawingOf, segment_of_none, side_of_none}

@@ -8,7 +8,8 @@ use Rattle.delaunay_legalization.specs.State.{State}
 use Rattle.delaunay_edit.specs.{constraint_edges, constraints_of, IsDelaunay}
 use Rattle.delaunay_journal.specs.{AddConstraint, Added, Edit, Outcome, Refused}
 use Rattle.delaunay_journal.specs.declared.edit.Refusal.TheVariants.{Conflict}
-use Rattle.{delaunay_bulk.specs.HaveHandles, plane.specs.Face, plane.specs.face, plane.specs.Joins}
+use Rattle.plane.specs.{Face, face, Joins}
+use Rattle.delaunay_extensions.specs.{HaveHandles}
 use Rattle.drawing_faces.specs.{declared.drawn.DrawnMesh.DrawnMesh, Holes.AreIn, Holes.RefusesHoles}
 use Rattle.drawing_faces.specs.Kept.{AreKept, IsLeftOut}
 use Rattle.drawing_faces.specs.Names.{NamesVertices, places_of, position}

@@ -1,6 +1,6 @@
 //! The triangulation of a drawing, from its points and segments to the faces that are kept.
 ghost use Rattle.std.specs.Prelude.{◌≡◌, [], map, IfErr, IfOk, OnOk};
-ghost use Rattle.{delaunay_bulk.specs.HaveHandles, delaunay_edit.specs.constraints_of};
+ghost use Rattle.{delaunay_extensions.specs.HaveHandles, delaunay_edit.specs.constraints_of};
 ghost use Rattle.drawing_faces.specs.Drawing.{IsDrawn, RefusesDrawing};
 ghost use Rattle.drawing_faces.specs.Names.{NamesVertices, position};
 ghost use Rattle.drawing_faces.specs.Refusals.{MayTake, RefusesPoints};

@@ -1,14 +1,14 @@
 //! Points that are inserted, and segments between them that become constraints.
 ghost use Rattle.std.specs.Prelude.{◌≡◌, All, length, map, IfErr, IfOk, MatchOption, OnOk};
-ghost use Rattle.{delaunay_bulk.specs.InsertsAll, delaunay_edit.specs.IsDelaunay};
+ghost use Rattle.{delaunay_extensions.specs.InsertsAll, delaunay_edit.specs.IsDelaunay};
 ghost use Rattle.drawing_faces.specs.Drawing.{ends_of, is_taken, IsDecided, joining_of};
 ghost use Rattle.drawing_faces.specs.{Names.position, Segments.AddsSegments};
 ghost use Rattle.drawing_faces.specs.Refusals.{HasEnds, MayTake, RefusesEnds, RefusesPoints};
 ghost use Rattle.drawing_faces.specs.declared.error.DrawingError.TheVariants.{OutOfMemory};
 
 use crate::DrawingError;
-use delaunay_bulk::InsertAll;
 use delaunay_core::point::Point2;
+use delaunay_extensions::InsertAll;
 use delaunay_interface::Triangulation;
 use delaunay_journal::{Edit, Outcome, Refusal, Replayable, replay};
 use exact_predicates::ExactTests;

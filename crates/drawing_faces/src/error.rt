@@ -3,8 +3,8 @@ ghost use Rattle.std.specs.Prelude.{◌≡◌};
 ghost use Rattle.drawing_faces.specs.Refusals.{bulk_fault, insertion_fault};
 ghost use Rattle.drawing_faces.specs.declared.error.DrawingError.TheVariants.{OutOfMemory};
 
-use delaunay_bulk::BulkInsertionError;
 use delaunay_core::math::InsertionError;
+use delaunay_extensions::BulkInsertionError;
 use std::alloc::{AllocError, AllocFailed};
 use thiserror::Error;
 

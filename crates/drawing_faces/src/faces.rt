@@ -7,8 +7,8 @@ ghost use Rattle.drawing_faces.specs.{Kept.AreKept, Kept.IsLeftOut, Names.positi
 
 use crate::flood::reach_faces;
 use delaunay_core::point::Point2;
+use delaunay_extensions::face_layers;
 use delaunay_interface::Triangulation;
-use delaunay_queries::face_layers;
 use half_edge_dcel::FaceHandle;
 use half_edge_links::FixedFaceHandle;
 use std::alloc::{AllocError, Global};

@@ -1,6 +1,6 @@
 use Rattle.std.proofs.Common.{◌≡◌, ◌⊎◌, ◌<◌, length, sym, subst}
 use Rattle.std.specs.Prelude.{All}
-use Rattle.{delaunay_bulk.specs.HaveHandles, delaunay_edit.specs.none}
+use Rattle.{delaunay_extensions.specs.HaveHandles, delaunay_edit.specs.none}
 use Rattle.drawing_faces.specs.{MayTake, Names.AreFirsts, position, RefusesPoints}
 use Rattle.drawing_faces.proofs.Named.{placed_below, placed_names}
 use Rattle.drawing_faces.proofs.Refusing.{places_refused, refused_by}

@@ -1,7 +1,7 @@
 use Rattle.std.proofs.Common.{ℕ, List, ◌≤◌, ◌∙◌, length, map, ap, refl, sym, subst}
 use Rattle.std.specs.Prelude.{All}
 use Rattle.{delaunay_edit.specs.constraint_edges, delaunay_legalization.specs.triangulation_of}
-use Rattle.delaunay_bulk.specs.{HaveHandles}
+use Rattle.delaunay_extensions.specs.{HaveHandles}
 use Rattle.drawing_faces.specs.{AreKept, ends_of, face_of, HasEnds, IsLeftOut, memory_refused}
 use Rattle.drawing_faces.specs.{places_of, position, RefusesDrawing}
 use Rattle.drawing_faces.specs.{Drawing.hole_refused, Drawing.points_refused, Sides.AreBeside}

@@ -1,5 +1,5 @@
 use Rattle.std.proofs.Common.{length, refl, subst}
-use Rattle.delaunay_bulk.specs.{InsertsAll}
+use Rattle.delaunay_extensions.specs.{InsertsAll}
 use Rattle.drawing_faces.specs.{MayTake, position, Refusals.bulk_fault, RefusesPoints}
 use Rattle.drawing_faces.proofs.Refusing.{bulk_refuses, points_may_be_taken, refused_by}
 use Rattle.drawing_faces.proofs.edits.insert_points.Goals as goal
