@@ -8,6 +8,9 @@ pub mod Sides
 pub mod Drawing
 pub mod Splitting
 pub mod Within
+pub mod Parity
+pub mod Polygons
+pub mod PolygonSearch
 pub use Drawing.{ends_of, face_of, faces_inside, indexes_at, memory_refused, RefusesDrawing}
 pub use Flood.{IsFlood, IsReached, MarkOpenFaces}
 pub use Holes.{AreIn}

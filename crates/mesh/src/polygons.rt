@@ -1,5 +1,5 @@
-//! Which polygons of a drawing each face is in: those that an inner point of it is in, by the parity
-//! of their sides; or which regions, where it has none but regions.
+//! Which polygons of a drawing each face is in, by the even-odd rule; or which regions, where it has
+//! none but regions.
 use crate::building::point_place;
 use crate::paths::{Turn, path_between};
 use crate::splitting::point_vertices;
@@ -8,8 +8,10 @@ use delaunay_core::point::Point2;
 use delaunay_interface::Triangulation;
 use delaunay_legalization::ConstraintMarker;
 use delaunay_location::PositionInTriangulation;
+use drawing_faces::{Borders, PolygonsOfFaces, polygons_of_faces};
 use exact_predicates::ExactTests;
 use half_edge_dcel::DirectedEdgeHandle;
+use half_edge_links::{FixedUndirectedEdgeHandle, FixedVertexHandle};
 use mesh_files::{Asked, Drawing, FacePolygons, Records, Ring};
 use mesh_io::Scene;
 use std::alloc::{AllocError, Global};
@@ -181,13 +183,24 @@ struct Search {
     found: Vec<Found>,
 }
 
-/// A polygon: its number, its order, and its sides, of which those come next to one another that
-/// have the same ends.
+/// A polygon: its number, its order, its sides, and the edges that sides are.
 #[derive(Drop)]
 struct Polygon {
     number: u32,
     order: u32,
     sides: Vec<[u32; 2]>,
+    edges: Vec<FixedUndirectedEdgeHandle>,
+}
+
+impl Polygon {
+    fn new(alloc: Global) -> Self {
+        Polygon {
+            number: 0,
+            order: 0,
+            sides: Vec::new(alloc),
+            edges: Vec::new(alloc),
+        }
+    }
 }
 
 impl Search {
@@ -223,22 +236,15 @@ impl Search {
         Ok(())
     }
 
-    /// Marks the edges that are sides of a polygon an odd number of times, and tells whether all
-    /// sides are edges.
-    fn mark(&mut self, map: &FaceMap<'_>, polygon: &Polygon) -> bool {
-        let mut all = true;
-        for (i, side) in polygon.sides.iter().enumerate() {
-            let beside = map.beside(*side);
-            all = all && !beside.is_empty();
-            let is_first = i == 0 || polygon.sides.get(i.saturating_sub(1)) != Some(side);
-            for one in beside {
+    /// Marks the edges that are sides of a region.
+    fn mark(&mut self, map: &FaceMap<'_>, region: &Polygon) {
+        for side in &region.sides {
+            for one in map.beside(*side) {
                 if let Some(entry) = self.constraints.get_mut(one.entry()) {
-                    let is_marked = !is_first && *entry == polygon.order;
-                    *entry = if is_marked { 0 } else { polygon.order };
+                    *entry = region.order;
                 }
             }
         }
-        all
     }
 
     /// Goes on from faces of a polygon to all that no side of it parts from them.
@@ -261,23 +267,6 @@ impl Search {
         Ok(())
     }
 
-    /// Finds the faces of a polygon all of whose sides are edges: from those at its sides on.
-    fn flood(&mut self, map: &FaceMap<'_>, polygon: &Polygon) -> Result<(), AllocError> {
-        for side in &polygon.sides {
-            let beside = map.beside(*side);
-            if beside.iter().any(|one| self.has(one.face, polygon)) {
-                continue;
-            }
-            for one in beside {
-                if map.is_within(one.face, polygon.sides.as_slice()) {
-                    self.note(one.face, polygon)?;
-                }
-            }
-            self.spread(map, polygon)?;
-        }
-        Ok(())
-    }
-
     /// Finds the faces of a polygon, of whose sides some are no edges: each by itself.
     fn look_at_all(&mut self, map: &FaceMap<'_>, polygon: &Polygon) -> Result<(), AllocError> {
         for face in 0..u32::try_from(map.faces.len()).unwrap_or(NO_FACE) {
@@ -289,13 +278,25 @@ impl Search {
         Ok(())
     }
 
-    /// Finds the faces of a polygon.
-    fn find(&mut self, map: &FaceMap<'_>, polygon: &Polygon) -> Result<(), AllocError> {
-        if self.mark(map, polygon) {
-            self.flood(map, polygon)
-        } else {
-            self.look_at_all(map, polygon)
+    /// Takes over which polygons each face is in, where these are their numbers by their orders.
+    fn take<T: Triangulation<Vertex = Point2<i32>>>(
+        &mut self,
+        site: &T,
+        polygons: &PolygonsOfFaces,
+        numbers: &[u32],
+    ) -> Result<(), AllocError> {
+        site.recall_invariant();
+        for (i, face) in site.inner_faces().enumerate() {
+            for order in polygons.at(face.fix()) {
+                let before = (*order as usize).saturating_sub(1);
+                self.found.push(Found {
+                    face: u32::try_from(i).unwrap_or(NO_FACE),
+                    order: *order,
+                    polygon: numbers.get(before).copied().unwrap_or(0),
+                })?;
+            }
         }
+        Ok(())
     }
 }
 
@@ -308,13 +309,26 @@ struct Outlines<'a> {
     turns: &'a [Turn],
 }
 
+/// The edge between two vertices, if they are joined.
+fn edge_between<T: Triangulation<Vertex = Point2<i32>>>(
+    site: &T,
+    from: u32,
+    to: u32,
+) -> Option<FixedUndirectedEdgeHandle> {
+    site.recall_invariant();
+    let from = site.get_vertex(FixedVertexHandle::from_index(from))?;
+    let to = FixedVertexHandle::from_index(to);
+    let edge = site.get_edge_from_neighbors(from.fix(), to)?;
+    Some(edge.as_undirected().fix())
+}
+
 /// Adds the sides of a ring to those of its polygon: along the edges that they became, by the places
 /// of their ends with the lesser first.
 fn add_ring<T: Triangulation<Vertex = Point2<i32>>>(
     site: &T,
     ring: &Ring,
     outlines: Outlines<'_>,
-    sides: &mut Vec<[u32; 2]>,
+    polygon: &mut Polygon,
     alloc: Global,
 ) -> Result<(), AllocError> {
     let mut last = ring.end.saturating_sub(1);
@@ -330,30 +344,64 @@ fn add_ring<T: Triangulation<Vertex = Point2<i32>>>(
         }
         let path = path_between(site, outlines.turns, ends, alloc)?;
         for (one, other) in path.iter().zip(path.iter().skip(1)) {
+            if let Some(edge) = edge_between(site, *one, *other) {
+                polygon.edges.push(edge)?;
+            }
             let one = point_place(outlines.places, *one);
             let other = point_place(outlines.places, *other);
-            sides.push([one.min(other), one.max(other)])?;
+            polygon.sides.push([one.min(other), one.max(other)])?;
         }
     }
     Ok(())
 }
 
-/// Finds the faces of all polygons.
+/// The polygons that are looked for: their numbers, by their orders, and the edges that they have
+/// for sides.
+#[derive(Drop)]
+struct Sought {
+    numbers: Vec<u32>,
+    borders: Borders,
+}
+
+impl Sought {
+    fn new<T: Triangulation<Vertex = Point2<i32>>>(
+        site: &T,
+        alloc: Global,
+    ) -> Result<Self, AllocError> {
+        Ok(Sought {
+            numbers: Vec::new(alloc),
+            borders: Borders::new(site.num_undirected_edges(), alloc)?,
+        })
+    }
+
+    /// Adds a polygon, with its sides if all of them are edges, and tells whether they are.
+    fn add(&mut self, polygon: &Polygon, alloc: Global) -> Result<bool, AllocError> {
+        self.numbers.push(polygon.number)?;
+        if polygon.edges.len() != polygon.sides.len() {
+            return Ok(false);
+        }
+        for edge in &polygon.edges {
+            self.borders.add(*edge, polygon.order, alloc)?;
+        }
+        Ok(true)
+    }
+}
+
+/// Finds the faces of all polygons: where `by_edges` holds by the edges that their sides are, if all
+/// of them are; and else face by face. It tells whether the edges were closed rings.
 fn find_all<T: Triangulation<Vertex = Point2<i32>>>(
     search: &mut Search,
     map: &FaceMap<'_>,
     site: &T,
     drawing: &Drawing,
     outlines: Outlines<'_>,
+    by_edges: bool,
     alloc: Global,
-) -> Result<(), AllocError> {
-    let mut polygon = Polygon {
-        number: 0,
-        order: 0,
-        sides: Vec::new(alloc),
-    };
+) -> Result<bool, AllocError> {
+    let mut sought = Sought::new(site, alloc)?;
+    let mut polygon = Polygon::new(alloc);
     for (i, ring) in drawing.rings.iter().enumerate() {
-        add_ring(site, ring, outlines, &mut polygon.sides, alloc)?;
+        add_ring(site, ring, outlines, &mut polygon, alloc)?;
         polygon.number = ring.polygon;
         if let Some(next) = drawing.rings.get(i.saturating_add(1))
             && next.polygon == ring.polygon
@@ -361,11 +409,17 @@ fn find_all<T: Triangulation<Vertex = Point2<i32>>>(
             continue;
         }
         polygon.order = polygon.order.saturating_add(1);
-        polygon.sides.sort()?;
-        search.find(map, &polygon)?;
+        if !by_edges || !sought.add(&polygon, alloc)? {
+            search.look_at_all(map, &polygon)?;
+        }
         polygon.sides.clear();
+        polygon.edges.clear();
     }
-    Ok(())
+    let Some(found) = polygons_of_faces(site, &sought.borders, alloc)? else {
+        return Ok(false);
+    };
+    search.take(site, &found, sought.numbers.as_slice())?;
+    Ok(true)
 }
 
 impl FaceMap<'_> {
@@ -447,11 +501,8 @@ fn find_regions<T: Triangulation<Vertex = Point2<i32>>>(
     points: &[Asked],
     alloc: Global,
 ) -> Result<(), AllocError> {
-    let mut polygon = Polygon {
-        number: 0,
-        order: 0,
-        sides: constraint_sides(site, places, alloc)?,
-    };
+    let mut polygon = Polygon::new(alloc);
+    polygon.sides = constraint_sides(site, places, alloc)?;
     for asked in points {
         polygon.number = polygon.number.saturating_add(1);
         polygon.order = polygon.number;
@@ -573,7 +624,11 @@ pub fn polygon_lists<T: Triangulation<Vertex = Point2<i32>>>(
         let regions = scene.region_points.as_slice();
         find_regions(&mut search, &map, site, places, regions, alloc)?;
     } else {
-        find_all(&mut search, &map, site, &scene.drawing, outlines, alloc)?;
+        let drawing = &scene.drawing;
+        if !find_all(&mut search, &map, site, drawing, outlines, true, alloc)? {
+            search = Search::new(faces.len(), alloc)?;
+            find_all(&mut search, &map, site, drawing, outlines, false, alloc)?;
+        }
     }
     search.found.sort()?;
     lists_of(search.found.as_slice(), faces.len(), alloc)
