@@ -8,6 +8,7 @@ ghost use Rattle.delaunay_ways.specs.Ways.{IsPathBetween, IsWay};
 
 use crate::corners::corners_at;
 use crate::search::find_path;
+use crate::short::shorten;
 use crate::taut::pull_taut;
 use delaunay_core::math::PlaneTests;
 use delaunay_core::point::{HasPosition, Point2};
@@ -111,6 +112,7 @@ pub fn find_way<
     let Some(path) = path_between(triangulation, from, to, free, tests, alloc)? else {
         return Ok(None);
     };
+    let path = shorten(triangulation, from, to, path, free, tests, alloc)?;
     let way = pull_taut(triangulation, from, to, &path, free, tests, alloc)?;
     Ok(Some(way))
 }
