@@ -69,8 +69,9 @@ fn path_between<
 /// and past a corner at which two free faces meet.
 ///
 /// The way is taut: no position between can be left out, since its two neighbours do not see each
-/// other. It is short, and not always the shortest. The tests cover both positions and have the
-/// vertices as sites. It gives `AllocError` where memory was refused.
+/// other. It is the shortest among those close to it, and not always the shortest of all: no
+/// contract tells its length. The tests cover both positions and have the vertices as sites. It
+/// gives `AllocError` where memory was refused.
 ///
 /// ```
 /// if let Some(way) = find_way(&hall, guard, door, &floor, &ExactTests, rt.alloc())? {
