@@ -106,9 +106,10 @@ class Regions(Queries):
         array of shape (n, 2) or None
             The points of the way from `start` to `end`, as `points` has them. There are 2 at least.
             Each is in sight of the next by `is_in_sight`, those between are points of the
-            triangulation, and none of them can be left out. The way is short, but not always the
-            shortest. `None` is given exactly where no chain of points of any kind, each in sight of
-            the next, joins the two: so it is where an end is in no free face.
+            triangulation, and none of them can be left out. The way is the shortest among those
+            close to it, but not always the shortest of all. `None` is given exactly where no chain
+            of points of any kind, each in sight of the next, joins the two: so it is where an end
+            is in no free face.
 
         Raises
         ------
