@@ -10,9 +10,8 @@ use Rattle.std.proofs.lemmas.Bool.Decides.{eqb_tells}
 use Rattle.std.proofs.Common.{eq-eqb}
 use Rattle.half_edge_links.specs.{face, Mesh, rev}
 use Rattle.delaunay_extensions.specs.{Leads}
-use Rattle.drawing_faces.specs.Parity.{either, has, IsDifference}
-use Rattle.drawing_faces.specs.Polygons.{is_odd, is_pair, list_at}
-use Rattle.drawing_faces.specs.PolygonSearch.{HasParities}
+use Rattle.drawing_faces.specs.{either, has, IsDifference, list_at}
+use Rattle.drawing_faces.specs.{Polygons.is_odd, Polygons.is_pair, PolygonSearch.HasParities}
 
 -- ---- one of two
 pub either_false : (b : Bool) → either b false ≡ b

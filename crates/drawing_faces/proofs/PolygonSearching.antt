@@ -12,12 +12,10 @@ use Rattle.std.proofs.lemmas.List.{length-replicate}
 use Rattle.std.proofs.lemmas.List.Sums.{sum_by-set}
 use Rattle.half_edge_links.specs.{face, Mesh, rev}
 use Rattle.delaunay_extensions.specs.{Leads}
-use Rattle.drawing_faces.specs.Parity.{either, has, IsDifference}
-use Rattle.drawing_faces.specs.Polygons.{AreUneven, AreWithin, is_odd, label_at, labelled}
-use Rattle.drawing_faces.specs.Polygons.{list_at, list_of}
-use Rattle.drawing_faces.specs.PolygonSearch.{AreEven, FitsAcross, GoesOn, has_none, HasParities, IsClosed}
-use Rattle.drawing_faces.specs.PolygonSearch.{IsSearch}
-use Rattle.drawing_faces.specs.PolygonSearch.{IsTold, IsUnevenAt, work_left}
+use Rattle.drawing_faces.specs.{either, has, IsDifference, IsSearch, label_at, list_at, work_left}
+use Rattle.drawing_faces.specs.PolygonSearch.{AreEven, FitsAcross, GoesOn, has_none, HasParities}
+use Rattle.drawing_faces.specs.PolygonSearch.{IsClosed, IsTold, IsUnevenAt}
+use Rattle.drawing_faces.specs.Polygons.{AreUneven, AreWithin, is_odd, labelled, list_of}
 use Rattle.drawing_faces.proofs.Parities.{either_false, either_swap, goes_across, way_across}
 
 -- ---- values of tests

@@ -1,12 +1,12 @@
 -- A search for the polygons that each face is in: from face to face across edges.
 use Rattle.std.specs.Prelude.{◌≡◌, ◌≢◌, ◌+◌, ◌*◌, ◌/◌, ◌<◌, ◌≤◌, ℕ, Bool, true, false, List}
 use Rattle.std.specs.Prelude.{length, map, Option, Some, None}
-use Rattle.drawing_faces.specs.declared.polygons.PolygonsOfFaces.{PolygonsOfFaces}
 use Rattle.std.specs.List.{count_by}
 use Rattle.half_edge_links.specs.{face, Mesh, rev}
 use Rattle.delaunay_extensions.specs.{Leads}
 use Rattle.drawing_faces.specs.Parity.{either, has, IsDifference}
 use Rattle.drawing_faces.specs.Polygons.{is_odd, label_at, labelled, list_at}
+use Rattle.drawing_faces.specs.declared.polygons.PolygonsOfFaces.{PolygonsOfFaces}
 
 -- the polygons in a list are those whose sides some way from the outer face to face f crosses an
 -- odd number of times

@@ -2,9 +2,9 @@
 -- it from outside.
 use Rattle.std.specs.Prelude.{◌≡◌, ◌≢◌, ◌+◌, ◌/◌, ◌<◌, [], ◌∷◌, ℕ, Bool, false, List}
 use Rattle.std.specs.Prelude.{length, map, slice_index_or}
-use Rattle.{delaunay_extensions.specs.Leads, half_edge_links.specs.Mesh}
 use Rattle.std.specs.Prelude.{cond, nat_eq}
 use Rattle.std.specs.Prelude.{Option, Some, None}
+use Rattle.{delaunay_extensions.specs.Leads, half_edge_links.specs.Mesh}
 use Rattle.drawing_faces.specs.{declared.borders.Borders.Borders, Parity.either, Parity.has}
 use Rattle.drawing_faces.specs.declared.polygons.PolygonsOfFaces.{PolygonsOfFaces}
 

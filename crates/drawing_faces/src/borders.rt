@@ -1,6 +1,7 @@
 //! Which polygons each edge is a side of.
 ghost use Rattle.std.specs.Prelude.{◌≡◌, ◌<◌, ◌≤◌, [], ℕ, length, replicate, IfOk, OnOk};
-ghost use Rattle.drawing_faces.specs.{Parity.either, Parity.has, Polygons.is_pair, Polygons.sides_in};
+ghost use Rattle.drawing_faces.specs.Parity.{either, has};
+ghost use Rattle.drawing_faces.specs.Polygons.{is_pair, sides_in};
 
 use crate::differences::difference;
 use half_edge_links::FixedUndirectedEdgeHandle;

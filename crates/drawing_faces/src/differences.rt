@@ -18,11 +18,7 @@ fn push_missing(these: &[u32], those: &[u32], list: &mut Vec<u32>) -> Result<(),
 }
 
 /// The numbers that are in one of two lists, and not in both.
-pub(crate) fn difference(
-    one: &[u32],
-    other: &[u32],
-    alloc: Global,
-) -> Result<Vec<u32>, AllocError>
+pub(crate) fn difference(one: &[u32], other: &[u32], alloc: Global) -> Result<Vec<u32>, AllocError>
     ensures { IfOk result (λ list. IsDifference one.now other.now list.items) }
 {
     let mut list = Vec::new(alloc);

@@ -3,11 +3,13 @@ ghost use Rattle.std.specs.Prelude.{◌≡◌, ◌∷◌, ◌+◌, ◌<◌, ◌�
 ghost use Rattle.std.specs.Prelude.{length, map, replicate};
 ghost use Rattle.std.specs.Prelude.{IfOk, OnOk, IfSome, IfNone, All, None, Some, slice_set};
 ghost use Rattle.half_edge_links.specs.{face, rev};
-ghost use Rattle.drawing_faces.specs.Polygons.{AreUneven, AreWithin, label_at, polygons_in, sides_in};
-ghost use Rattle.drawing_faces.specs.PolygonSearch.{AreEven, AreEvenAt, GoesOn, IsClosed, IsClosedAt, IsOpen, IsSearch};
-ghost use Rattle.drawing_faces.specs.PolygonSearch.{IsUnevenAt, lists_in, work_left};
+ghost use Rattle.drawing_faces.specs.PolygonSearch.{AreEven, AreEvenAt, GoesOn, IsClosed};
+ghost use Rattle.drawing_faces.specs.PolygonSearch.{IsClosedAt, IsOpen, IsSearch, IsUnevenAt};
+ghost use Rattle.drawing_faces.specs.PolygonSearch.{lists_in, work_left};
+ghost use Rattle.drawing_faces.specs.Polygons.{AreUneven, AreWithin, label_at, polygons_in};
+ghost use Rattle.drawing_faces.specs.Polygons.{sides_in};
 
-use crate::borders::Borders;
+use crate::Borders;
 use crate::differences::{difference, fault_of};
 use delaunay_interface::Triangulation;
 use half_edge_dcel::{Dcel, MeshViews};
@@ -88,7 +90,7 @@ impl PolygonsOfFaces {
         self.labels.get(face.index() as usize).copied().flatten()
     }
 
-    // The place of a list with what is in another list or among some numbers, and not in both.
+    // The index of a list with what is in another list or among some numbers, and not in both.
     fn list_across(
         &mut self,
         label: usize,
@@ -208,10 +210,7 @@ impl PolygonsOfFaces {
     }
 
     // An edge that leads from a face with a list to one with none.
-    fn open_edge<V, DE, UE, F>(
-        &self,
-        dcel: &Dcel<V, DE, UE, F>,
-    ) -> Option<FixedDirectedEdgeHandle>
+    fn open_edge<V, DE, UE, F>(&self, dcel: &Dcel<V, DE, UE, F>) -> Option<FixedDirectedEdgeHandle>
         ensures open { IfSome result (IsOpen dcel.now.mesh self.now.labels.items) }
         ensures closed { IfNone result (IsClosed dcel.now.mesh self.now.labels.items) }
     {
@@ -292,14 +291,14 @@ fn find_polygons<V, DE, UE, F>(
 /// face in a hole of a polygon is not in it. `None` says that two ways to some face do not agree,
 /// as with sides that are not closed rings. It gives `AllocError` where memory was refused.
 pub fn polygons_of_faces<T: Triangulation>(
-    site: &T,
+    triangulation: &T,
     borders: &Borders,
     alloc: Global,
 ) -> Result<Option<PolygonsOfFaces>, AllocError>
     ensures within { IfOk result (λ found. IfSome found (λ p.
-        AreWithin (T.state site.now).mesh (sides_in borders.now) (polygons_in p))) }
+        AreWithin (T.state triangulation.now).mesh (sides_in borders.now) (polygons_in p))) }
     ensures none { IfOk result (λ found. IfNone found
-        (AreUneven (T.state site.now).mesh (sides_in borders.now))) }
+        (AreUneven (T.state triangulation.now).mesh (sides_in borders.now))) }
 {
-    find_polygons(site.s(), borders, alloc)
+    find_polygons(triangulation.s(), borders, alloc)
 }

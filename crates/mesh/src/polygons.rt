@@ -1,6 +1,6 @@
-//! Which polygons of a drawing each face is in, by the even-odd rule; or which regions, where it has
-//! none but regions.
-use crate::building::point_place;
+//! Which polygons of a drawing each face is in, by the even-odd rule; or which regions, where it
+//! has none but regions.
+use crate::building::point_index;
 use crate::paths::{Turn, path_between};
 use crate::splitting::point_vertices;
 use delaunay_core::math::validate_vertex;
@@ -51,7 +51,7 @@ impl FaceSide {
     }
 }
 
-/// Faces by the places of their corners, and what is next to them.
+/// Faces by the indexes of their corners, and what is next to them.
 #[derive(Drop)]
 struct FaceMap<'a> {
     points: &'a [Point2<i32>],
@@ -63,10 +63,10 @@ struct FaceMap<'a> {
 }
 
 /// The sides of all faces, in order.
-fn sides_of(faces: &[[u32; 3]], alloc: Global) -> Result<Vec<FaceSide>, AllocError> {
+fn face_sides(faces: &[[u32; 3]], alloc: Global) -> Result<Vec<FaceSide>, AllocError> {
     let mut sides = Vec::new(alloc);
-    for (place, [a, b, c]) in faces.iter().enumerate() {
-        let face = u32::try_from(place).unwrap_or(NO_FACE);
+    for (index, [a, b, c]) in faces.iter().enumerate() {
+        let face = u32::try_from(index).unwrap_or(NO_FACE);
         sides.push(FaceSide::new(*a, *b, face, 0))?;
         sides.push(FaceSide::new(*b, *c, face, 1))?;
         sides.push(FaceSide::new(*c, *a, face, 2))?;
@@ -93,7 +93,7 @@ fn across_of(sides: &[FaceSide], alloc: Global) -> Result<Vec<u32>, AllocError> 
 
 /// Of each side of each face the face on its other side.
 pub fn across_faces(faces: &[[u32; 3]], alloc: Global) -> Result<Vec<u32>, AllocError> {
-    let sides = sides_of(faces, alloc)?;
+    let sides = face_sides(faces, alloc)?;
     across_of(sides.as_slice(), alloc)
 }
 
@@ -102,7 +102,7 @@ impl FaceMap<'_> {
     fn beside(&self, [from, to]: [u32; 2]) -> &[FaceSide] {
         let least = FaceSide::new(from, to, 0, 0);
         let start = match self.sides.binary_search(&least) {
-            Ok(place) | Err(place) => place,
+            Ok(index) | Err(index) => index,
         };
         let behind = self.sides.get(start..).unwrap_or(&[]);
         let mut count = 0usize;
@@ -116,8 +116,8 @@ impl FaceMap<'_> {
     }
 
     /// Three times the coordinates of a point.
-    fn tripled(&self, place: u32) -> (i128, i128) {
-        match self.points.get(place as usize) {
+    fn tripled(&self, index: u32) -> (i128, i128) {
+        match self.points.get(index as usize) {
             Some(point) => (
                 i128::from(point.x).wrapping_mul(3),
                 i128::from(point.y).wrapping_mul(3),
@@ -281,12 +281,12 @@ impl Search {
     /// Takes over which polygons each face is in, where these are their numbers by their orders.
     fn take<T: Triangulation<Vertex = Point2<i32>>>(
         &mut self,
-        site: &T,
+        triangulation: &T,
         polygons: &PolygonsOfFaces,
         numbers: &[u32],
     ) -> Result<(), AllocError> {
-        site.recall_invariant();
-        for (i, face) in site.inner_faces().enumerate() {
+        triangulation.recall_invariant();
+        for (i, face) in triangulation.inner_faces().enumerate() {
             for order in polygons.at(face.fix()) {
                 let before = (*order as usize).saturating_sub(1);
                 self.found.push(Found {
@@ -300,32 +300,32 @@ impl Search {
     }
 }
 
-/// What rings are made of: the vertices of points, the points of vertices, and the turns of segments
-/// that were split.
+/// What rings are made of: the vertices of points, the points of vertices, and the turns of
+/// segments that were split.
 #[derive(Clone, Copy)]
 struct Outlines<'a> {
     vertices: &'a [u32],
-    places: &'a [u32],
+    indexes: &'a [u32],
     turns: &'a [Turn],
 }
 
 /// The edge between two vertices, if they are joined.
 fn edge_between<T: Triangulation<Vertex = Point2<i32>>>(
-    site: &T,
+    triangulation: &T,
     from: u32,
     to: u32,
 ) -> Option<FixedUndirectedEdgeHandle> {
-    site.recall_invariant();
-    let from = site.get_vertex(FixedVertexHandle::from_index(from))?;
+    triangulation.recall_invariant();
+    let from = triangulation.get_vertex(FixedVertexHandle::from_index(from))?;
     let to = FixedVertexHandle::from_index(to);
-    let edge = site.get_edge_from_neighbors(from.fix(), to)?;
+    let edge = triangulation.get_edge_from_neighbors(from.fix(), to)?;
     Some(edge.as_undirected().fix())
 }
 
-/// Adds the sides of a ring to those of its polygon: along the edges that they became, by the places
-/// of their ends with the lesser first.
+/// Adds the sides of a ring to those of its polygon: along the edges that they became, by the
+/// indexes of their ends with the lesser first.
 fn add_ring<T: Triangulation<Vertex = Point2<i32>>>(
-    site: &T,
+    triangulation: &T,
     ring: &Ring,
     outlines: Outlines<'_>,
     polygon: &mut Polygon,
@@ -334,21 +334,21 @@ fn add_ring<T: Triangulation<Vertex = Point2<i32>>>(
     let mut last = ring.end.saturating_sub(1);
     for next in ring.start..ring.end {
         let ends = [
-            point_place(outlines.vertices, last),
-            point_place(outlines.vertices, next),
+            point_index(outlines.vertices, last),
+            point_index(outlines.vertices, next),
         ];
         last = next;
         let [from, to] = ends;
         if from == to {
             continue;
         }
-        let path = path_between(site, outlines.turns, ends, alloc)?;
+        let path = path_between(triangulation, outlines.turns, ends, alloc)?;
         for (one, other) in path.iter().zip(path.iter().skip(1)) {
-            if let Some(edge) = edge_between(site, *one, *other) {
+            if let Some(edge) = edge_between(triangulation, *one, *other) {
                 polygon.edges.push(edge)?;
             }
-            let one = point_place(outlines.places, *one);
-            let other = point_place(outlines.places, *other);
+            let one = point_index(outlines.indexes, *one);
+            let other = point_index(outlines.indexes, *other);
             polygon.sides.push([one.min(other), one.max(other)])?;
         }
     }
@@ -365,12 +365,12 @@ struct Sought {
 
 impl Sought {
     fn new<T: Triangulation<Vertex = Point2<i32>>>(
-        site: &T,
+        triangulation: &T,
         alloc: Global,
     ) -> Result<Self, AllocError> {
         Ok(Sought {
             numbers: Vec::new(alloc),
-            borders: Borders::new(site.num_undirected_edges(), alloc)?,
+            borders: Borders::new(triangulation.num_undirected_edges(), alloc)?,
         })
     }
 
@@ -387,21 +387,21 @@ impl Sought {
     }
 }
 
-/// Finds the faces of all polygons: where `by_edges` holds by the edges that their sides are, if all
-/// of them are; and else face by face. It tells whether the edges were closed rings.
+/// Finds the faces of all polygons: where `by_edges` holds by the edges that their sides are, if
+/// all of them are; and else face by face. It tells whether the edges were closed rings.
 fn find_all<T: Triangulation<Vertex = Point2<i32>>>(
     search: &mut Search,
     map: &FaceMap<'_>,
-    site: &T,
+    triangulation: &T,
     drawing: &Drawing,
     outlines: Outlines<'_>,
     by_edges: bool,
     alloc: Global,
 ) -> Result<bool, AllocError> {
-    let mut sought = Sought::new(site, alloc)?;
+    let mut sought = Sought::new(triangulation, alloc)?;
     let mut polygon = Polygon::new(alloc);
     for (i, ring) in drawing.rings.iter().enumerate() {
-        add_ring(site, ring, outlines, &mut polygon, alloc)?;
+        add_ring(triangulation, ring, outlines, &mut polygon, alloc)?;
         polygon.number = ring.polygon;
         if let Some(next) = drawing.rings.get(i.saturating_add(1))
             && next.polygon == ring.polygon
@@ -415,10 +415,10 @@ fn find_all<T: Triangulation<Vertex = Point2<i32>>>(
         polygon.sides.clear();
         polygon.edges.clear();
     }
-    let Some(found) = polygons_of_faces(site, &sought.borders, alloc)? else {
+    let Some(found) = polygons_of_faces(triangulation, &sought.borders, alloc)? else {
         return Ok(false);
     };
-    search.take(site, &found, sought.numbers.as_slice())?;
+    search.take(triangulation, &found, sought.numbers.as_slice())?;
     Ok(true)
 }
 
@@ -434,9 +434,9 @@ impl FaceMap<'_> {
     }
 }
 
-/// The corners of a face at an edge, by the places of their points.
+/// The corners of a face at an edge, by the indexes of their points.
 fn corners_beside<DE, UE, F>(
-    places: &[u32],
+    indexes: &[u32],
     edge: DirectedEdgeHandle<'_, Point2<i32>, DE, UE, F>,
 ) -> Option<[u32; 3]> {
     let third = match edge.opposite_vertex() {
@@ -445,46 +445,49 @@ fn corners_beside<DE, UE, F>(
     };
     let [from, to] = edge.vertices();
     Some([
-        point_place(places, from.fix().index()),
-        point_place(places, to.fix().index()),
-        point_place(places, third.fix().index()),
+        point_index(indexes, from.fix().index()),
+        point_index(indexes, to.fix().index()),
+        point_index(indexes, third.fix().index()),
     ])
 }
 
-/// The corners of the face that a point is in, or of one at the edge that it is on, by the places of
-/// their points.
+/// The corners of the face that a point is in, or of one at the edge that it is on, by the indexes
+/// of their points.
 fn corners_round<T: Triangulation<Vertex = Point2<i32>>>(
-    site: &T,
-    places: &[u32],
+    triangulation: &T,
+    indexes: &[u32],
     point: Point2<i32>,
 ) -> Option<[u32; 3]> {
-    site.recall_invariant();
+    triangulation.recall_invariant();
     if validate_vertex(&point).is_err() {
         return None;
     }
-    match site.locate(point, &ExactTests) {
+    match triangulation.locate(point, &ExactTests) {
         PositionInTriangulation::OnFace(face) => {
-            let [edge, _, _] = site.face(face).adjacent_edges();
-            corners_beside(places, edge)
+            let [edge, _, _] = triangulation.face(face).adjacent_edges();
+            corners_beside(indexes, edge)
         }
-        PositionInTriangulation::OnEdge(edge) => corners_beside(places, site.directed_edge(edge)),
+        PositionInTriangulation::OnEdge(edge) => corners_beside(
+            indexes,
+            triangulation.directed_edge(edge),
+        ),
         _ => None,
     }
 }
 
-/// The edges that are constraints, by the places of their ends.
+/// The edges that are constraints, by the indexes of their ends.
 fn constraint_sides<T: Triangulation<Vertex = Point2<i32>>>(
-    site: &T,
-    places: &[u32],
+    triangulation: &T,
+    indexes: &[u32],
     alloc: Global,
 ) -> Result<Vec<[u32; 2]>, AllocError> {
     let mut sides = Vec::new(alloc);
-    for edge in site.undirected_edges() {
+    for edge in triangulation.undirected_edges() {
         if T::Constraints::is_constraint_edge(edge.data()) {
             let [a, b] = edge.vertices();
             sides.push([
-                point_place(places, a.fix().index()),
-                point_place(places, b.fix().index()),
+                point_index(indexes, a.fix().index()),
+                point_index(indexes, b.fix().index()),
             ])?;
         }
     }
@@ -496,20 +499,20 @@ fn constraint_sides<T: Triangulation<Vertex = Point2<i32>>>(
 fn find_regions<T: Triangulation<Vertex = Point2<i32>>>(
     search: &mut Search,
     map: &FaceMap<'_>,
-    site: &T,
-    places: &[u32],
+    triangulation: &T,
+    indexes: &[u32],
     points: &[Asked],
     alloc: Global,
 ) -> Result<(), AllocError> {
     let mut polygon = Polygon::new(alloc);
-    polygon.sides = constraint_sides(site, places, alloc)?;
+    polygon.sides = constraint_sides(triangulation, indexes, alloc)?;
     for asked in points {
         polygon.number = polygon.number.saturating_add(1);
         polygon.order = polygon.number;
         let Asked::Near(point) = asked else {
             continue;
         };
-        let Some(corners) = corners_round(site, places, *point) else {
+        let Some(corners) = corners_round(triangulation, indexes, *point) else {
             continue;
         };
         if let Some(face) = map.face_at(corners) {
@@ -594,24 +597,24 @@ fn lists_of(found: &[Found], faces: usize, alloc: Global) -> Result<PolygonLists
     })
 }
 
-/// The polygons or regions that each face is in. Faces are all inner faces, by the places of their
+/// The polygons or regions that each face is in. Faces are all inner faces, by the indexes of their
 /// corners.
 pub fn polygon_lists<T: Triangulation<Vertex = Point2<i32>>>(
     scene: &Scene,
-    site: &T,
-    places: &[u32],
+    triangulation: &T,
+    indexes: &[u32],
     turns: &[Turn],
     faces: &[[u32; 3]],
     alloc: Global,
 ) -> Result<PolygonLists, AllocError> {
     let points = scene.scaled.points.as_slice();
-    let vertices = point_vertices(site, places, points, alloc)?;
+    let vertices = point_vertices(triangulation, indexes, points, alloc)?;
     let outlines = Outlines {
         vertices: vertices.as_slice(),
-        places,
+        indexes,
         turns,
     };
-    let sides = sides_of(faces, alloc)?;
+    let sides = face_sides(faces, alloc)?;
     let across = across_of(sides.as_slice(), alloc)?;
     let map = FaceMap {
         points,
@@ -622,12 +625,28 @@ pub fn polygon_lists<T: Triangulation<Vertex = Point2<i32>>>(
     let mut search = Search::new(faces.len(), alloc)?;
     if scene.drawing.rings.is_empty() {
         let regions = scene.region_points.as_slice();
-        find_regions(&mut search, &map, site, places, regions, alloc)?;
+        find_regions(&mut search, &map, triangulation, indexes, regions, alloc)?;
     } else {
         let drawing = &scene.drawing;
-        if !find_all(&mut search, &map, site, drawing, outlines, true, alloc)? {
+        if !find_all(
+            &mut search,
+            &map,
+            triangulation,
+            drawing,
+            outlines,
+            true,
+            alloc,
+        )? {
             search = Search::new(faces.len(), alloc)?;
-            find_all(&mut search, &map, site, drawing, outlines, false, alloc)?;
+            find_all(
+                &mut search,
+                &map,
+                triangulation,
+                drawing,
+                outlines,
+                false,
+                alloc,
+            )?;
         }
     }
     search.found.sort()?;

@@ -1,5 +1,5 @@
 use Rattle.std.proofs.Common.{◌≡◌, ℕ, true, take}
-use Rattle.drawing_faces.specs.Parity.{either, has}
+use Rattle.drawing_faces.specs.{either, has}
 use Rattle.drawing_faces.proofs.differences.first_fault.Given as goal
 
 abbrev pub invariant-loop-number : goal.invariant-loop-number

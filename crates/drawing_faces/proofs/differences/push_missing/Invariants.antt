@@ -1,5 +1,5 @@
 use Rattle.std.proofs.Common.{◌≡◌, ℕ, take}
-use Rattle.drawing_faces.specs.Parity.{has, or_only_first}
+use Rattle.{drawing_faces.specs.has, drawing_faces.specs.Parity.or_only_first}
 use Rattle.drawing_faces.proofs.differences.push_missing.Given as goal
 
 abbrev pub invariant-loop-number : goal.invariant-loop-number

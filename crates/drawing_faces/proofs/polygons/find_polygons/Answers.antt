@@ -1,5 +1,4 @@
-use Rattle.drawing_faces.specs.Polygons.{sides_in}
-use Rattle.drawing_faces.specs.PolygonSearch.{lists_in}
+use Rattle.drawing_faces.specs.{lists_in, sides_in}
 use Rattle.drawing_faces.proofs.PolygonSearching.{all_within, uneven_ways}
 use Rattle.drawing_faces.proofs.polygons.find_polygons.Goals as goal
 

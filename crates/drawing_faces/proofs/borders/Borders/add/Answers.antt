@@ -1,5 +1,5 @@
 use Rattle.std.proofs.Common.{◌∙◌, [], ◌∷◌, ap}
-use Rattle.drawing_faces.specs.Parity.{either, has}
+use Rattle.drawing_faces.specs.{either, has}
 use Rattle.drawing_faces.proofs.Parities.{added}
 use Rattle.drawing_faces.proofs.borders.Borders.add.Goals as goal
 

@@ -1,5 +1,5 @@
 use Rattle.std.proofs.Common.{◌≡◌, [], ℕ, length, map}
-use Rattle.drawing_faces.specs.Polygons.{list_at}
+use Rattle.drawing_faces.specs.{list_at}
 use Rattle.drawing_faces.proofs.borders.Borders.new.Given as goal
 
 abbrev pub invariant-loop : goal.invariant-loop

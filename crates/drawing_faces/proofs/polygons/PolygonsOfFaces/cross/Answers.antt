@@ -3,8 +3,8 @@ use Rattle.std.proofs.Common.{ap, sym, subst, arith}
 use Rattle.std.specs.Prelude.{Option, None, Some}
 use Rattle.std.proofs.lemmas.Result.{on_ok_weaker}
 use Rattle.half_edge_links.specs.{face, rev}
-use Rattle.drawing_faces.specs.Polygons.{label_at, sides_in}
-use Rattle.drawing_faces.specs.PolygonSearch.{GoesOn, IsSearch, lists_in, work_left}
+use Rattle.drawing_faces.specs.{IsSearch, label_at, lists_in, sides_in, work_left}
+use Rattle.drawing_faces.specs.PolygonSearch.{GoesOn}
 use Rattle.drawing_faces.proofs.PolygonSearching.{is_no_some, less_left, told}
 use Rattle.drawing_faces.proofs.polygons.PolygonsOfFaces.cross.Goals as goal
 

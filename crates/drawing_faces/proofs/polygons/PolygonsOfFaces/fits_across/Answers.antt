@@ -1,9 +1,8 @@
 use Rattle.std.proofs.Common.{◌≢◌, ◌∙◌, ◌<◌, ℕ, List, length, ap, arith}
 use Rattle.half_edge_links.specs.{face, rev}
-use Rattle.drawing_faces.specs.Parity.{either, has, IsDifference}
-use Rattle.drawing_faces.specs.Polygons.{label_at, labelled, sides_in}
-use Rattle.drawing_faces.specs.PolygonSearch.{lists_in}
-use Rattle.drawing_faces.proofs.PolygonSearching.{fits_at, not_none, uneven_at, when_none, when_some}
+use Rattle.drawing_faces.specs.{either, has, IsDifference, label_at, lists_in, sides_in}
+use Rattle.drawing_faces.proofs.PolygonSearching.{fits_at, not_none, uneven_at, when_none}
+use Rattle.{drawing_faces.proofs.PolygonSearching.when_some, drawing_faces.specs.Polygons.labelled}
 use Rattle.drawing_faces.proofs.polygons.PolygonsOfFaces.fits_across.Goals as goal
 
 pub returns-else-is_none-clause-fits : goal.returns-else-is_none-clause-fits

@@ -1,7 +1,6 @@
 use Rattle.std.proofs.Common.{◌<◌, ◌≤◌, ℕ, length}
 use Rattle.std.specs.Prelude.{All}
-use Rattle.drawing_faces.specs.Polygons.{sides_in}
-use Rattle.drawing_faces.specs.PolygonSearch.{IsSearch, lists_in, work_left}
+use Rattle.drawing_faces.specs.{IsSearch, lists_in, sides_in, work_left}
 use Rattle.drawing_faces.proofs.polygons.PolygonsOfFaces.flood.Given as goal
 
 abbrev pub invariant-loop-edge : goal.invariant-loop-edge

@@ -1,6 +1,5 @@
 use Rattle.std.proofs.Common.{◌∙◌, ◌≡◌, ◌<◌, inl, inr, arith, sym, subst}
-use Rattle.drawing_faces.specs.Polygons.{sides_in}
-use Rattle.drawing_faces.specs.PolygonSearch.{AreEvenAt, lists_in}
+use Rattle.drawing_faces.specs.{lists_in, PolygonSearch.AreEvenAt, sides_in}
 use Rattle.drawing_faces.proofs.PolygonSearching.{below_last}
 use Rattle.drawing_faces.proofs.polygons.PolygonsOfFaces.is_even.Goals as goal
 

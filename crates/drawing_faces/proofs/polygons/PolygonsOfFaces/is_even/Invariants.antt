@@ -1,6 +1,5 @@
 use Rattle.std.proofs.Common.{◌<◌, ℕ}
-use Rattle.drawing_faces.specs.Polygons.{sides_in}
-use Rattle.drawing_faces.specs.PolygonSearch.{AreEvenAt, lists_in}
+use Rattle.drawing_faces.specs.{lists_in, PolygonSearch.AreEvenAt, sides_in}
 use Rattle.drawing_faces.proofs.polygons.PolygonsOfFaces.is_even.Given as goal
 
 abbrev pub invariant-loop-index : goal.invariant-loop-index

@@ -1,7 +1,6 @@
 use Rattle.std.proofs.Common.{◌≡◌, ◌∙◌, ◌+◌, [], ◌∷◌, length, sym, subst, arith, set}
 use Rattle.std.specs.Prelude.{Some}
-use Rattle.drawing_faces.specs.PolygonSearch.{IsSearch}
-use Rattle.drawing_faces.proofs.PolygonSearching.{begun}
+use Rattle.{drawing_faces.proofs.PolygonSearching.begun, drawing_faces.specs.IsSearch}
 use Rattle.drawing_faces.proofs.polygons.PolygonsOfFaces.new.Goals as goal
 
 pub returns : goal.returns
