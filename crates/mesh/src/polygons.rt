@@ -278,22 +278,42 @@ impl Search {
         Ok(())
     }
 
-    /// Takes over which polygons each face is in, where these are their numbers by their orders.
+    /// Notes that a face is in polygons of these orders, where `numbers` are those of all.
+    fn note_all(&mut self, face: u32, orders: &[u32], numbers: &[u32]) -> Result<(), AllocError> {
+        for order in orders {
+            let before = (*order as usize).saturating_sub(1);
+            self.found.push(Found {
+                face,
+                order: *order,
+                polygon: numbers.get(before).copied().unwrap_or(0),
+            })?;
+        }
+        Ok(())
+    }
+
+    /// Notes of each face of a map the polygons that it is in.
     fn take<T: Triangulation<Vertex = Point2<i32>>>(
         &mut self,
+        map: &FaceMap<'_>,
         triangulation: &T,
+        indexes: &[u32],
         polygons: &PolygonsOfFaces,
         numbers: &[u32],
     ) -> Result<(), AllocError> {
         triangulation.recall_invariant();
         for (i, face) in triangulation.inner_faces().enumerate() {
-            for order in polygons.at(face.fix()) {
-                let before = (*order as usize).saturating_sub(1);
-                self.found.push(Found {
-                    face: u32::try_from(i).unwrap_or(NO_FACE),
-                    order: *order,
-                    polygon: numbers.get(before).copied().unwrap_or(0),
-                })?;
+            let orders = polygons.at(face.fix());
+            if orders.is_empty() {
+                continue;
+            }
+            let [a, b, c] = face.vertices();
+            let corners = [
+                point_index(indexes, a.fix().index()),
+                point_index(indexes, b.fix().index()),
+                point_index(indexes, c.fix().index()),
+            ];
+            if let Some(face) = map.find(i, corners) {
+                self.note_all(face, orders, numbers)?;
             }
         }
         Ok(())
@@ -418,11 +438,20 @@ fn find_all<T: Triangulation<Vertex = Point2<i32>>>(
     let Some(found) = polygons_of_faces(triangulation, &sought.borders, alloc)? else {
         return Ok(false);
     };
-    search.take(triangulation, &found, sought.numbers.as_slice())?;
+    let numbers = sought.numbers.as_slice();
+    search.take(map, triangulation, outlines.indexes, &found, numbers)?;
     Ok(true)
 }
 
 impl FaceMap<'_> {
+    /// The face with these corners, which may be the one of this index.
+    fn find(&self, index: usize, corners: [u32; 3]) -> Option<u32> {
+        if self.faces.get(index) == Some(&corners) {
+            return u32::try_from(index).ok();
+        }
+        self.face_at(corners)
+    }
+
     /// The face with these corners.
     fn face_at(&self, [a, b, c]: [u32; 3]) -> Option<u32> {
         for side in self.beside([a, b]) {
