@@ -37,11 +37,11 @@ from ._tile import Plan, TileReport, cells_of_tile
 from ._tile_files import (
     Box,
     Gathered,
-    Piece,
+    Chunk,
     TileFiles,
     boxes_in,
     is_plain,
-    pieces_of,
+    chunks_of,
     plan_of,
     some_of,
     survey,
@@ -128,8 +128,8 @@ def cut_plane(
 ) -> Plan:
     """Cuts the plane into tiles, and gathers the points of each and the segments that may meet it:
     what each tile knows of all."""
-    pieces, workers = [piece for name in names for piece in pieces_of(name)], runner.workers()
-    counts, sample = survey_of(pieces, tile_size, runner)
+    chunks, workers = [chunk for name in names for chunk in chunks_of(name)], runner.workers()
+    counts, sample = survey_of(chunks, tile_size, runner)
     cuts = plan_of(sample, tile_count(sum(counts), tile_size, workers))
     boxes = boxes_in(cuts)
     firsts = np.cumsum([0, *counts]).tolist()
@@ -140,23 +140,23 @@ def cut_plane(
     if firsts[-1] <= AT_ONCE:
         # Each worker gathers the points of as many tiles.
         ends = sorted({len(boxes) * i // workers for i in range(workers + 1)})
-        tasks = [(pieces, i, some_of(cuts, i, k), *words) for i, k in zip(ends, ends[1:])]
+        tasks = [(chunks, i, some_of(cuts, i, k), *words) for i, k in zip(ends, ends[1:])]
         gathered = [it for some in runner.run(files.gather_from, tasks) for it in some]
     else:
-        gathered = cut_and_gather(pieces, firsts, cuts, words, runner, files)
-    of_names = [first for piece, first in zip(pieces, firsts) if piece.begin == 0]
+        gathered = cut_and_gather(chunks, firsts, cuts, words, runner, files)
+    of_names = [first for chunk, first in zip(chunks, firsts) if chunk.begin == 0]
     of_names.append(firsts[-1])
     placed = place_segments(of_segments, names, of_names, cuts, runner, files)
     return plan_from(boxes, gathered, placed)
 
 
 def survey_of(
-    pieces: List[Piece], tile_size: int, runner: Runner
+    chunks: List[Chunk], tile_size: int, runner: Runner
 ) -> Tuple[List[int], NDArray[Any]]:
-    """How many points each piece has, and a sample of all."""
-    each = max(SAMPLE // max(len(pieces), 1), 1)
-    tasks = [(piece, each, tile_size) for piece in pieces]
-    if sum(AT_ONCE if it.end is None else it.end - it.begin for it in pieces) < AT_ONCE:
+    """How many points each chunk has, and a sample of all."""
+    each = max(SAMPLE // max(len(chunks), 1), 1)
+    tasks = [(chunk, each, tile_size) for chunk in chunks]
+    if sum(AT_ONCE if it.end is None else it.end - it.begin for it in chunks) < AT_ONCE:
         # This process has done it before others were asked.
         found = [survey(*words) for words in tasks]
     else:
@@ -166,15 +166,15 @@ def survey_of(
 
 
 def cut_and_gather(
-    pieces: List[Piece],
+    chunks: List[Chunk],
     firsts: List[int],
     cuts: Any,
     words: Tuple[Any, ...],
     runner: Runner,
     files: TileFiles,
 ) -> List[Gathered]:
-    """Sorts each piece by tile, and gathers the points of each tile."""
-    tasks = [(piece, i, firsts[i], cuts) for i, piece in enumerate(pieces)]
+    """Sorts each chunk by tile, and gathers the points of each tile."""
+    tasks = [(chunk, i, firsts[i], cuts) for i, chunk in enumerate(chunks)]
     begins = runner.run(files.cut, tasks)
     parts = [
         [
@@ -185,7 +185,7 @@ def cut_and_gather(
         for tile in range(len(boxes_in(cuts)))
     ]
     gathered = runner.run(files.gather, [(tile, part, *words) for tile, part in enumerate(parts)])
-    for i in range(len(pieces)):
+    for i in range(len(chunks)):
         os.remove(files.name("cut-points", i))
         os.remove(files.name("cut-numbers", i))
     return gathered

@@ -14,6 +14,7 @@ pub use Holes.{AreIn}
 pub use Kept.{AreKept, IsLeftOut}
 pub use Names.{places_of, position}
 pub use Refusals.{HasEnds, MayTake, RefusesEnds, RefusesPoints}
+pub use Sides.{AddsBeside}
 pub use Splitting.{AreLed, IsAnyPoint}
 pub use declared.edits.DrawnSegment.{DrawnSegment}
 pub use declared.error.DrawingError.{DrawingError}

@@ -22,7 +22,7 @@ abbrev pub bulk_fault : BulkInsertionError → DrawingError
 bulk_fault (bulk.Vertex i why) = insertion_fault why
 bulk_fault (bulk.NoRoom why) = insertion_fault why
 
--- points that come to a mesh with so many vertices may be taken: all are in range, and they are few
+-- points that come to a mesh with so many vertices may be added: all are in range, and they are few
 -- enough for indexes
 pub record MayTake (points : List (Point2 ℤ)) (count : ℕ) : Type 0 where
   pub in_range : All (λ p. InRange (position p)) points

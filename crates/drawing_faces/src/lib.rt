@@ -12,7 +12,9 @@ mod sides;
 mod splits;
 mod within;
 
-pub use drawn::{DrawnMesh, PlacedPoints, Plain, Site, place_points, triangulate_drawing};
+pub use drawn::{
+    Constrained, DrawnMesh, Plain, TriangulatedPoints, triangulate_drawing, triangulate_points,
+};
 pub use edits::{DrawnSegment, add_segments, insert_points};
 pub use error::DrawingError;
 pub use faces::{FaceCorners, Kept, faces_inside, faces_of, kept_faces};

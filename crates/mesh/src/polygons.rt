@@ -1,6 +1,6 @@
-//! Which polygons of a drawing each face is in: those that an inner point of it is in, by the parity
-//! of their sides; or which regions, where it has none but regions.
-use crate::building::point_place;
+//! Which polygons of a drawing each face is in: those that an inner point of it is in, by the
+//! parity of their sides; or which regions, where it has none but regions.
+use crate::building::point_index;
 use crate::paths::{Turn, path_between};
 use crate::splitting::point_vertices;
 use delaunay_core::math::validate_vertex;
@@ -49,7 +49,7 @@ impl FaceSide {
     }
 }
 
-/// Faces by the places of their corners, and what is next to them.
+/// Faces by the indexes of their corners, and what is next to them.
 #[derive(Drop)]
 struct FaceMap<'a> {
     points: &'a [Point2<i32>],
@@ -61,10 +61,10 @@ struct FaceMap<'a> {
 }
 
 /// The sides of all faces, in order.
-fn sides_of(faces: &[[u32; 3]], alloc: Global) -> Result<Vec<FaceSide>, AllocError> {
+fn face_sides(faces: &[[u32; 3]], alloc: Global) -> Result<Vec<FaceSide>, AllocError> {
     let mut sides = Vec::new(alloc);
-    for (place, [a, b, c]) in faces.iter().enumerate() {
-        let face = u32::try_from(place).unwrap_or(NO_FACE);
+    for (index, [a, b, c]) in faces.iter().enumerate() {
+        let face = u32::try_from(index).unwrap_or(NO_FACE);
         sides.push(FaceSide::new(*a, *b, face, 0))?;
         sides.push(FaceSide::new(*b, *c, face, 1))?;
         sides.push(FaceSide::new(*c, *a, face, 2))?;
@@ -91,7 +91,7 @@ fn across_of(sides: &[FaceSide], alloc: Global) -> Result<Vec<u32>, AllocError> 
 
 /// Of each side of each face the face on its other side.
 pub fn across_faces(faces: &[[u32; 3]], alloc: Global) -> Result<Vec<u32>, AllocError> {
-    let sides = sides_of(faces, alloc)?;
+    let sides = face_sides(faces, alloc)?;
     across_of(sides.as_slice(), alloc)
 }
 
@@ -100,7 +100,7 @@ impl FaceMap<'_> {
     fn beside(&self, [from, to]: [u32; 2]) -> &[FaceSide] {
         let least = FaceSide::new(from, to, 0, 0);
         let start = match self.sides.binary_search(&least) {
-            Ok(place) | Err(place) => place,
+            Ok(index) | Err(index) => index,
         };
         let behind = self.sides.get(start..).unwrap_or(&[]);
         let mut count = 0usize;
@@ -114,8 +114,8 @@ impl FaceMap<'_> {
     }
 
     /// Three times the coordinates of a point.
-    fn tripled(&self, place: u32) -> (i128, i128) {
-        match self.points.get(place as usize) {
+    fn tripled(&self, index: u32) -> (i128, i128) {
+        match self.points.get(index as usize) {
             Some(point) => (
                 i128::from(point.x).wrapping_mul(3),
                 i128::from(point.y).wrapping_mul(3),
@@ -299,19 +299,19 @@ impl Search {
     }
 }
 
-/// What rings are made of: the vertices of points, the points of vertices, and the turns of segments
-/// that were split.
+/// What rings are made of: the vertices of points, the points of vertices, and the turns of
+/// segments that were split.
 #[derive(Clone, Copy)]
 struct Outlines<'a> {
     vertices: &'a [u32],
-    places: &'a [u32],
+    indexes: &'a [u32],
     turns: &'a [Turn],
 }
 
-/// Adds the sides of a ring to those of its polygon: along the edges that they became, by the places
-/// of their ends with the lesser first.
+/// Adds the sides of a ring to those of its polygon: along the edges that they became, by the
+/// indexes of their ends with the lesser first.
 fn add_ring<T: Triangulation<Vertex = Point2<i32>>>(
-    site: &T,
+    triangulation: &T,
     ring: &Ring,
     outlines: Outlines<'_>,
     sides: &mut Vec<[u32; 2]>,
@@ -320,18 +320,18 @@ fn add_ring<T: Triangulation<Vertex = Point2<i32>>>(
     let mut last = ring.end.saturating_sub(1);
     for next in ring.start..ring.end {
         let ends = [
-            point_place(outlines.vertices, last),
-            point_place(outlines.vertices, next),
+            point_index(outlines.vertices, last),
+            point_index(outlines.vertices, next),
         ];
         last = next;
         let [from, to] = ends;
         if from == to {
             continue;
         }
-        let path = path_between(site, outlines.turns, ends, alloc)?;
+        let path = path_between(triangulation, outlines.turns, ends, alloc)?;
         for (one, other) in path.iter().zip(path.iter().skip(1)) {
-            let one = point_place(outlines.places, *one);
-            let other = point_place(outlines.places, *other);
+            let one = point_index(outlines.indexes, *one);
+            let other = point_index(outlines.indexes, *other);
             sides.push([one.min(other), one.max(other)])?;
         }
     }
@@ -342,7 +342,7 @@ fn add_ring<T: Triangulation<Vertex = Point2<i32>>>(
 fn find_all<T: Triangulation<Vertex = Point2<i32>>>(
     search: &mut Search,
     map: &FaceMap<'_>,
-    site: &T,
+    triangulation: &T,
     drawing: &Drawing,
     outlines: Outlines<'_>,
     alloc: Global,
@@ -353,7 +353,7 @@ fn find_all<T: Triangulation<Vertex = Point2<i32>>>(
         sides: Vec::new(alloc),
     };
     for (i, ring) in drawing.rings.iter().enumerate() {
-        add_ring(site, ring, outlines, &mut polygon.sides, alloc)?;
+        add_ring(triangulation, ring, outlines, &mut polygon.sides, alloc)?;
         polygon.number = ring.polygon;
         if let Some(next) = drawing.rings.get(i.saturating_add(1))
             && next.polygon == ring.polygon
@@ -380,9 +380,9 @@ impl FaceMap<'_> {
     }
 }
 
-/// The corners of a face at an edge, by the places of their points.
+/// The corners of a face at an edge, by the indexes of their points.
 fn corners_beside<DE, UE, F>(
-    places: &[u32],
+    indexes: &[u32],
     edge: DirectedEdgeHandle<'_, Point2<i32>, DE, UE, F>,
 ) -> Option<[u32; 3]> {
     let third = match edge.opposite_vertex() {
@@ -391,46 +391,49 @@ fn corners_beside<DE, UE, F>(
     };
     let [from, to] = edge.vertices();
     Some([
-        point_place(places, from.fix().index()),
-        point_place(places, to.fix().index()),
-        point_place(places, third.fix().index()),
+        point_index(indexes, from.fix().index()),
+        point_index(indexes, to.fix().index()),
+        point_index(indexes, third.fix().index()),
     ])
 }
 
-/// The corners of the face that a point is in, or of one at the edge that it is on, by the places of
-/// their points.
+/// The corners of the face that a point is in, or of one at the edge that it is on, by the indexes
+/// of their points.
 fn corners_round<T: Triangulation<Vertex = Point2<i32>>>(
-    site: &T,
-    places: &[u32],
+    triangulation: &T,
+    indexes: &[u32],
     point: Point2<i32>,
 ) -> Option<[u32; 3]> {
-    site.recall_invariant();
+    triangulation.recall_invariant();
     if validate_vertex(&point).is_err() {
         return None;
     }
-    match site.locate(point, &ExactTests) {
+    match triangulation.locate(point, &ExactTests) {
         PositionInTriangulation::OnFace(face) => {
-            let [edge, _, _] = site.face(face).adjacent_edges();
-            corners_beside(places, edge)
+            let [edge, _, _] = triangulation.face(face).adjacent_edges();
+            corners_beside(indexes, edge)
         }
-        PositionInTriangulation::OnEdge(edge) => corners_beside(places, site.directed_edge(edge)),
+        PositionInTriangulation::OnEdge(edge) => corners_beside(
+            indexes,
+            triangulation.directed_edge(edge),
+        ),
         _ => None,
     }
 }
 
-/// The edges that are constraints, by the places of their ends.
+/// The edges that are constraints, by the indexes of their ends.
 fn constraint_sides<T: Triangulation<Vertex = Point2<i32>>>(
-    site: &T,
-    places: &[u32],
+    triangulation: &T,
+    indexes: &[u32],
     alloc: Global,
 ) -> Result<Vec<[u32; 2]>, AllocError> {
     let mut sides = Vec::new(alloc);
-    for edge in site.undirected_edges() {
+    for edge in triangulation.undirected_edges() {
         if T::Constraints::is_constraint_edge(edge.data()) {
             let [a, b] = edge.vertices();
             sides.push([
-                point_place(places, a.fix().index()),
-                point_place(places, b.fix().index()),
+                point_index(indexes, a.fix().index()),
+                point_index(indexes, b.fix().index()),
             ])?;
         }
     }
@@ -442,15 +445,15 @@ fn constraint_sides<T: Triangulation<Vertex = Point2<i32>>>(
 fn find_regions<T: Triangulation<Vertex = Point2<i32>>>(
     search: &mut Search,
     map: &FaceMap<'_>,
-    site: &T,
-    places: &[u32],
+    triangulation: &T,
+    indexes: &[u32],
     points: &[Asked],
     alloc: Global,
 ) -> Result<(), AllocError> {
     let mut polygon = Polygon {
         number: 0,
         order: 0,
-        sides: constraint_sides(site, places, alloc)?,
+        sides: constraint_sides(triangulation, indexes, alloc)?,
     };
     for asked in points {
         polygon.number = polygon.number.saturating_add(1);
@@ -458,7 +461,7 @@ fn find_regions<T: Triangulation<Vertex = Point2<i32>>>(
         let Asked::Near(point) = asked else {
             continue;
         };
-        let Some(corners) = corners_round(site, places, *point) else {
+        let Some(corners) = corners_round(triangulation, indexes, *point) else {
             continue;
         };
         if let Some(face) = map.face_at(corners) {
@@ -543,24 +546,24 @@ fn lists_of(found: &[Found], faces: usize, alloc: Global) -> Result<PolygonLists
     })
 }
 
-/// The polygons or regions that each face is in. Faces are all inner faces, by the places of their
+/// The polygons or regions that each face is in. Faces are all inner faces, by the indexes of their
 /// corners.
 pub fn polygon_lists<T: Triangulation<Vertex = Point2<i32>>>(
     scene: &Scene,
-    site: &T,
-    places: &[u32],
+    triangulation: &T,
+    indexes: &[u32],
     turns: &[Turn],
     faces: &[[u32; 3]],
     alloc: Global,
 ) -> Result<PolygonLists, AllocError> {
     let points = scene.scaled.points.as_slice();
-    let vertices = point_vertices(site, places, points, alloc)?;
+    let vertices = point_vertices(triangulation, indexes, points, alloc)?;
     let outlines = Outlines {
         vertices: vertices.as_slice(),
-        places,
+        indexes,
         turns,
     };
-    let sides = sides_of(faces, alloc)?;
+    let sides = face_sides(faces, alloc)?;
     let across = across_of(sides.as_slice(), alloc)?;
     let map = FaceMap {
         points,
@@ -571,9 +574,16 @@ pub fn polygon_lists<T: Triangulation<Vertex = Point2<i32>>>(
     let mut search = Search::new(faces.len(), alloc)?;
     if scene.drawing.rings.is_empty() {
         let regions = scene.region_points.as_slice();
-        find_regions(&mut search, &map, site, places, regions, alloc)?;
+        find_regions(&mut search, &map, triangulation, indexes, regions, alloc)?;
     } else {
-        find_all(&mut search, &map, site, &scene.drawing, outlines, alloc)?;
+        find_all(
+            &mut search,
+            &map,
+            triangulation,
+            &scene.drawing,
+            outlines,
+            alloc,
+        )?;
     }
     search.found.sort()?;
     lists_of(search.found.as_slice(), faces.len(), alloc)

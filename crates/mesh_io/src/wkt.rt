@@ -218,7 +218,7 @@ fn field_text(row: &ByteRecord, column: usize) -> &str {
 }
 
 /// The line that a row begins in.
-fn line_of(row: &ByteRecord) -> u64 {
+fn row_line(row: &ByteRecord) -> u64 {
     match row.position() {
         Some(position) => position.line(),
         None => 1,
@@ -279,7 +279,7 @@ impl Rewriting {
             self.text.push(',')?;
         }
         self.has_feature = true;
-        self.go_to(line_of(row))?;
+        self.go_to(row_line(row))?;
         self.text
             .push_str("{\"type\":\"Feature\",\"properties\":{")?;
         self.push_properties(row, alloc)?;
@@ -291,7 +291,7 @@ impl Rewriting {
 
 /// What is wrong with a row whose geometry is none.
 fn geometry_fault(row: &ByteRecord) -> FileFault {
-    let line = u32::try_from(line_of(row)).unwrap_or(u32::MAX);
+    let line = u32::try_from(row_line(row)).unwrap_or(u32::MAX);
     FileFault::at(
         line,
         Reason::Expected("a point, a line or a polygon of WKT"),

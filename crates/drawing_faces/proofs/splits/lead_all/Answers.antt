@@ -9,7 +9,7 @@ use Rattle.drawing_faces.proofs.splits.lead_all.Goals as goal
 pub loop-init : goal.loop-init
 loop-init g c =
     let constraints = g.T.Constraints.ConstraintMarker.constraints in
-    let old = g.T.Triangulation.state c.args.site.now in
+    let old = g.T.Triangulation.state c.args.triangulation.now in
     record {
       splits = splits_none position IsAnyPoint (points_and_constraints_by constraints old)
           c.args.segments.now.items;
@@ -45,7 +45,7 @@ loop-preserved g c =
     record {
       splits = splits_then position IsAnyPoint c.loop.invariant.splits
           (any_made _ _ _ _ _ c.add_constraints_and_split-step.ensures.splits);
-      leads = one_more_led (constraints_by constraints (g.T.Triangulation.state new.site))
+      leads = one_more_led (constraints_by constraints (g.T.Triangulation.state new.triangulation))
           new.segments.items c.loop.leads.items _ c.in-Some.lead
           (led_further _ _ _ _ c.add_constraints_and_split-step.ensures.splits
           c.loop.leads.items c.loop.invariant.leads)

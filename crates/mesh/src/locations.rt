@@ -2,7 +2,7 @@
 ghost use Rattle.std.specs.Prelude.{◌<◌};
 
 use crate::areas::{scalar_product, turned_area};
-use crate::building::point_place;
+use crate::building::point_index;
 use crate::heights::{Weighed, height_of};
 use crate::kept::KeptFaces;
 use crate::nearest::push_spot;
@@ -40,7 +40,7 @@ impl Answer {
         for i in 0..3 {
             self.line.push(',')?;
             if let Some(part) = parts.get(i) {
-                let number = u64::from(part.place).saturating_add(1);
+                let number = u64::from(part.index).saturating_add(1);
                 write!(self.line, "{number}")?;
             }
         }
@@ -112,7 +112,7 @@ impl Answer {
 
 /// The ends of an edge, with their weights at a point of the edge.
 fn weighed_ends<DE, UE, F>(
-    places: &[u32],
+    indexes: &[u32],
     edge: DirectedEdgeHandle<'_, Point2<i32>, DE, UE, F>,
     point: Point2<i32>,
 ) -> [Weighed; 2] {
@@ -121,11 +121,11 @@ fn weighed_ends<DE, UE, F>(
     let (whole, part) = (scalar_product(a, b, b), scalar_product(a, b, point));
     [
         Weighed {
-            place: point_place(places, from.fix().index()),
+            index: point_index(indexes, from.fix().index()),
             weight: whole.wrapping_sub(part),
         },
         Weighed {
-            place: point_place(places, to.fix().index()),
+            index: point_index(indexes, to.fix().index()),
             weight: part,
         },
     ]
@@ -133,7 +133,7 @@ fn weighed_ends<DE, UE, F>(
 
 /// The corners of a face, with their weights at a point of the face.
 fn weighed_corners<DE, UE, F>(
-    places: &[u32],
+    indexes: &[u32],
     face: FaceHandle<'_, Point2<i32>, DE, UE, F>,
     point: Point2<i32>,
 ) -> [Weighed; 3]
@@ -143,22 +143,22 @@ fn weighed_corners<DE, UE, F>(
     let (a, b, c) = (*first.data(), *second.data(), *third.data());
     [
         Weighed {
-            place: point_place(places, first.fix().index()),
+            index: point_index(indexes, first.fix().index()),
             weight: turned_area(point, b, c),
         },
         Weighed {
-            place: point_place(places, second.fix().index()),
+            index: point_index(indexes, second.fix().index()),
             weight: turned_area(point, c, a),
         },
         Weighed {
-            place: point_place(places, third.fix().index()),
+            index: point_index(indexes, third.fix().index()),
             weight: turned_area(point, a, b),
         },
     ]
 }
 
 /// What a point outside the range is on: nothing, as all points are in range.
-fn place_outside(vertices: usize) -> &'static str {
+fn outside_kind(vertices: usize) -> &'static str {
     if vertices < 2 { "nowhere" } else { "outside" }
 }
 
@@ -169,10 +169,10 @@ fn push_vertex<DE, UE, F>(
     kept: &KeptFaces<'_>,
     vertex: VertexHandle<'_, Point2<i32>, DE, UE, F>,
 ) -> Result<(), AllocError> {
-    let place = point_place(kept.drawn.places, vertex.fix().index());
+    let index = point_index(kept.drawn.indexes, vertex.fix().index());
     let is_kept = kept.add_round(vertex, &mut answer.numbers)?;
-    answer.point = Some(place);
-    answer.push_kept(drawing, "point", &[Weighed { place, weight: 1 }], is_kept)
+    answer.point = Some(index);
+    answer.push_kept(drawing, "point", &[Weighed { index, weight: 1 }], is_kept)
 }
 
 /// Tells which edge a point is on.
@@ -183,7 +183,7 @@ fn push_edge<DE, UE, F>(
     edge: DirectedEdgeHandle<'_, Point2<i32>, DE, UE, F>,
     point: Point2<i32>,
 ) -> Result<(), AllocError> {
-    let parts = weighed_ends(kept.drawn.places, edge, point);
+    let parts = weighed_ends(kept.drawn.indexes, edge, point);
     let is_kept = kept.add_beside(edge, &mut answer.numbers)?;
     answer.push_kept(drawing, "edge", parts.as_slice(), is_kept)
 }
@@ -198,35 +198,41 @@ fn push_face<DE, UE, F>(
 ) -> Result<(), AllocError>
     requires { 0 < face.index }
 {
-    let parts = weighed_corners(kept.drawn.places, face, point);
-    let is_kept = kept.add(parts.map(|part| part.place), &mut answer.numbers)?;
+    let parts = weighed_corners(kept.drawn.indexes, face, point);
+    let is_kept = kept.add(parts.map(|part| part.index), &mut answer.numbers)?;
     answer.push_kept(drawing, "face", parts.as_slice(), is_kept)
 }
 
 /// Tells what a point is on.
-fn push_place<T: Triangulation<Vertex = Point2<i32>>>(
+fn push_location<T: Triangulation<Vertex = Point2<i32>>>(
     answer: &mut Answer,
     drawing: &Drawing,
-    site: &T,
+    triangulation: &T,
     kept: &KeptFaces<'_>,
     asked: Asked,
 ) -> Result<(), AllocError> {
-    site.recall_invariant();
+    triangulation.recall_invariant();
     let Asked::Near(point) = asked else {
-        return answer.push_parts(drawing, place_outside(site.num_vertices()), &[]);
+        return answer.push_parts(drawing, outside_kind(triangulation.num_vertices()), &[]);
     };
     if validate_vertex(&point).is_err() {
         return answer.line.push_str(",,,,");
     }
-    match site.locate(point, &ExactTests) {
+    match triangulation.locate(point, &ExactTests) {
         PositionInTriangulation::OnVertex(vertex) => {
-            push_vertex(answer, drawing, kept, site.vertex(vertex))
+            push_vertex(answer, drawing, kept, triangulation.vertex(vertex))
         }
         PositionInTriangulation::OnEdge(edge) => {
-            push_edge(answer, drawing, kept, site.directed_edge(edge), point)
+            push_edge(
+                answer,
+                drawing,
+                kept,
+                triangulation.directed_edge(edge),
+                point,
+            )
         }
         PositionInTriangulation::OnFace(face) => {
-            push_face(answer, drawing, kept, site.face(face), point)
+            push_face(answer, drawing, kept, triangulation.face(face), point)
         }
         PositionInTriangulation::OutsideOfConvexHull(_) => {
             answer.push_parts(drawing, "outside", &[])
@@ -246,10 +252,10 @@ fn push_head(line: &mut String, scene: &Scene, kept: &KeptFaces<'_>) -> Result<(
     line.push('\n')
 }
 
-fn write_places<W: Write, T: Triangulation<Vertex = Point2<i32>>>(
+fn write_locations<W: Write, T: Triangulation<Vertex = Point2<i32>>>(
     writer: &mut W,
     scene: &Scene,
-    site: &T,
+    triangulation: &T,
     kept: &KeptFaces<'_>,
     alloc: Global,
 ) -> io::Result<()> {
@@ -263,7 +269,7 @@ fn write_places<W: Write, T: Triangulation<Vertex = Point2<i32>>>(
     for (spot, point) in scene.asked.spots.iter().zip(&scene.asked_points) {
         answer.clear();
         push_spot(&mut answer.line, &scene.asked, spot)?;
-        push_place(&mut answer, &scene.drawing, site, kept, *point)?;
+        push_location(&mut answer, &scene.drawing, triangulation, kept, *point)?;
         answer.end(scene, kept.drawn.polygons.is_some())?;
         writer.write_all(answer.line.as_bytes())?;
     }
@@ -272,12 +278,12 @@ fn write_places<W: Write, T: Triangulation<Vertex = Point2<i32>>>(
 
 /// Tells what each point that is asked about is on, by the numbers of points from 1, and its height
 /// there, where the drawing has heights. Only faces count that are kept.
-pub fn tell_places<T: Triangulation<Vertex = Point2<i32>>>(
+pub fn tell_locations<T: Triangulation<Vertex = Point2<i32>>>(
     rt: &HostRuntime,
     scene: &Scene,
-    site: &T,
+    triangulation: &T,
     kept: &KeptFaces<'_>,
 ) -> anyhow::Result<()> {
     let mut writer = BufWriter::new(rt.alloc(), io::writer(rt))?;
-    write_places(&mut writer, scene, site, kept, rt.alloc()).context("standard output")
+    write_locations(&mut writer, scene, triangulation, kept, rt.alloc()).context("standard output")
 }

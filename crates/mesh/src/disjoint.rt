@@ -1,4 +1,4 @@
-//! Segments of one line that overlap, as pieces that do not.
+//! Segments of one line that overlap, as segments that do not.
 use delaunay_core::point::Point2;
 use drawing_faces::DrawnSegment;
 use std::alloc::{AllocError, Global};
@@ -15,8 +15,8 @@ struct OnLine {
     /// How far the end is, below 0 where it is far.
     back: i64,
     segment: usize,
-    from_place: u32,
-    to_place: u32,
+    from_index: u32,
+    to_index: u32,
 }
 
 impl OnLine {
@@ -64,8 +64,8 @@ fn on_line(points: &[Point2<i32>], segment: usize, ends: DrawnSegment) -> Option
         from: dx.wrapping_mul(x).wrapping_add(dy.wrapping_mul(y)),
         back: far.wrapping_neg(),
         segment,
-        from_place: if is_turned { ends.to } else { ends.from },
-        to_place: if is_turned { ends.from } else { ends.to },
+        from_index: if is_turned { ends.to } else { ends.from },
+        to_index: if is_turned { ends.from } else { ends.to },
     })
 }
 
@@ -76,8 +76,8 @@ fn in_order(
     alloc: Global,
 ) -> Result<Vec<OnLine>, AllocError> {
     let mut ordered = Vec::with_capacity(alloc, segments.len())?;
-    for (place, segment) in segments.iter().enumerate() {
-        if let Some(segment) = on_line(points, place, *segment) {
+    for (index, segment) in segments.iter().enumerate() {
+        if let Some(segment) = on_line(points, index, *segment) {
             ordered.push(segment)?;
         }
     }
@@ -93,8 +93,8 @@ enum Left {
     Behind(DrawnSegment),
 }
 
-/// What of a segment is left without the last that was left before it on its line: all where that is
-/// the same segment, which costs no more than it does.
+/// What of a segment is left without the last that was left before it on its line: all where that
+/// is the same segment, which costs no more than it does.
 fn part_of(segment: &OnLine, last: &OnLine) -> Left {
     let is_same = last.from == segment.from && last.back == segment.back;
     if !last.is_along(segment) || is_same || last.back.wrapping_neg() <= segment.from {
@@ -103,8 +103,8 @@ fn part_of(segment: &OnLine, last: &OnLine) -> Left {
         Left::Nothing
     } else {
         Left::Behind(DrawnSegment {
-            from: last.to_place,
-            to: segment.to_place,
+            from: last.to_index,
+            to: segment.to_index,
         })
     }
 }
@@ -128,9 +128,9 @@ fn left_of(segments: usize, ordered: &[OnLine], alloc: Global) -> Result<Vec<Lef
     Ok(left)
 }
 
-/// Pieces that cover what segments cover, in the order of the segments, of which no two overlap but
-/// equal ones. It gives none where the segments are such pieces.
-pub fn pieces_of(
+/// Segments that cover what others cover, in the order of these, of which no two overlap but
+/// equal ones. It gives none where the segments are such already.
+pub fn disjoint_segments(
     points: &[Point2<i32>],
     segments: &[DrawnSegment],
     alloc: Global,
@@ -140,13 +140,13 @@ pub fn pieces_of(
     if left.iter().all(|part| matches!(part, Left::All)) {
         return Ok(None);
     }
-    let mut pieces = Vec::new(alloc);
+    let mut disjoint = Vec::new(alloc);
     for (segment, part) in segments.iter().zip(&left) {
         match part {
-            Left::All => pieces.push(*segment)?,
-            Left::Behind(piece) => pieces.push(*piece)?,
+            Left::All => disjoint.push(*segment)?,
+            Left::Behind(behind) => disjoint.push(*behind)?,
             Left::Nothing => {}
         }
     }
-    Ok(Some(pieces))
+    Ok(Some(disjoint))
 }

@@ -2,25 +2,25 @@ use Rattle.std.proofs.Common.{◌≡◌, ◌∙◌, [], ap, sym, get_or, rules, 
 use Rattle.std.specs.Fmt.{signed_decimal}
 use Rattle.std.proofs.lemmas.List.{take_all}
 use Rattle.std.proofs.lemmas.Result.{err_from_is_err_and}
-use Rattle.triangulate_run.specs.{declared.output.Piece.TheVariants.Text, Piece.text_of}
-use Rattle.triangulate_run.specs.declared.output.Piece.{Piece}
+use Rattle.triangulate_run.specs.{declared.output.Fragment.TheVariants.Text, Fragment.text_of}
+use Rattle.triangulate_run.specs.declared.output.Fragment.{Fragment}
 use Rattle.triangulate_run.proofs.OutputLemmas.{after_error, after_success, held_more, part_at}
 use Rattle.triangulate_run.proofs.OutputLemmas.{part_behind, part_longer, part_same, passes_at}
 use Rattle.triangulate_run.proofs.OutputLemmas.{passes_nil, written_more}
-use Rattle.triangulate_run.proofs.output.put_pieces.Goals as goal
+use Rattle.triangulate_run.proofs.output.put_fragments.Goals as goal
 use goal.{else-is_err, in-Index, in-Signed, in-Text, then-is_err+in_ok-write_all+in_ok-write_all-2}
 
-abbrev nothing : Piece
+abbrev nothing : Fragment
 nothing = Text record { ref_ptr = (0, 0); now = [] }
 
-pub loop-piece-init : goal.loop-piece-init
-loop-piece-init g c = record { so_far = passes_nil _ _; works = c.requires.works }
+pub loop-fragment-init : goal.loop-fragment-init
+loop-fragment-init g c = record { so_far = passes_nil _ _; works = c.requires.works }
 
-pub loop-piece-preserved : goal.loop-piece-preserved
-loop-piece-preserved g c =
-    let i = c.loop-piece.invariant in
-    let piece = get_or c.args.pieces.now c.loop-piece.piece-index nothing in
-    let is : c.match-piece.text.now ≡ text_of piece = elim c.match-piece.branch [
+pub loop-fragment-preserved : goal.loop-fragment-preserved
+loop-fragment-preserved g c =
+    let i = c.loop-fragment.invariant in
+    let fragment = get_or c.args.fragments.now c.loop-fragment.fragment-index nothing in
+    let is : c.match-fragment.text.now ≡ text_of fragment = elim c.match-fragment.branch [
       | in-Text w ↦ ap (λ t. t.now) w.text-is ∙ sym (ap text_of w.in-Text.is)
       | in-Index w ↦ ap (λ t. t.now) w.text-is ∙ w.format-text.ensures.text
           ∙ sym (ap text_of w.in-Index.is)
@@ -37,14 +37,14 @@ loop-piece-preserved g c =
           let put = written_more (w.as_bytes-then-is_err.ensures.value ∙ is) _ w.clear.ensures
           first w.in_ok-write_all-2.ensures.0 in
           record {
-            so_far = passes_at _ _ _ _ c.loop-piece-test.true i.so_far put;
+            so_far = passes_at _ _ _ _ c.loop-fragment-test.true i.so_far put;
             works = w.in_ok-write_all-2.ensures.1;
           })
       | else-is_err w ↦ rw (w.writer-is, w.held-is) (
           let put = held_more (c.as_bytes.ensures.value ∙ is)
           (after_success _ c.is_err.ensures.value w.if-is_err.false extend.ok) in
           record {
-            so_far = passes_at _ _ _ _ c.loop-piece-test.true i.so_far put;
+            so_far = passes_at _ _ _ _ c.loop-fragment-test.true i.so_far put;
             works = i.works;
           })
     ]
@@ -57,15 +57,15 @@ returns-in_err-write_all g c =
     at c.in_err-write_all.ensures in
     let failed = err_from_is_err_and c.from_residual.result c.from_residual.ensures.1 in
     rw failed.1 (
-      part_at _ _ _ nothing c.loop-piece-test.true c.loop-piece.invariant.so_far
+      part_at _ _ _ nothing c.loop-fragment-test.true c.loop-fragment.invariant.so_far
           (part_longer _ wrote.0),
       wrote.1,
     )
 
 pub returns-in_err-write_all-2 : goal.returns-in_err-write_all-2
 returns-in_err-write_all-2 g c =
-    let piece = get_or c.args.pieces.now c.loop-piece.piece-index nothing in
-    let is : c.match-piece.text.now ≡ text_of piece = elim c.match-piece.branch [
+    let fragment = get_or c.args.fragments.now c.loop-fragment.fragment-index nothing in
+    let is : c.match-fragment.text.now ≡ text_of fragment = elim c.match-fragment.branch [
       | in-Text w ↦ ap (λ t. t.now) w.text-is ∙ sym (ap text_of w.in-Text.is)
       | in-Index w ↦ ap (λ t. t.now) w.text-is ∙ w.format-text.ensures.text
           ∙ sym (ap text_of w.in-Index.is)
@@ -81,7 +81,7 @@ returns-in_err-write_all-2 g c =
     let failed = err_from_is_err_and c.from_residual-in_err-write_all-2.result
     c.from_residual-in_err-write_all-2.ensures.1 in
     rw failed.1 (
-      part_at _ _ _ nothing c.loop-piece-test.true c.loop-piece.invariant.so_far
+      part_at _ _ _ nothing c.loop-fragment-test.true c.loop-fragment.invariant.so_far
           (part_same _ (c.as_bytes-then-is_err.ensures.value ∙ is)
           (part_behind _ _ _ _ _ first wrote.0)),
       wrote.1,
@@ -89,5 +89,5 @@ returns-in_err-write_all-2 g c =
 
 pub returns : goal.returns
 returns g c =
-    let i = c.loop-piece.invariant in
-    (rw (take_all _ _ c.loop-piece-test.false) at i.so_far, i.works)
+    let i = c.loop-fragment.invariant in
+    (rw (take_all _ _ c.loop-fragment-test.false) at i.so_far, i.works)
