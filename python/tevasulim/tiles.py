@@ -70,8 +70,8 @@ class TiledCells(NamedTuple):
     run's index, a JSON file that names the files of its cells, and those of the parts in the order
     in which points are numbered, or `None` without a folder.
 
-    A number is the row of a point in all parts, so that what is known of points, as their heights,
-    is had by `heights[cells]`."""
+    A number is the row of a point in all parts, one after another. So `heights[cells]` gives the
+    heights of the corners."""
 
     cells: List[Any]
     reports: List[TileReport]
@@ -212,8 +212,8 @@ def plan_from(
 
 
 def tile_count(points: int, tile_size: int, workers: int) -> int:
-    """How many tiles there are: where each worker has few, so many that all have as many, but no
-    smaller ones than are worth a task.
+    """How many tiles to cut. If each worker gets only a few, all workers get as many, but no tile is
+    smaller than is worth a task.
 
     >>> [tile_count(points, 100_000, 4) for points in (60_000, 200_000, 1_000_000, 3_000_000)]
     [1, 4, 12, 30]
@@ -279,8 +279,8 @@ def triangulate_tiles(
         About how many points a tile has; fewer where there would be no tile for some workers. A
         worker needs about 1000 bytes for each.
     client : distributed.Client or concurrent.futures.Executor, optional
-        What runs the tasks; without one, this process. A task that failed is run again, and a pool
-        of processes that broke is begun again.
+        What runs the tasks; without one, this process. A task that failed is run again. If a pool
+        of processes breaks, a new one is made.
     folder : str, optional
         A folder that each worker reaches. A folder for this run is made in it, in which the files
         with cells are left, and an index that names them. Without one, a folder of this machine is
@@ -292,8 +292,8 @@ def triangulate_tiles(
     scale : int, optional
         How many parts a unit has, as 100 for coordinates with two decimals: others are refused.
     columns : str, optional
-        The columns of x and y, by names, as "east,north", or places, as "0,1"; without it x and y,
-        or the first two of a table that has no such names.
+        The columns of x and y, by names ("east,north") or by indexes ("0,1"). Without it they are
+        those named x and y, or the first two of a table that has no such names.
     header : bool
         Whether the first row of a table has names, which `columns` by names says too.
     layer : str or int, optional
