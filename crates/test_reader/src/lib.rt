@@ -1,6 +1,6 @@
-//! What test programs share. A test's script: each line has the name of a call and some numbers,
-//! and is printed with what the call gives. Lines that start with `#` are printed as they are.
-//! Generators of hints are in `hints`.
+//! What test programs share. A test's script: each line has the name of a call and some numbers, and
+//! is printed with what the call gives. Lines that start with `#` are printed as they are. Generators
+//! of hints are in `hints`.
 #![tactic(auto)]
 
 mod hashes;
@@ -42,8 +42,8 @@ impl<'a> Call<'a> {
             return None;
         }
         let mut numbers = [0; 8];
-        for slot in &mut numbers {
-            *slot = number(words.next());
+        for place in &mut numbers {
+            *place = number(words.next());
         }
         Some(Call {
             line,
