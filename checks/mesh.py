@@ -672,8 +672,6 @@ GEOJSON_FAULTS = [
     ('{"type":"Point","coordinates":' + "[" * 100000, "line 1: an array of coordinates is"),
     ('{"type":"Polygon","coordinates":[[[0,0],[1,0]]]}', "line 1: this ring has fewer than three"),
     ('{"type":"Polygon","coordinates":[[[0,0],[1,0],[0,0]]]}', "line 1: this ring has fewer than"),
-    ('{"type":"MultiPoint","coordinates":[[0,0],\n[1,0,3]]}', "line 2: some points have a height"),
-    ('{"type":"MultiPoint","coordinates":[[0,0,3],[1,0]]}', "line 1: some points have a height"),
     ('{"coordinates":[0,0]}', "line 1: the object has no member named type"),
     ('{"type":"Point"}', "line 1: the object has no member named coordinates"),
     ('{"type":"Circle","coordinates":[0,0]}', "line 1: a type of GeoJSON is expected here"),
@@ -1226,6 +1224,40 @@ def check_kept_answers():
     expect(set(left[0].split(",")[1:]) in ({"5", "7"}, {"6", "8"}), left)
 
 
+def check_heights():
+    """Points without heights beside others: they are told of, have 0 in forms that need a number,
+    and give no height to what is between them and others."""
+    table = "x,y,z,line\n0,0,1,\n4,0, ,a\n4,4,3,a\n0,4,,\n8,2,7,\n"
+    heights = {(0, 0): 1, (4, 4): 3, (8, 2): 7}
+    told = "this point has no height, though others have one: where the output needs one it is 0"
+    said, error = run([], table)
+    expect(f"mesh: standard input: line 3: {told} (2 such)\n" in error, error)
+    points = read_obj(said)[0]
+    expect(points == [(0, 0, 1), (4, 0, 0), (4, 4, 3), (0, 4, 0), (8, 2, 7)], said)
+    expect(read_ply(run(["-q", "--to", "ply"], table)[0])[0] == points, "ply")
+    head, rows = read_numbered(run(["-q", "--to", "node"], table)[0])
+    expect(head == ["5", "2", "1", "0"] and rows[1] == ["4", "0", "0"], rows)
+    corners = {tuple(corner) for feature in json.loads(run(["-q", "--to", "geojson"], table)[0])
+               ["features"] if feature["geometry"]["type"] == "Polygon"
+               for corner in feature["geometry"]["coordinates"][0]}
+    expect(corners == {(x, y, heights[x, y]) if (x, y) in heights else (x, y)
+                       for x, y, _ in points}, corners)
+    rows, _ = asking(["-q"], "--locate", "x,y\n4,4\n4,0\n4,2\n6,2\n0,0\n", table)
+    expect([(row[2], row[6]) for row in rows[1:]] == [
+        ("point", "3"), ("point", ""), ("edge", ""), ("face", ""), ("point", "1")], rows)
+    said, error = run(["--to", "node"], "x,y,z\n0,0,\n1,0,\n0,1,\n")
+    expect(said.startswith("3 2 0 0\n1 0 0\n") and told not in error, "no point has a height")
+    said, error = run([], '{"type":"MultiPoint","coordinates":[[0,0],\n[1,0,3],[0,1]]}')
+    expect([point[2] for point in read_obj(said)[0]] == [0, 3, 0], said)
+    expect(f"line 1: {told} (2 such)" in error, error)
+    # a point at a crossing is between the ends of the later segment
+    for ends, height in (("0,4,2,b\n4,0,4,b\n", 3), ("0,4,,b\n4,0,4,b\n", 0)):
+        said, _ = run(["-q"], f"x,y,z,line\n0,0,1,a\n4,4,9,a\n{ends}")
+        expect(read_obj(said)[0][4] == (2, 2, height), said)
+    said, error = run(["--nodata", "-1"], "x,y,z\n0,0,5\n1,0,-1\n2,0,\n")
+    expect(read_obj(said)[0] == [(0, 0, 5), (2, 0, 0)] and "1 points without data" in error, error)
+
+
 def check_skipping():
     """Bad rows and features are errors, or are left out and told of."""
     table = 'x,y,note\n0,0,\n4,zero,\n4,0,"a\nb"\n0,1e999,\n5,5,6,7\n0,4,\n'
@@ -1288,12 +1320,19 @@ def check_geometries():
              '"POLYGON((9 0,9 4,5 4,9 0))";"Po;ts"\n'
     rows, _ = asking(["-q"], "--locate", "x,y\n1,2\n8,3\n", states)
     expect([(row[7], row[8]) for row in rows[1:]] == [("1", "Berlin"), ("4", "Po;ts")], rows)
+    rows, _ = asking(["-q"], "--nearest", "x,y\n0,0\n", b"wkt,K\xf6rper\nPOINT (0 0),K\xf6ln\n")
+    expect((rows[0][5], rows[1][5]) == ("K\ufffdrper", "K\ufffdln"), rows)
     for wrong in "CURVE (0 0)", "POINT", "POINT (1)", "POINT (1 x)", "POLYGON ((0 0,1 1)", "POINT(1,)":
         table = f'wkt,a\n"POINT (0 0)",1\n"{wrong}",2\n'
         error = run([], table, 1)[1]
         expect("line 3: a point, a line or a polygon of WKT is expected" in error, error)
         said, error = run(["--skip-bad"], table)
         expect(read_obj(said)[0] == [(0, 0, 0)] and "line 3: a point, a line" in error, error)
+    # some programs end the header with a separator, and no row
+    for table in 'WKT,\n"POINT (1 2)"\n', 'wkt;\nPOINT (1 2);\n', 'a;wkt;;\n7;POINT (1 2);\n':
+        expect(read_obj(run([], table)[0])[0] == [(1, 2, 0)], f"{table!r}")
+    error = run([], 'wkt,a\nPOINT (1 2),1\nPOINT (1 2)\n', 1)[1]
+    expect("line 3: the row has more or fewer fields than the first" in error, error)
     error = run([], 'wkt,a\n"POLYGON((0 0,1 1,0 0))",1\n', 1)[1]
     expect("line 2, feature 1: this ring has fewer than three corners" in error, error)
 
@@ -1321,6 +1360,12 @@ def check_lines_of_input():
         expect("mesh: 3 vertices, 1 faces, 2 constraints" in error, error)
         _, error = run(["--lines", f"{folder}/lines.csv"], "x,y\n0,0\n4,0\n", 1)
         expect(f"{folder}/lines.csv: line 3: point 3 is used here" in error, error)
+        for text in ("from;to;\n1;2;\n2;3\n", "kind\tto\tfrom\nw\t2\t1\nw\t3\t2\n", "1 2\n2 3\n",
+                     "\ufeff1,2\r\n2,3\r\n"):
+            with open(f"{folder}/other.csv", "w") as file:
+                file.write(text)
+            _, error = run(["--lines", f"{folder}/other.csv"], "x,y\n0,0\n4,0\n0,4\n")
+            expect("mesh: 3 vertices, 1 faces, 2 constraints" in error, f"{text!r}: {error}")
 
 
 # ---- points in holes
@@ -1696,6 +1741,9 @@ def check_far_questions():
                                                       (10 ** 9, 10 ** 9 + 2)])
     said = run(["-q", "--line", "999999999", "1000000001", "1000000003", "1000000000"], text)[0]
     expect(said.startswith("meets,a,b\ncrosses,"), said)
+    rows, _ = asking(["-q"], "--nearest", json.dumps(geometry("MultiPoint", [[5, 5], [9, 1]])),
+                     "x,y\n0,0\n6,5\n")
+    expect([row[:3] for row in rows[1:]] == [["5", "5", "2"], ["9", "1", "2"]], "GeoJSON that asks")
     error = run(["-q", "--line", "1", "1", "1000000003", "1000000000"], text, 1)[1]
     expect("--line: an end is more than 2^29 units from the middle" in error, error)
 
@@ -2033,6 +2081,7 @@ def main():
     check_nested()
     check_kinds()
     check_kept_answers()
+    check_heights()
     check_skipping()
     check_geometries()
     check_degrees()

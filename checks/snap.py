@@ -1,6 +1,7 @@
 #!/usr/bin/env python3
-"""checks/snap.py PROGRAM: has test_parts join random lists of segments that cross, and looks that
-none crosses afterwards, that a path of constraints joins the ends of each, and how far paths go.
+"""checks/snap.py PROGRAM [TIMES]: has test_parts join random lists of segments that cross, and looks
+that none crosses afterwards, that a path of constraints joins the ends of each, and how far paths go.
+TIMES makes so many times as many lists: 11 are more than 10^5.
 
 Points are whole numbers on small grids, so that many segments cross, touch, overlap and repeat.
 What comes out is judged by brute force over all pairs of constraints, in whole numbers.
@@ -77,13 +78,13 @@ def nearest_path_2(start, end, neighbours):
     return None
 
 
-def lists():
+def lists(times):
     """Each list of segments, with the farthest that its paths may go."""
     chance = random.Random(20261201)
     for count, many, side, most in KINDS:
         shift = side // 2
         point = lambda: (chance.randrange(side) - shift, chance.randrange(side) - shift)
-        for _ in range(count):
+        for _ in range(times * count):
             yield [(point(), point()) for _ in range(many)], most
 
 
@@ -109,13 +110,14 @@ def faults(segments, most, head, constraints):
     return None, far_2
 
 
-def main(program):
-    given = list(lists())
+def main(program, times=1):
+    given = list(lists(int(times)))
     text = "".join(
         f"{STEPS} " + " ".join(f"{a} {b} {c} {d}" for (a, b), (c, d) in segments) + "\n"
         for segments, _ in given
     )
-    ran = subprocess.run([program], input=text, capture_output=True, text=True, timeout=1200)
+    ran = subprocess.run([program], input=text, capture_output=True, text=True,
+                         timeout=1200 * int(times))
     if ran.returncode:
         sys.exit(f"the program gave {ran.returncode}: {ran.stderr}")
     rows, wrong, farthest = iter(ran.stdout.splitlines()), 0, defaultdict(float)
@@ -137,4 +139,4 @@ def main(program):
 
 
 if __name__ == "__main__":
-    main(sys.argv[1])
+    main(*sys.argv[1:])

@@ -18,9 +18,9 @@ fn thousandths(number: u128, by: u128) -> Option<u64> {
     u64::try_from((number / by).checked_mul(1000)?.checked_add(rest)?).ok()
 }
 
-/// The height of the point at an index.
-fn height_at(drawing: &Drawing, index: u32) -> Option<Decimal> {
-    Some(drawing.heights.get(index as usize)?.decimal)
+/// The height of the point at an index, if it has one.
+pub fn height_at(drawing: &Drawing, index: u32) -> Option<Decimal> {
+    Some(drawing.height(index as usize)?.decimal)
 }
 
 /// The most digits behind the point of the heights of points.

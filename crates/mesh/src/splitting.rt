@@ -1,7 +1,7 @@
 //! Segments of a drawing that cross, and are split where they do.
 use crate::areas::scalar_product;
 use crate::building::{drawing_fault, drawn_sides, kept_part, point_index};
-use crate::heights::{Weighed, height_of};
+use crate::heights::{Weighed, height_at, height_of};
 use crate::paths::{Turn, path_between, thousandths_from, turns_of};
 use anyhow::anyhow;
 use decimal_numbers::Decimal;
@@ -147,7 +147,7 @@ fn made_height(
     [start, end, point]: [Point2<i32>; 3],
     digits: u32,
 ) -> Option<Decimal> {
-    let first = drawing.heights.get(from as usize)?.decimal;
+    let (first, _) = (height_at(drawing, from)?, height_at(drawing, to)?);
     let whole = scalar_product(start, end, end);
     let part = scalar_product(start, end, point).max(0).min(whole);
     let parts = [
@@ -168,7 +168,9 @@ fn made_height(
 fn made_digits(drawing: &Drawing) -> u32 {
     let mut digits = 0;
     for height in &drawing.heights {
-        digits = digits.max(height.decimal.digits);
+        if let Some(height) = height {
+            digits = digits.max(height.decimal.digits);
+        }
     }
     digits.saturating_add(3)
 }

@@ -1,13 +1,13 @@
 -- One more row, and one more point.
-use Rattle.std.proofs.Common.{◌≡◌, ◌∙◌, ℕ, ◌+◌, ◌<◌, ◌≤◌, List, [], ◌∷◌, ◌++◌, length, take, drop, sym, ap, arith}
-use Rattle.std.specs.Prelude.{Option, None, Some, IfSome, true, slice_index}
+use Rattle.std.proofs.Common.{◌≡◌, ◌∙◌, ℕ, ◌+◌, ◌<◌, ◌≤◌, List, [], ◌∷◌, ◌++◌, length, take, drop, sym, ap, arith, refl}
+use Rattle.std.specs.Prelude.{Option, true, slice_index}
 use Rattle.std.specs.Char.{is_ascii_whitespace}
 use Rattle.std.specs.List.{AllPass, AllZip}
 use Rattle.std.specs.Str.{IsTrimAscii}
 use Rattle.std.proofs.lemmas.List.{get_or-take, get_or-drop, get_or_default, length-take, length-drop, take-append-drop, append-nil}
 use Rattle.decimal_numbers.specs.{Decimal}
-use Rattle.mesh_files.specs.{AddsSpot, Drawing, Draws, IsAsWritten, IsNumberAt, Number, Spot}
-use Rattle.mesh_files.specs.Drawn.{AddsHeight, IsSpotAt, Writes}
+use Rattle.mesh_files.specs.{AddsSpot, Drawing, Draws, IsAsWritten, Number, Spot}
+use Rattle.mesh_files.specs.Drawn.{filled, heights_of, IsHeightAt, IsSpotAt, Writes}
 
 pub zip_more : {X Y : Type 0} (P : X → Y → Type 0) (xs : List X) (ys : List Y) (x : X) (y : Y)
     → AllZip P xs ys → P x y → AllZip P (xs ++ x ∷ []) (ys ++ y ∷ [])
@@ -16,53 +16,39 @@ zip_more P [] (b ∷ ys) x y h p = absurd h
 zip_more P (a ∷ xs) [] x y h p = absurd h
 zip_more P (a ∷ xs) (b ∷ ys) x y h p = (h.0, zip_more P xs ys x y h.1 p)
 
-more_heights : {X Y Z : Type 0} (P : X → Y → Type 0) (Q : X → Z → Type 0) (rows : List X)
-    (ys : List Y) (zs : List Z) (row : X) (z : Z) → AllZip P rows ys
-    → (0 < length zs → AllZip Q rows zs) → length zs ≡ length ys → Q row z
-    → AllZip Q (rows ++ row ∷ []) (zs ++ z ∷ [])
-more_heights P Q [] [] [] row z h some e q = (q, tt)
-more_heights P Q [] [] (c ∷ zs) row z h some e q = absurd (omega arith)
-more_heights P Q [] (b ∷ ys) zs row z h some e q = absurd h
-more_heights P Q (a ∷ rows) [] zs row z h some e q = absurd h
-more_heights P Q (a ∷ rows) (b ∷ ys) [] row z h some e q = absurd (omega arith)
-more_heights P Q (a ∷ rows) (b ∷ ys) (c ∷ zs) row z h some e q =
-    zip_more Q (a ∷ rows) (c ∷ zs) row z (some (omega arith)) q
-
-heights_more : (rows : List (List (List ℕ))) (row : List (List ℕ)) (x y z : ℕ)
-    (height : Option Number) (old new : Drawing) → Draws rows x y z old → AddsHeight height old new
-    → IfSome height (IsNumberAt z row) → 0 < length new.heights.items
-    → AllZip (IsNumberAt z) (rows ++ row ∷ []) new.heights.items
-heights_more rows row x y z None old new h adds at some =
-    absurd (let none : length new.heights.items ≡ 0 = ap length adds.1 in omega arith)
-heights_more rows row x y z (Some n) old new h adds at some =
-    rw adds.1 (more_heights (IsSpotAt x y) (IsNumberAt z) rows old.spots.items old.heights.items
-    row n h.spots_are h.heights_are adds.0 at)
-
 -- one more row is one more point
-pub draws_more : (rows : List (List (List ℕ))) (row : List (List ℕ)) (x y z : ℕ) (spot : Spot)
-    (height : Option Number) (old new : Drawing) → Draws rows x y z old
-    → AddsSpot spot height old new → IsSpotAt x y row spot → IfSome height (IsNumberAt z row)
+pub draws_more : (rows : List (List (List ℕ))) (row : List (List ℕ)) (x y : ℕ) (z : Option ℕ)
+    (spot : Spot) (height : Option Number) (old new : Drawing) → Draws rows x y z old
+    → AddsSpot spot height old new → IsSpotAt x y row spot → IsHeightAt z row height
     → Draws (rows ++ row ∷ []) x y z new
 draws_more rows row x y z spot height old new h adds at up = record {
   spots_are = rw adds.spots_are
       (zip_more (IsSpotAt x y) rows old.spots.items row spot h.spots_are at);
-  heights_are = heights_more rows row x y z height old new h adds.heights_are up;
+  heights_are = rw adds.heights_are
+      (zip_more (IsHeightAt z) rows (heights_of old) row height h.heights_are up);
 }
 
--- the same points have the same rows
-pub draws_same : (rows : List (List (List ℕ))) (x y z : ℕ) (old new : Drawing)
+-- the same points have the same heights
+pub heights_same : (old new : Drawing) → new.spots.items ≡ old.spots.items
+    → new.heights.items ≡ old.heights.items → heights_of new ≡ heights_of old
+heights_same old new spots heights =
+    ap (λ (hs : List (Option Number)). filled (length new.spots.items) hs) heights
+    ∙ ap (λ (ps : List Spot). filled (length ps) old.heights.items) spots
+
+-- and the same rows
+pub draws_same : (rows : List (List (List ℕ))) (x y : ℕ) (z : Option ℕ) (old new : Drawing)
     → Draws rows x y z old → new.spots.items ≡ old.spots.items
     → new.heights.items ≡ old.heights.items → Draws rows x y z new
 draws_same rows x y z old new h spots heights = record {
   spots_are = rw spots h.spots_are;
-  heights_are = rw heights h.heights_are;
+  heights_are = rw (heights_same old new spots heights) h.heights_are;
 }
 
-pub draws_none : (x y z : ℕ) (d : Drawing) → d.spots.items ≡ [] → d.heights.items ≡ []
-    → Draws [] x y z d
+pub draws_none : (x y : ℕ) (z : Option ℕ) (d : Drawing) → d.spots.items ≡ []
+    → d.heights.items ≡ [] → Draws [] x y z d
 draws_none x y z d spots heights = record {
   spots_are = rw spots tt;
-  heights_are = rw heights (λ some. tt);
+  heights_are = rw (spots, heights) tt;
 }
 
 blank_front : (s : List ℕ) (m : ℕ)
@@ -106,3 +92,14 @@ word_writes w d written = record {
   blank_behind = λ k d lt. absurd (omega arith);
   written = written;
 }
+
+-- blanks are all that there is of a text of which nothing is left
+pub nothing_trimmed : IsTrimAscii [] []
+nothing_trimmed = (
+  0,
+  refl,
+  λ i lt. absurd (omega arith),
+  λ lt. absurd (omega arith),
+  λ i from lt. absurd (omega arith),
+  λ lt. absurd (omega arith),
+)

@@ -1,6 +1,6 @@
 -- How positions become points.
 use Rattle.std.proofs.Common.{◌≡◌, List, [], ◌∷◌, ◌++◌, arith}
-use Rattle.std.specs.Prelude.{All, IfSome, None}
+use Rattle.std.specs.Prelude.{All, IfSome, None, Some}
 use Rattle.std.proofs.lemmas.List.Elements.{All-append}
 use Rattle.std.specs.List.{AllByRecursion}
 use Rattle.json.specs.Token.{Token}
@@ -20,7 +20,7 @@ pub run_added : (p : GeoPosition) (old new : Drawing) → AddsSpot p.spot p.heig
 run_added p old new adds = λ tokens at drawn. record {
   rows = drawn.rows ++ at.row ∷ [];
   runs = all_more (IsRun tokens) drawn.rows at.row drawn.runs at.run;
-  drawn = draws_more drawn.rows at.row 0 1 2 p.spot p.height old new drawn.drawn adds at.spot_is
+  drawn = draws_more drawn.rows at.row 0 1 (Some 2) p.spot p.height old new drawn.drawn adds at.spot_is
       at.height_is;
 }
 
@@ -30,7 +30,7 @@ pub runs_same : (tokens : List Token) (old new : Drawing) → SameNumbers old ne
 runs_same tokens old new same drawn = record {
   rows = drawn.rows;
   runs = drawn.runs;
-  drawn = draws_same drawn.rows 0 1 2 old new drawn.drawn same.spots_are same.heights_are;
+  drawn = draws_same drawn.rows 0 1 (Some 2) old new drawn.drawn same.spots_are same.heights_are;
 }
 
 one_more : {X : Type 0} (P : X → Type 0) (xs : List X) (x : X) → All P xs → P x

@@ -8,8 +8,8 @@ use Rattle.csv.specs.declared.parser.State.TheVariants as st
 use Rattle.csv.specs.declared.reader.Reader.{Reader}
 use Rattle.csv.specs.declared.reader.Trim.TheVariants as trim
 use Rattle.csv.proofs.ReadFacts.{rows-end, rows-more}
-use Rattle.mesh_files.specs.{AddsSpot, Drawing, Draws, IsNumberAt, Number, SameNumbers, Spot}
-use Rattle.mesh_files.specs.Tables.{AreAll, DrawsRow, DrawsTable, Fields, HasRead, height_column}
+use Rattle.mesh_files.specs.{AddsSpot, Drawing, Draws, Drawn.IsHeightAt, IsNumberAt, Number, SameNumbers, Spot}
+use Rattle.mesh_files.specs.Tables.{AreAll, DrawsRow, DrawsTable, Fields, HasRead}
 use Rattle.mesh_files.specs.{declared.columns.Columns.Columns, Tables.IsTable}
 use Rattle.mesh_files.proofs.PointRows.{draws_more, draws_same}
 
@@ -88,23 +88,23 @@ field_is fs i (Some s) d nothing e = sym (item_is fs i s.now (sym e))
 pub record_drawn : (row : Fields) (columns : Columns) (spot : Spot) (height : Option Number)
     (d0 d1 d2 d3 d4 : Drawing) → IsNumberAt columns.x row spot.x → IsNumberAt columns.y row spot.y
     → SameNumbers d0 d1 → SameNumbers d1 d2
-    → IfSome height (IsNumberAt (height_column columns) row) → SameNumbers d2 d3
+    → IsHeightAt columns.z row height → SameNumbers d2 d3
     → AddsSpot spot height d3 d4 → DrawsRow row columns d0 d4
 record_drawn row columns spot height d0 d1 d2 d3 d4 x y same1 same2 z same3 adds = λ rows drawn.
-    draws_more rows row columns.x columns.y (height_column columns) spot height d3 d4
-    (draws_same rows columns.x columns.y (height_column columns) d0 d3 drawn
+    draws_more rows row columns.x columns.y columns.z spot height d3 d4
+    (draws_same rows columns.x columns.y columns.z d0 d3 drawn
     (same3.spots_are ∙ same2.spots_are ∙ same1.spots_are)
     (same3.heights_are ∙ same2.heights_are ∙ same1.heights_are)) adds (x, y) z
 
 pub all_drawn : (text : List ℕ) (header : Fields) (rows : List Fields) (columns : Columns)
     (next : Option ℕ) (d1 d2 : Drawing) (P : Type 0) → next ≡ None
     → MatchOption next (AreAll text (header ∷ rows)) (λ _. P)
-    → Draws rows columns.x columns.y (height_column columns) d1 → SameNumbers d1 d2
+    → Draws rows columns.x columns.y columns.z d1 → SameNumbers d1 d2
     → DrawsTable text header columns d2
 all_drawn text header rows columns next d1 d2 P none all drawn same = (
   rows,
   rw none at all,
-  draws_same rows columns.x columns.y (height_column columns) d1 d2 drawn
+  draws_same rows columns.x columns.y columns.z d1 d2 drawn
       same.spots_are same.heights_are,
 )
 
@@ -116,7 +116,7 @@ table_of text header columns d drawn = record {
   rows = drawn.0;
   x = columns.x;
   y = columns.y;
-  z = height_column columns;
+  z = columns.z;
   records = drawn.1;
   drawn = drawn.2;
 }

@@ -12,7 +12,7 @@ use Rattle.mesh_files.specs.Runs.{IsBegunPosition, IsFirstNumber, IsOpenPosition
 use Rattle.mesh_files.specs.Runs.{numbers_first}
 use Rattle.mesh_files.specs.States.{DrawsOn, GoesOn, HasReadRuns, HasReadTokens, IsBetween}
 use Rattle.mesh_files.specs.States.{IsGeoJson, IsWithoutMark, ReadsToken}
-use Rattle.mesh_files.proofs.PointRows.{draws_none, word_writes}
+use Rattle.mesh_files.proofs.PointRows.{draws_none, nothing_trimmed, word_writes}
 
 pub goes_on_draws : (old new : GeoState) (d : Drawing) → GoesOn old new → DrawsOn old new d d
 goes_on_draws old new d g = λ tokens rest shape drawn. record {
@@ -72,23 +72,23 @@ height_kept p tokens before rest e h = kept_if_some p.height
     (λ n. IsPosition tokens p) e h
 
 position_of : (tokens rest : List Token) (spot : Spot) (o : Option Number)
-    → MatchOption o (IsBegunPosition tokens rest spot)
+    → numbers_first rest ≡ [] → MatchOption o (IsBegunPosition tokens rest spot)
     (λ n. IsPosition tokens (record { spot = spot; height = o }))
     → IsPosition tokens (record { spot = spot; height = o })
-position_of tokens rest spot None begun = record {
+position_of tokens rest spot None ends begun = record {
   row = begun.first ∷ begun.second ∷ numbers_first rest;
   run = begun.run;
   spot_is = (
     word_writes begun.first spot.x.decimal begun.x_is,
     word_writes begun.second spot.y.decimal begun.y_is,
   );
-  height_is = tt;
+  height_is = rw ends nothing_trimmed;
 }
-position_of tokens rest spot (Some n) h = h
+position_of tokens rest spot (Some n) ends h = h
 
-pub position_read : (tokens rest : List Token) (p : GeoPosition) → IsOpenPosition tokens rest p
-    → IsPosition tokens p
-position_read tokens rest p h = position_of tokens rest p.spot p.height h
+pub position_read : (tokens rest : List Token) (p : GeoPosition) → numbers_first rest ≡ []
+    → IsOpenPosition tokens rest p → IsPosition tokens p
+position_read tokens rest p ends h = position_of tokens rest p.spot p.height ends h
 
 -- a token was taken
 pub token_taken : (all reader rest : List Token) (token : Token) (s0 s1 : GeoState)
@@ -118,7 +118,7 @@ nothing_read all state d between shape none = record {
   drawn = record {
     rows = [];
     runs = tt;
-    drawn = draws_none 0 1 2 d none.spots_are none.heights_are;
+    drawn = draws_none 0 1 (Some 2) d none.spots_are none.heights_are;
   };
 }
 

@@ -1,10 +1,11 @@
 -- How the rows of a text become points.
 use Rattle.std.proofs.Common.{◌≡◌, ◌∙◌, ℕ, List, [], ◌∷◌, ◌++◌, refl, sym, ap, append_assoc}
-use Rattle.std.specs.Prelude.{Option, None, Some, IfSome}
-use Rattle.mesh_files.specs.{AddsSpot, Drawing, Draws, IsNumberAt, Number, rows_of, SameNumbers}
+use Rattle.std.specs.Prelude.{Bool, true, false, Option, None, Some}
+use Rattle.mesh_files.specs.{AddsSpot, Drawing, Drawn.IsHeightAt, Number, rows_of, SameNumbers}
 use Rattle.mesh_files.specs.{declared.words.WordLines.WordLines, Spot, TakesRows, words_of}
 use Rattle.mesh_files.specs.Drawn.{DrawsHoles, IsSpotAt, SamePoints}
-use Rattle.mesh_files.specs.Triangle.{AddsHole, BeginsRow, DrawsRow, HasHoles, IsPoly, TakesNumber}
+use Rattle.mesh_files.specs.Triangle.{AddsHole, BeginsRow, DrawsPoints, DrawsRow, HasHoles}
+use Rattle.mesh_files.specs.Triangle.{height_place, IsPoly, TakesHeight}
 use Rattle.mesh_files.specs.Triangle.{TakesPoints, TakesSpot, TakesWord}
 use Rattle.mesh_files.proofs.PointRows.{draws_more, draws_same, word_writes, zip_more}
 
@@ -21,27 +22,29 @@ spot_at number x y ws row s0 s1 spot e t =
 
 -- and the height behind it
 height_at : (number : List ℕ) (row : List (List ℕ)) (s0 s1 s2 : WordLines) (spot : Spot)
-    (height : Option Number) → row ≡ number ∷ words_of s0.words.now → TakesSpot spot s0 s1
-    → IfSome height (λ n. TakesNumber n s1 s2) → IfSome height (IsNumberAt 3 row)
-height_at number row s0 s1 s2 spot None e t h = tt
-height_at number row s0 s1 s2 spot (Some n) e t h =
+    (has_height : Bool) (height : Option Number) → row ≡ number ∷ words_of s0.words.now
+    → TakesSpot spot s0 s1 → TakesHeight has_height height s1 s2
+    → IsHeightAt (height_place has_height) row height
+height_at number row s0 s1 s2 spot false height e t h = h
+height_at number row s0 s1 s2 spot true None e t h = absurd h
+height_at number row s0 s1 s2 spot true (Some n) e t h =
     let line : row ≡ number ∷ t.0 ∷ t.1 ∷ h.0 ∷ words_of s2.words.now =
     e ∙ ap (λ (r : List (List ℕ)). number ∷ r) t.2.taken
     ∙ ap (λ (r : List (List ℕ)). number ∷ t.0 ∷ t.1 ∷ r) h.1.taken in
     rw line (word_writes h.0 n.decimal h.2)
 
 -- a row whose first word was read becomes a point
-pub row_drawn : (s0 s1 s2 : WordLines) (spot : Spot) (height : Option Number)
+pub row_drawn : (s0 s1 s2 : WordLines) (spot : Spot) (has_height : Bool) (height : Option Number)
     (d0 d1 d2 d3 : Drawing) → TakesSpot spot s0 s1 → SameNumbers d0 d1
-    → IfSome height (λ n. TakesNumber n s1 s2) → SameNumbers d1 d2
-    → AddsSpot spot height d2 d3 → DrawsRow s0 d0 d3
-row_drawn s0 s1 s2 spot height d0 d1 d2 d3 t same1 h same2 adds = λ rows number drawn.
+    → TakesHeight has_height height s1 s2 → SameNumbers d1 d2
+    → AddsSpot spot height d2 d3 → DrawsRow has_height s0 d0 d3
+row_drawn s0 s1 s2 spot has height d0 d1 d2 d3 t same1 h same2 adds = λ rows number drawn.
     let row : List (List ℕ) = number ∷ words_of s0.words.now in
-    draws_more rows row 1 2 3 spot height d2 d3
-    (draws_same rows 1 2 3 d0 d2 drawn (same2.spots_are ∙ same1.spots_are)
+    draws_more rows row 1 2 (height_place has) spot height d2 d3
+    (draws_same rows 1 2 (height_place has) d0 d2 drawn (same2.spots_are ∙ same1.spots_are)
     (same2.heights_are ∙ same1.heights_are)) adds
     (spot_at number t.0 t.1 [] row s0 s1 spot refl t)
-    (height_at number row s0 s1 s2 spot height refl t h)
+    (height_at number row s0 s1 s2 spot has height refl t h)
 
 -- rows, and one more
 pub rows_more : (rows : List (List (List ℕ))) (row : List (List ℕ)) (s0 s1 s2 : WordLines)
@@ -51,12 +54,12 @@ rows_more rows row s0 s1 s2 before e = before ∙ ap (λ (r : List (List (List �
     ∙ sym (append_assoc rows (row ∷ []) (rows_of s2.rest.now))
 
 -- one more row, which was begun and then read, is one more point
-pub points_more : (points : List (List (List ℕ))) (s0 s1 s2 s3 : WordLines) (d1 d3 : Drawing)
-    → TakesRows points s0 s1 → Draws points 1 2 3 d1
+pub points_more : (points : List (List (List ℕ))) (s0 s1 s2 s3 : WordLines) (has_height : Bool)
+    (d1 d3 : Drawing) → TakesRows points s0 s1 → DrawsPoints points has_height d1
     → ((number : List ℕ) × BeginsRow (number ∷ []) s1 s2) → s3.rest.now ≡ s2.rest.now
-    → DrawsRow s2 d1 d3
-    → (more : List (List (List ℕ))) × TakesRows more s0 s3 × Draws more 1 2 3 d3
-points_more points s0 s1 s2 s3 d1 d3 before drawn begun rest row_is =
+    → DrawsRow has_height s2 d1 d3
+    → (more : List (List (List ℕ))) × TakesRows more s0 s3 × DrawsPoints more has_height d3
+points_more points s0 s1 s2 s3 has d1 d3 before drawn begun rest row_is =
     let row : List (List ℕ) = begun.0 ∷ words_of s2.words.now in
     let e : rows_of s1.rest.now ≡ row ∷ rows_of s3.rest.now =
     begun.1.taken ∙ ap (λ (r : List (List ℕ)). r ∷ rows_of s2.rest.now) begun.1.row_is
@@ -104,11 +107,12 @@ parts_drawn text s0 s1 s2 d1 d2 d3 d4 e points between same12 holes same23 same3
   others = between.0 ++ holes.before;
   holes = holes.holes;
   rest = holes.rest;
+  has_heights = points.has_heights;
   rows_are = ap rows_of (sym e) ∙ points.taken
       ∙ ap (λ (r : List (List (List ℕ))). points.head ∷ (points.points ++ r)) (between.1
       ∙ ap (λ (r : List (List (List ℕ))). between.0 ++ r) holes.rows_are
       ∙ sym (append_assoc between.0 holes.before (holes.holes ++ holes.rest)));
-  drawn = draws_same points.points 1 2 3 d1 d4 points.drawn
+  drawn = draws_same points.points 1 2 (height_place points.has_heights) d1 d4 points.drawn
       (same34.spots_are ∙ same23.spots_are ∙ same12.spots_are)
       (same34.heights_are ∙ same23.heights_are ∙ same12.heights_are);
   holes_drawn = rw same34.holes_are holes.drawn;

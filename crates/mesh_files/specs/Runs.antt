@@ -1,9 +1,9 @@
 -- What is read of GeoJSON.
-use Rattle.std.specs.Prelude.{◌≡◌, ◌++◌, ℕ, List, [], ◌∷◌, All, IfSome, MatchOption}
+use Rattle.std.specs.Prelude.{◌≡◌, ◌++◌, ℕ, List, [], ◌∷◌, All, IfSome, MatchOption, Some}
 use Rattle.std.specs.List.{AllByRecursion}
 use Rattle.json.specs.Token.{Token, begin_object, end_object, begin_array, end_array, key}
 use Rattle.json.specs.Token.{string, number, boolean, null, bad}
-use Rattle.mesh_files.specs.{Drawn.Draws, Drawn.IsNumberAt, Drawn.IsSpotAt, Written.IsAsWritten}
+use Rattle.mesh_files.specs.{Drawn.Draws, Drawn.IsHeightAt, Drawn.IsSpotAt, Written.IsAsWritten}
 use Rattle.mesh_files.specs.{declared.drawing.Drawing.Drawing, declared.drawing.Number.Number}
 use Rattle.mesh_files.specs.declared.drawing.Spot.{Spot}
 use Rattle.mesh_files.specs.{declared.shapes.GeoPosition.GeoPosition, declared.shapes.Shape.Shape}
@@ -29,18 +29,18 @@ pub record IsRun (tokens : List Token) (row : List (List ℕ)) : Type 0 where
   pub tokens_are : tokens ≡ before ++ rest
   pub row_is : row ≡ numbers_first rest
 
--- each point is a run of numbers: x, y and, where points have one, the height
+-- each point is a run of numbers: x, y and, if it has one, its height
 pub record DrawsRuns (tokens : List Token) (d : Drawing) : Type 0 where
   pub rows : List (List (List ℕ))
   pub runs : AllByRecursion (IsRun tokens) rows
-  pub drawn : Draws rows 0 1 2 d
+  pub drawn : Draws rows 0 1 (Some 2) d
 
 -- a position is a run of numbers
 pub record IsPosition (tokens : List Token) (p : GeoPosition) : Type 0 where
   pub row : List (List ℕ)
   pub run : IsRun tokens row
   pub spot_is : IsSpotAt 0 1 row p.spot
-  pub height_is : IfSome p.height (IsNumberAt 2 row)
+  pub height_is : IsHeightAt (Some 2) row p.height
 
 -- the numbers that a shape has are positions
 pub record HasPositions (tokens : List Token) (shape : Shape) : Type 0 where

@@ -1,5 +1,5 @@
 -- What is read of a table.
-use Rattle.std.specs.Prelude.{◌≡◌, ◌++◌, ℕ, List, [], ◌∷◌, Option, Some, unwrap_or}
+use Rattle.std.specs.Prelude.{◌≡◌, ◌++◌, ℕ, List, [], ◌∷◌, Option, Some}
 use Rattle.csv.specs.Reading.{AreRecords, Reached, Ready, default_config, source_of, strip_bom}
 use Rattle.csv.specs.Reading.{reader_config, reader_state, reader_trim}
 use Rattle.csv.specs.declared.parser.State.TheVariants as st
@@ -27,13 +27,9 @@ pub record HasRead {R : Type 0} (remaining : R → Option (List ℕ)) (text : Li
   pub reached : Reached default_config st.StartRecord (strip_bom text) rows
       (reader_state reader) rest
 
--- the column of heights, if there is one
-abbrev pub height_column : Columns → ℕ
-height_column columns = unwrap_or columns.z 0
-
 -- these records are points
 abbrev pub DrawsRecords : List Fields → Columns → Drawing → Type 0
-DrawsRecords rows columns d = Draws rows columns.x columns.y (height_column columns) d
+DrawsRecords rows columns d = Draws rows columns.x columns.y columns.z d
 
 -- a record is a point behind those before it
 abbrev pub DrawsRow : Fields → Columns → Drawing → Drawing → Type 0
@@ -45,12 +41,13 @@ abbrev pub DrawsTable : List ℕ → Fields → Columns → Drawing → Type 0
 DrawsTable text header columns d = (rows : List Fields) × AreAll text (header ∷ rows)
     × DrawsRecords rows columns d
 
--- the records of a text behind the header are points, with their numbers in these columns
+-- the records of a text behind the header are points, with their numbers in these columns, and
+-- heights if there is a column of those
 pub record IsTable (text : List ℕ) (d : Drawing) : Type 0 where
   pub header : Fields
   pub rows : List Fields
   pub x : ℕ
   pub y : ℕ
-  pub z : ℕ
+  pub z : Option ℕ
   pub records : AreAll text (header ∷ rows)
   pub drawn : Draws rows x y z d

@@ -6,9 +6,8 @@
 ghost use Rattle.std.specs.Prelude.{◌≡◌, ◌++◌, ◌∷◌, [], ℕ, List, IfOk, OnOk, IfSome};
 ghost use Rattle.std.specs.Prelude.{MatchOption};
 ghost use Rattle.csv.specs.Records.{fields_of};
-ghost use Rattle.mesh_files.specs.Drawn.{HasNoNumbers, IsNumberAt, SameNumbers};
-ghost use Rattle.mesh_files.specs.Tables.{AreAll, DrawsRow, DrawsTable, Fields, HasRead};
-ghost use Rattle.mesh_files.specs.Tables.{height_column, IsTable};
+ghost use Rattle.mesh_files.specs.Drawn.{HasNoNumbers, IsHeightAt, SameNumbers};
+ghost use Rattle.mesh_files.specs.Tables.{AreAll, DrawsRow, DrawsTable, Fields, HasRead, IsTable};
 
 use crate::columns::{Columns, leave_out, needed_column, word_of};
 use crate::words::count_of;
@@ -125,21 +124,24 @@ impl Runs {
     }
 }
 
-/// The height in a row, if there is a column of heights.
+/// The height in a row, if there is a column of heights, and a word in it.
 fn row_height(
     drawing: &mut Drawing,
     record: &ByteRecord,
     columns: &Columns,
     at: FileLine,
 ) -> Result<Option<Number>, FileFault>
-    ensures written { IfOk result (λ height.
-        IfSome height (IsNumberAt (height_column columns.now) (fields_of «record».now))) }
+    ensures written { IfOk result (IsHeightAt columns.now.z (fields_of «record».now)) }
     ensures same { OnOk result (SameNumbers drawing.old drawing.new) }
 {
     let Some(column) = columns.z else {
         return Ok(None);
     };
-    Ok(Some(drawing.number(word_of(record, column), "z", at)?))
+    let word = word_of(record, column);
+    if word.is_empty() {
+        return Ok(None);
+    }
+    Ok(Some(drawing.number(word, "z", at)?))
 }
 
 /// Takes the numbers of a row in.

@@ -176,12 +176,12 @@ impl NumberTexts {
     }
 }
 
-/// Points, their heights, which all of them have or none, segments between them, points in holes,
-/// and the rings of polygons.
+/// Points, their heights, segments between them, points in holes, and the rings of polygons.
 #[derive(Drop)]
 pub struct Drawing {
     pub spots: Vec<Spot>,
-    pub heights: Vec<Number>,
+    /// The height of each point that has one. It is empty where none has.
+    pub heights: Vec<Option<Number>>,
     pub segments: Vec<Segment>,
     pub holes: Vec<Spot>,
     pub rings: Vec<Ring>,
@@ -195,7 +195,7 @@ pub struct Drawing {
 }
 
 impl Drawing {
-    ghost use Rattle.mesh_files.specs.Drawn.{AddsSpot, HasNoNumbers, SameNumbers};
+    ghost use Rattle.mesh_files.specs.Drawn.{AddsSpot, FillsHeights, HasNoNumbers, SameNumbers};
 
     /// Nothing yet.
     pub fn new(alloc: Global) -> Self
@@ -262,19 +262,30 @@ impl Drawing {
         Err(FileFault::at_line(at, reason))
     }
 
-    /// Takes a point in: either all have a height, or none.
+    /// Gives each point an index for its height.
+    fn fill_heights(&mut self) -> Result<(), AllocError>
+        ensures { OnOk result (FillsHeights self.old self.new) }
+    {
+        if self.heights.is_empty() {
+            let mut heights = Vec::new(*self.spots.allocator());
+            heights.resize(self.spots.len(), None)?;
+            self.heights = heights;
+        }
+        Ok(())
+    }
+
+    /// Takes a point in, with its height if it has one.
     pub(crate) fn add_spot(&mut self, spot: Spot, height: Option<Number>) -> Result<(), FileFault>
         ensures { OnOk result (AddsSpot spot height self.old self.new) }
     {
-        match height {
-            Some(height) if self.heights.len() == self.spots.len() => {
-                self.spots.reserve(1)?;
-                self.heights.push(height)?;
-                self.spots.push_reserved(spot);
-            }
-            None if self.heights.is_empty() => self.spots.push(spot)?,
-            _ => return Err(FileFault::at_line(spot.file_line(), Reason::SomeHeights)),
+        if height.is_none() && self.heights.is_empty() {
+            self.spots.push(spot)?;
+            return Ok(());
         }
+        self.fill_heights()?;
+        self.spots.reserve(1)?;
+        self.heights.push(height)?;
+        self.spots.push_reserved(spot);
         Ok(())
     }
 
@@ -391,6 +402,26 @@ impl Drawing {
         } else {
             Some(self.left_out.as_str())
         }
+    }
+
+    /// The height of the point at an index, if it has one.
+    pub fn height(&self, index: usize) -> Option<Number> {
+        self.heights.get(index).copied().flatten()
+    }
+
+    /// How many points have no height where others have one, and the fault that the first of them
+    /// is, if there are any.
+    pub fn without_height(&self) -> Option<(u32, FileFault)> {
+        let (mut count, mut first) = (0u32, None);
+        for (spot, height) in self.spots.iter().zip(&self.heights) {
+            if height.is_none() {
+                count = count.saturating_add(1);
+                if first.is_none() {
+                    first = Some(spot.file_line());
+                }
+            }
+        }
+        Some((count, FileFault::at_line(first?, Reason::NoHeight)))
     }
 
     /// How many heights have more digits than fit.

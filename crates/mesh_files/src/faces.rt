@@ -148,7 +148,7 @@ impl MeshText<'_> {
             let (x, y) = (spot.x.decimal, spot.y.decimal);
             write!(line, "{x},{y}")?;
         }
-        if let Some(height) = self.drawing.heights.get(index) {
+        if let Some(height) = self.drawing.height(index) {
             let z = height.decimal;
             write!(line, ",{z}")?;
         }

@@ -37,7 +37,7 @@ pub enum Reason {
     OtherNesting,
     OpenRing,
     SmallRing,
-    SomeHeights,
+    NoHeight,
     Unreadable,
     NoMemory,
 }
@@ -100,60 +100,69 @@ impl Reason {
             Reason::OpenRing => "a ring does not end where it began",
             Reason::SmallRing =>
                 "this ring has fewer than three corners: add corners, or leave it out",
-            Reason::SomeHeights =>
-                "some points have a height and others have none: give it to all or to none",
+            Reason::NoHeight => "this point has no height, though others have one",
             Reason::Unreadable => "reading failed",
             Reason::NoMemory => "there is not enough memory",
             _ => "",
         }
     }
 
-    /// What a reason names, with the text before and behind it.
-    fn parts(self) -> (&'static str, Named, &'static str) {
-        match self {
-            Reason::NoColumn(name) => (
-                "there is no column named ",
-                Named::Word(name),
-                column_hint(name),
-            ),
-            Reason::NoGivenColumn(name) => (
-                "no column has the name that --",
-                Named::Word(name),
-                " gives",
-            ),
-            Reason::NotNumber(name) => ("", Named::Word(name), " is not a decimal number"),
-            Reason::TooLong(name) => ("", Named::Word(name), TOO_LONG),
-            Reason::Ends(what) => ("the file ends where ", Named::Word(what), " is expected"),
-            Reason::Missing(what) => ("", Named::Word(what), " is missing"),
-            Reason::NotCount(what) => ("", Named::Word(what), " is not a whole number from 0 on"),
-            Reason::NoPoint(number) => (
-                "point ",
-                Named::Number(number),
-                " is used here, but there is no such point",
-            ),
+    /// The word that a reason names, with the text before and behind it, if it names one.
+    fn word_parts(self) -> Option<(&'static str, &'static str, &'static str)> {
+        Some(match self {
+            Reason::NoColumn(name) => ("there is no column named ", name, column_hint(name)),
+            Reason::NoGivenColumn(name) => ("no column has the name that --", name, " gives"),
+            Reason::NotNumber(name) => ("", name, " is not a decimal number"),
+            Reason::TooLong(name) => ("", name, TOO_LONG),
+            Reason::Ends(what) => ("the file ends where ", what, " is expected"),
+            Reason::Missing(what) => ("", what, " is missing"),
+            Reason::NotCount(what) => ("", what, " is not a whole number from 0 on"),
+            Reason::Expected(what) => ("", what, " is expected here"),
+            Reason::NoMember(name) => ("the object has no member named ", name, ""),
+            Reason::NotOfType(name) => ("the object has ", name, ", which is not for its type"),
+            _ => return None,
+        })
+    }
+
+    /// The number that a reason names, with the text before and behind it, if it names one.
+    fn number_parts(self) -> Option<(&'static str, u64, &'static str)> {
+        Some(match self {
+            Reason::NoPoint(number) => {
+                (
+                    "point ",
+                    number,
+                    " is used here, but there is no such point",
+                )
+            }
             Reason::LongLine(most) => (
                 "this line or row is too long: at most ",
-                Named::Number(most as u64),
+                u64::from(most),
                 " bytes are read",
             ),
             Reason::LongText(most) => (
                 "the file is too long, split it: at most ",
-                Named::Number(most as u64),
+                u64::from(most),
                 " bytes are read",
             ),
-            Reason::NotJson(most) => (
-                "this is not JSON, or it nests more than ",
-                Named::Number(most as u64),
-                " deep",
-            ),
-            Reason::Expected(what) => ("", Named::Word(what), " is expected here"),
-            Reason::NoMember(name) => ("the object has no member named ", Named::Word(name), ""),
-            Reason::NotOfType(name) => (
-                "the object has ",
-                Named::Word(name),
-                ", which is not for its type",
-            ),
-            _ => (self.text(), Named::Nothing, ""),
+            Reason::NotJson(most) => {
+                (
+                    "this is not JSON, or it nests more than ",
+                    most as u64,
+                    " deep",
+                )
+            }
+            _ => return None,
+        })
+    }
+
+    /// What a reason names, with the text before and behind it.
+    fn parts(self) -> (&'static str, Named, &'static str) {
+        if let Some((before, word, behind)) = self.word_parts() {
+            return (before, Named::Word(word), behind);
+        }
+        match self.number_parts() {
+            Some((before, number, behind)) => (before, Named::Number(number), behind),
+            None => (self.text(), Named::Nothing, ""),
         }
     }
 }

@@ -3,7 +3,8 @@ ghost use Rattle.std.specs.Prelude.{◌≡◌, ◌++◌, ◌∷◌, [], ℕ, Lis
 ghost use Rattle.mesh_files.specs.Drawn.{Draws, DrawsHoles, HasNoNumbers, SameNumbers, SamePoints};
 ghost use Rattle.mesh_files.specs.{Rows.rows_of, Rows.words_of, Triangle.TakesWord};
 ghost use Rattle.mesh_files.specs.Triangle.{AddsHole, BeginsRow, DrawsRow, HasHoles, IsNode};
-ghost use Rattle.mesh_files.specs.Triangle.{IsPoly, TakesNumber, TakesPoints, TakesRows, TakesSpot};
+ghost use Rattle.mesh_files.specs.Triangle.{IsPoly, TakesHeight, TakesNumber, TakesPoints};
+ghost use Rattle.mesh_files.specs.Triangle.{TakesRows, TakesSpot};
 
 use crate::words::{WordLines, count_of};
 use crate::{CheckedText, Drawing, FileFault, FileLine, Number, Reason, Spot};
@@ -140,7 +141,7 @@ fn point_height(
     drawing: &mut Drawing,
 ) -> Result<Option<Number>, FileFault>
     ensures written { IfOk result
-        (λ height. IfSome height (λ n. TakesNumber n source.old source.new)) }
+        (λ height. TakesHeight has_height height source.old source.new) }
     ensures rest { OnOk result (source.new.rest.now ≡ source.old.rest.now) }
     ensures same { OnOk result (SameNumbers drawing.old drawing.new) }
 {
@@ -157,7 +158,7 @@ fn take_point(
     drawing: &mut Drawing,
 ) -> Result<(), FileFault>
     ensures rest { OnOk result (source.new.rest.now ≡ source.old.rest.now) }
-    ensures drawn { OnOk result (DrawsRow source.old drawing.old drawing.new) }
+    ensures drawn { OnOk result (DrawsRow has_height source.old drawing.old drawing.new) }
     ensures holes { OnOk result (drawing.new.holes.items ≡ drawing.old.holes.items) }
 {
     let spot = source.spot(drawing)?;
@@ -173,10 +174,11 @@ fn read_point_part(source: &mut WordLines<'_>, drawing: &mut Drawing) -> Result<
 {
     let head = read_point_head(source)?;
     leave_out_values(head, drawing)?;
+    let has_heights = head.attributes > 0;
     let mut first = None;
     for index in 0..head.count {
         first = Some(point_number(source, index, first)?);
-        take_point(source, head.attributes > 0, drawing)?;
+        take_point(source, has_heights, drawing)?;
     }
     Ok(first.unwrap_or(0))
 }

@@ -155,18 +155,27 @@ impl MeshText<'_> {
         }
     }
 
-    /// Puts the numbers of a point behind a line, as they came.
-    fn push_point(&self, line: &mut String, index: usize) -> Result<(), AllocError> {
+    /// Puts the numbers of a point behind a line, as they came, and 0 for a height that is needed
+    /// where there is none.
+    fn push_point(
+        &self,
+        line: &mut String,
+        index: usize,
+        needs_height: bool,
+    ) -> Result<(), AllocError> {
         if let Some(spot) = self.drawing.spots.get(index).copied() {
             self.push_number(line, spot.x)?;
             line.push(' ')?;
             self.push_number(line, spot.y)?;
         }
-        if let Some(height) = self.drawing.heights.get(index).copied() {
-            line.push(' ')?;
-            self.push_number(line, height)?;
+        match self.drawing.height(index) {
+            Some(height) => {
+                line.push(' ')?;
+                self.push_number(line, height)
+            }
+            None if needs_height => line.push_str(" 0"),
+            None => Ok(()),
         }
-        Ok(())
     }
 
     /// Puts a point's line behind a line, which has what stands before its numbers.
@@ -189,13 +198,9 @@ impl MeshText<'_> {
         } else {
             self.index_at(index)
         };
-        self.push_point(line, index)?;
-        let needs_height = !matches!(form, Form::Node | Form::Poly);
-        line.push_str(if self.drawing.heights.is_empty() && needs_height {
-            " 0\n"
-        } else {
-            "\n"
-        })
+        let is_list = matches!(form, Form::Node | Form::Poly);
+        self.push_point(line, index, !is_list || !self.drawing.heights.is_empty())?;
+        line.push('\n')
     }
 
     /// Puts a constraint behind a line, by the numbers of its ends or, in GeoJSON, as a line.

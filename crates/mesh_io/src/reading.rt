@@ -113,7 +113,7 @@ fn takes_columns(
     match header_records(form, wanted.names, head, alloc) {
         Ok(records) => {
             let is_wanted = wanted.are_recorded && !records.is_empty();
-            Ok(form.unnamed == 0 && (is_wanted || records.column_of("ring").is_some()))
+            Ok(form.has_header() && (is_wanted || records.column_of("ring").is_some()))
         }
         Err(fault) if is_want_of_memory(&fault) => Err(fault),
         Err(_) => Ok(false),
@@ -203,6 +203,16 @@ fn read_head<R: Read>(reader: &mut R, alloc: Global) -> io::Result<Vec<u8>> {
     Ok(head)
 }
 
+/// Reads the first bytes of a text behind the mark that they may begin with.
+fn behind_mark(head: Vec<u8>) -> Cursor<Vec<u8>> {
+    let mark = head
+        .len()
+        .saturating_sub(without_mark(head.as_slice()).len());
+    let mut begin = Cursor::new(head);
+    begin.set_position(mark as u64);
+    begin
+}
+
 /// What another program's file is, by its first bytes, or by what its name ends in where it is not
 /// given what the file is.
 fn foreign(given: Option<Source>, name: &str, head: &[u8]) -> Option<&'static str> {
@@ -227,12 +237,7 @@ fn read_begun<R: Read + Drop>(
         )?;
     }
     let header = header_text(head.as_slice(), alloc)?;
-    let mark = head
-        .len()
-        .saturating_sub(without_mark(head.as_slice()).len());
-    let mut begin = Cursor::new(head);
-    begin.set_position(mark as u64);
-    let reader = BufReader::new(alloc, begin.chain(reader))?;
+    let reader = BufReader::new(alloc, behind_mark(head).chain(reader))?;
     match read_form(begun, wanted, reader, alloc) {
         Ok(recorded) => Ok(Recorded {
             may_be_degrees: begun.may_be_degrees,
@@ -309,12 +314,6 @@ fn read_input(rt: &HostRuntime, task: &Task<'_>) -> anyhow::Result<Recorded> {
     }
 }
 
-/// Opens a table.
-fn table_reader(rt: &HostRuntime, file: &str) -> anyhow::Result<BufReader<File>> {
-    let opened = fs::open(rt, file).context(format_args!("{file}"))?;
-    Ok(BufReader::new(rt.alloc(), opened)?)
-}
-
 /// What of files is left out where records are taken: no column, and no properties.
 fn left_out_beside<'a>(names: &'a str, records: &Records) -> &'a str {
     if records.is_empty() {
@@ -368,13 +367,14 @@ fn tell_returned(
     let Some(returned) = returned_ring(drawing, records, alloc)? else {
         return Ok(());
     };
-    if !task.is_quiet {
-        let (name, count) = (input_name(task), returned.count);
-        let (line, word) = (returned.line, returned.word);
-        let _ = eprintln!(rt;
-            "mesh: {name}: line {line}: the ring {word} ended before; this is another ({count} such)"
-        );
+    if task.is_quiet {
+        return Ok(());
     }
+    let (name, count) = (input_name(task), returned.count);
+    let (line, word) = (returned.line, returned.word);
+    let _ = eprintln!(rt;
+        "mesh: {name}: line {line}: the ring {word} ended before; this is another ({count} such)"
+    );
     Ok(())
 }
 
@@ -400,10 +400,28 @@ fn used_records(task: &Task<'_>, drawing: &Drawing, records: Records, alloc: Glo
     }
 }
 
+/// Reads a table of segments of which some was read.
+fn add_begun_lines<R: Read + Drop>(
+    head: Vec<u8>,
+    reader: R,
+    drawing: &mut Drawing,
+    alloc: Global,
+) -> anyhow::Result<()> {
+    let form = table_form(head.as_slice()).of_segments();
+    let reader = BufReader::new(alloc, behind_mark(head).chain(reader))?;
+    if form.is_plain() {
+        read_segments(reader, drawing, alloc)?;
+    } else {
+        read_segments(Separated::new(reader, form, alloc)?, drawing, alloc)?;
+    }
+    Ok(())
+}
+
 /// Reads a table of segments.
 fn add_lines(rt: &HostRuntime, lines: &str, drawing: &mut Drawing) -> anyhow::Result<()> {
-    let reader = table_reader(rt, lines)?;
-    read_segments(reader, drawing, rt.alloc()).context(format_args!("{lines}"))
+    let mut opened = open(rt, lines)?;
+    let head = read_head(&mut opened, rt.alloc()).context(format_args!("{lines}"))?;
+    add_begun_lines(head, opened, drawing, rt.alloc()).context(format_args!("{lines}"))
 }
 
 /// Tells how many rings were closed, or that one is open where that is an error.
@@ -451,7 +469,7 @@ fn read_asked(rt: &HostRuntime, task: &Task<'_>, file: &str) -> anyhow::Result<D
         are_regions: false,
         sieve: sieve_of(task)?,
     };
-    let asked = read_text(wanted, Some(Source::Csv), file, told, rt.alloc())?;
+    let asked = read_text(wanted, None, file, told, rt.alloc())?;
     tell_skipped(rt, task, file, &asked.skipped);
     let Recorded { drawing, .. } = asked;
     tell_left_out(
@@ -499,6 +517,19 @@ fn tell_heights(rt: &impl Eprint, task: &Task<'_>, drawing: &Drawing) {
     }
 }
 
+/// Tells how many points have no height where others have one, if there are such.
+fn tell_without_height(rt: &impl Eprint, task: &Task<'_>, drawing: &Drawing) {
+    let Some((count, fault)) = drawing.without_height() else {
+        return;
+    };
+    if !task.is_quiet {
+        let name = input_name(task);
+        let _ = eprintln!(rt;
+            "mesh: {name}: {fault}: where the output needs one it is 0 ({count} such)"
+        );
+    }
+}
+
 /// Reads the points that a question is about, if it is about points: none else.
 fn read_question(rt: &HostRuntime, task: &Task<'_>) -> anyhow::Result<Drawing> {
     match task.question {
@@ -530,6 +561,7 @@ fn scale_drawing(
     let scaled = scale(drawing, task.rounding, digits, rt.alloc()).context(format_args!("{name}"))?;
     tell_moves(rt, task, name, &scaled.moves);
     tell_heights(rt, task, drawing);
+    tell_without_height(rt, task, drawing);
     Ok(scaled)
 }
 

@@ -100,7 +100,7 @@ fn lack_of(
         Err(fault) if sieve.skips_bad => return Ok(Lack::Sense(fault.reason)),
         Err(_) => return Ok(Lack::Nothing),
     };
-    Ok(match (&sieve.nodata, drawing.heights.first()) {
+    Ok(match (&sieve.nodata, drawing.height(0)) {
         (Some(nodata), Some(height)) if is_equal(nodata, &height.decimal) => Lack::Data,
         _ => Lack::Nothing,
     })

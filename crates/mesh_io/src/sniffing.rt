@@ -6,8 +6,8 @@ use crate::Source;
 pub struct TableForm {
     /// What stands between fields: a comma, a semicolon, a tab, or blanks, by the space.
     pub separator: u8,
-    /// The columns of a table without a header, 2 or 3; 0 where it has one.
-    pub unnamed: u8,
+    /// The header that the table lacks, behind which its first row comes; empty where it has one.
+    pub header: &'static [u8],
     /// How many separators stand at the end of the header.
     pub trailing: usize,
 }
@@ -159,16 +159,16 @@ pub fn table_form(bytes: &[u8]) -> TableForm {
     let separator = separator_of(line.trim_ascii());
     let is_blank = separator == b' ' || separator == b'\t';
     let words = if is_blank { line.trim_ascii() } else { line };
-    let unnamed = if !begins_number(words.trim_ascii_start()) {
-        0
+    let header: &'static [u8] = if !begins_number(words.trim_ascii_start()) {
+        &[]
     } else if fields_of(words, separator) > 2 {
-        3
+        b"x,y,z\r"
     } else {
-        2
+        b"x,y\r"
     };
     TableForm {
         separator,
-        unnamed,
+        header,
         trailing: if is_blank {
             0
         } else {
@@ -180,15 +180,17 @@ pub fn table_form(bytes: &[u8]) -> TableForm {
 impl TableForm {
     /// Whether the table is one of commas with a header, and none behind that.
     pub fn is_plain(&self) -> bool {
-        self.separator == b',' && self.unnamed == 0 && self.trailing == 0
+        self.separator == b',' && self.has_header() && self.trailing == 0
     }
 
-    /// The header that the table lacks, behind which its first row comes.
-    pub fn header(&self) -> &[u8] {
-        match self.unnamed {
-            0 => &[],
-            2 => b"x,y\r",
-            _ => b"x,y,z\r",
-        }
+    /// Whether the table has a header.
+    pub fn has_header(&self) -> bool {
+        self.header.is_empty()
+    }
+
+    /// The form of a table of segments that is written so.
+    pub fn of_segments(self) -> Self {
+        let header: &'static [u8] = if self.has_header() { &[] } else { b"from,to\r" };
+        TableForm { header, ..self }
     }
 }

@@ -243,7 +243,7 @@ static CHOICES: [Choice; 21] = [
         values: &["DIGITS"],
         may_be_negative: false,
         rivals: &[],
-        help: "Rounds to so many digits behind the point; else only if not all fit, to as many as do",
+        help: "Rounds to so many digits behind the point; else, if not all fit, to as many as do",
     },
     Choice {
         name: "exact",
@@ -263,7 +263,7 @@ static CHOICES: [Choice; 21] = [
         values: &["RULE"],
         may_be_negative: false,
         rivals: &[],
-        help: "Where segments cross, splits both, refuses the file, or skips the later one; else split",
+        help: "Splits segments that cross, refuses the file, or skips the later one; else split",
     },
     Choice {
         name: "keep",
@@ -273,7 +273,7 @@ static CHOICES: [Choice; 21] = [
         values: &["PART"],
         may_be_negative: false,
         rivals: &[],
-        help: "Keeps faces: inside polygons if there are some, or in layers that segments close off",
+        help: "Keeps faces: inside polygons if there are any, or in layers that segments close off",
     },
     Choice {
         name: "compact",

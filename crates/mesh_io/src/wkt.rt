@@ -1,6 +1,6 @@
 //! Tables with a column of geometries as text (WKT), as GeoJSON.
 use crate::sieving::{Sieved, Skipped, is_want_of_memory};
-use csv::{ByteRecord, ErrorKind, Reader as TableReader, ReaderBuilder};
+use csv::{ByteRecord, Reader as TableReader, ReaderBuilder};
 use json::{Scratch, is_number, is_valid};
 use mesh_files::{FileFault, Reason, push_json_text};
 use std::alloc::{AllocError, Global};
@@ -202,6 +202,9 @@ fn push_geometry(out: &mut String, text: &str, alloc: Global) -> Result<bool, Al
 #[derive(Drop)]
 struct Rewriting {
     header: ByteRecord,
+    /// How many columns there are up to the last with a name.
+    columns: usize,
+    /// The column of geometries.
     column: usize,
     text: String,
     line: u64,
@@ -210,11 +213,25 @@ struct Rewriting {
     faults: Vec<FileFault>,
 }
 
-/// The text of a field.
+/// The bytes of a field.
+fn field_bytes(row: &ByteRecord, column: usize) -> &[u8] {
+    row.get(column).unwrap_or(&[]).trim_ascii()
+}
+
+/// The text of a field, if it is UTF-8.
 fn field_text(row: &ByteRecord, column: usize) -> &str {
-    str::from_utf8(row.get(column).unwrap_or(&[]))
+    str::from_utf8(field_bytes(row, column))
         .unwrap_or("")
         .trim()
+}
+
+/// Writes a field as a text of JSON, with marks for bytes that are no UTF-8.
+fn push_field(text: &mut String, field: &[u8], alloc: Global) -> Result<(), AllocError> {
+    if let Ok(field) = str::from_utf8(field) {
+        return push_json_text(text, field.trim(), alloc);
+    }
+    let marked = String::from_utf8_lossy(alloc, field)?;
+    push_json_text(text, marked.as_str(), alloc)
 }
 
 /// The line that a row begins in.
@@ -244,22 +261,22 @@ impl Rewriting {
         alloc: Global,
     ) -> Result<(), AllocError> {
         self.text.push_str(before)?;
-        push_json_text(&mut self.text, field_text(&self.header, column), alloc)?;
+        push_field(&mut self.text, field_bytes(&self.header, column), alloc)?;
         self.text.push(':')?;
         let field = field_text(row, column);
         if is_number(field) {
             self.text.push_str(field)
-        } else if field.is_empty() {
+        } else if field_bytes(row, column).is_empty() {
             self.text.push_str("null")
         } else {
-            push_json_text(&mut self.text, field, alloc)
+            push_field(&mut self.text, field_bytes(row, column), alloc)
         }
     }
 
     /// Writes the other fields of a row as properties.
     fn push_properties(&mut self, row: &ByteRecord, alloc: Global) -> Result<(), AllocError> {
         let mut before = "";
-        for column in 0..row.len() {
+        for column in 0..self.columns {
             if column != self.column {
                 self.push_member(row, column, before, alloc)?;
                 before = ",";
@@ -289,13 +306,12 @@ impl Rewriting {
     }
 }
 
-/// What is wrong with a row whose geometry is none.
-fn geometry_fault(row: &ByteRecord) -> FileFault {
-    let line = u32::try_from(row_line(row)).unwrap_or(u32::MAX);
-    FileFault::at(
-        line,
-        Reason::Expected("a point, a line or a polygon of WKT"),
-    )
+/// What is expected in a column of geometries.
+const GEOMETRY: &str = "a point, a line or a polygon of WKT";
+
+/// What is wrong with a row.
+fn fault_of_row(row: &ByteRecord, reason: Reason) -> FileFault {
+    FileFault::at(u32::try_from(row_line(row)).unwrap_or(u32::MAX), reason)
 }
 
 /// Whether a text is JSON.
@@ -306,24 +322,27 @@ fn is_json(text: &str, alloc: Global) -> Result<bool, AllocError> {
 
 /// Takes a row in.
 fn take_row(rewriting: &mut Rewriting, row: &ByteRecord, alloc: Global) -> Result<(), FileFault> {
+    if row.len() < rewriting.columns || row.len() > rewriting.header.len() {
+        return Err(fault_of_row(row, Reason::OtherFields));
+    }
     let mut geometry = String::new(alloc);
     let is_right = push_geometry(&mut geometry, field_text(row, rewriting.column), alloc)?;
     if !is_right || !is_json(geometry.as_str(), alloc)? {
-        return Err(geometry_fault(row));
+        return Err(fault_of_row(row, Reason::Expected(GEOMETRY)));
     }
     rewriting.push_feature(row, geometry.as_str(), alloc)?;
     Ok(())
 }
 
-/// What is wrong with a row in this line that could not be read.
-fn row_fault(error: &csv::Error, line: u64) -> FileFault {
-    match error.kind() {
-        ErrorKind::UnequalLengths { .. } => {
-            FileFault::at(u32::try_from(line).unwrap_or(u32::MAX), Reason::OtherFields)
+/// How many columns a header has up to the last with a name.
+fn named_columns(header: &ByteRecord) -> usize {
+    let mut count = 0;
+    for column in 0..header.len() {
+        if !field_bytes(header, column).is_empty() {
+            count = column.saturating_add(1);
         }
-        // a text in memory is read unless there is no more of that
-        _ => FileFault::at(0, Reason::NoMemory),
     }
+    count
 }
 
 impl Rewriting {
@@ -350,7 +369,8 @@ impl Rewriting {
         match reader.read_byte_record(row) {
             Ok(true) => {}
             Ok(false) => return Ok(false),
-            Err(error) => return Err(row_fault(&error, reader.position().line())),
+            // a text in memory is read unless there is no more of that
+            Err(_) => return Err(FileFault::at(0, Reason::NoMemory)),
         }
         self.take(row, alloc)?;
         Ok(true)
@@ -379,6 +399,7 @@ impl Rewriting {
 fn open_table(text: &[u8], separator: u8, alloc: Global) -> TableReader<&[u8]> {
     ReaderBuilder::new()
         .has_headers(false)
+        .flexible(true)
         .delimiter(separator)
         .from_reader(alloc, text)
 }
@@ -421,6 +442,7 @@ pub fn features_of(
     let header = header_of(&mut reader, alloc)?;
     let column = geometry_column(&header).unwrap_or(usize::MAX);
     let mut rewriting = Rewriting {
+        columns: named_columns(&header),
         header,
         column,
         text: String::new(alloc),
