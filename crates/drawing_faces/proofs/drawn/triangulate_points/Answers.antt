@@ -6,8 +6,8 @@ use Rattle.drawing_faces.proofs.Named.{placed_below, placed_names}
 use Rattle.drawing_faces.proofs.Refusing.{places_refused, refused_by}
 use Rattle.drawing_faces.proofs.drawn.triangulate_points.Goals as goal
 
-pub first_places-requires : goal.first_places-requires
-first_places-requires c =
+pub first_indexes-requires : goal.first_indexes-requires
+first_indexes-requires c =
     subst (All (λ h. h < c.num_vertices.result)) (sym c.as_slice.ensures.value)
     (placed_below none c.args.points.now c.in_ok-handles.handles.items c.new-plain.result
     c.insert_points.new.triangulation c.in_ok-handles.ensures.inserts c.num_vertices.result

@@ -45,7 +45,7 @@ loop-preserved g c =
     record {
       splits = splits_then position IsAnyPoint c.loop.invariant.splits
           (any_made _ _ _ _ _ c.add_constraints_and_split-step.ensures.splits);
-      leads = one_more_led (constraints_by constraints (g.T.Triangulation.state new.triangulation))
+      leads = one_more_led (constraints_by constraints (g.T.Triangulation.state new.site))
           new.segments.items c.loop.leads.items _ c.in-Some.lead
           (led_further _ _ _ _ c.add_constraints_and_split-step.ensures.splits
           c.loop.leads.items c.loop.invariant.leads)
