@@ -69,14 +69,14 @@ class Drawing:
         lines = ["# a drawing", f"{len(self.texts)} 2 {len(self.texts[0]) - 2} 0"]
         lines += [f"{i} {' '.join(p)}" for i, p in enumerate(self.texts, first)]
         lines += ["", f"{len(self.segments)} 0"]
-        lines += [f"{i} {a + first} {b + first}  # a wall"
+        lines += [f"{i} {a + first} {b + first}  # a constraint"
                   for i, (a, b) in enumerate(self.segments, first)]
         lines += [f"{len(self.holes)}"]
         lines += [f"{i} {' '.join(p)}" for i, p in enumerate(self.holes, first)]
         return "\n".join(lines) + "\n"
 
 
-def pieces(points, segments):
+def subconstraints(points, segments):
     """Segments cut at the points on them, as pairs of places with the lesser first."""
     found = set()
     for a, b in segments:
@@ -98,9 +98,10 @@ def turned(face):
     return tuple(face[least:] + face[:least])
 
 
-def expected_faces(points, walls, written):
+def expected_faces(points, constraints, written):
     """All faces of the triangulation; where four points are on one circle, with the diagonal that
-    was written. Many points have no walls: theirs are the faces with no point in their circles."""
+    was written. Many points have no constraints: theirs are the faces with no point in their
+    circles."""
     if len(points) > 20:
         faces = {turned(face) for face in written}
         corners = [[points[k] for k in face] for face in faces]
@@ -109,7 +110,7 @@ def expected_faces(points, walls, written):
         expect(all(in_circle(*face, p) <= 0 for face in corners for p in points), "empty circles")
         return faces
     listed = {tuple(sorted(pair)) for face in written for pair in combinations(face, 2)}
-    edges = edges_of(points, walls, listed)
+    edges = edges_of(points, constraints, listed)
     return {turned(list(face)) for face in faces_of(points, edges)}
 
 
@@ -130,7 +131,7 @@ def within_holes(drawing, faces):
                for outer, *holes in rings):
             continue
         for ring in (ring for _, *holes in drawing.polygons for ring in holes):
-            sides = pieces(drawing.whole, list(zip(ring, ring[1:] + ring[:1])))
+            sides = subconstraints(drawing.whole, list(zip(ring, ring[1:] + ring[:1])))
             if is_within([drawing.whole[k] for k in ring], middle) and any(
                     tuple(sorted(pair)) in sides for pair in combinations(face, 2)):
                 found.add(face)
@@ -149,13 +150,15 @@ def in_polygons(drawing, faces):
     return found
 
 
-def kept(points, walls, faces, holes, within=()):
-    """The faces that no way past no wall leads to, from outside, from a hole or from others."""
+def kept(points, constraints, faces, holes, within=()):
+    """The faces that no way past no constraint leads to, from outside, from a hole or from
+    others."""
     sides = {}
     for face in faces:
         for pair in zip(face, face[1:] + face[:1]):
             sides.setdefault(tuple(sorted(pair)), []).append(face)
-    left = {face for pair, at in sides.items() if len(at) == 1 and pair not in walls for face in at}
+    left = {face for pair, at in sides.items() if len(at) == 1 and pair not in constraints
+            for face in at}
     left |= {face for face in faces for hole in holes
              if is_in(*(points[k] for k in face), hole)}
     left |= set(within)
@@ -163,7 +166,7 @@ def kept(points, walls, faces, holes, within=()):
     while todo:
         face = todo.pop()
         for pair in zip(face, face[1:] + face[:1]):
-            if tuple(sorted(pair)) not in walls:
+            if tuple(sorted(pair)) not in constraints:
                 for other in sides[tuple(sorted(pair))]:
                     if other not in left:
                         left.add(other)
@@ -192,7 +195,7 @@ def read_ply(text):
             [[int(word) for word in line.split()[1:]] for line in lines[count:count + faces]])
 
 
-def walls_of(form, text):
+def constraints_of(form, text):
     """The constraints in an OBJ, a PLY or a picture of faces as GeoJSON, as they are written."""
     if form == "obj":
         return [[int(word) - 1 for word in line.split()[1:]] for line in text.splitlines()
@@ -242,7 +245,7 @@ def read_geojson(text):
 
 
 def read_svg(text):
-    """The faces and the walls of a picture, in its own units, with y upwards."""
+    """The faces and the constraints of a picture, in its own units, with y upwards."""
     found = []
     for kind in "polygon", "polyline":
         shapes = []
@@ -286,7 +289,7 @@ def same_shapes(name, said, wanted):
     expect(sorted(map(sorted, said)) == sorted(map(sorted, wanted)), f"{name}: other shapes")
 
 
-def check_forms(name, drawing, walls, faces, words, text):
+def check_forms(name, drawing, constraints, faces, words, text):
     """Each form of the drawing has these faces and these points."""
     points = drawing.points
     wanted = sorted(faces)
@@ -298,9 +301,9 @@ def check_forms(name, drawing, walls, faces, words, text):
         if len(drawing.texts[0]) > 2:
             expect([p[2] for p in at] == [Fraction(t[2]) for t in drawing.texts], f"{name}: heights")
         expect(sorted(turned(f) for f in found) == wanted, f"{name}: {form} has other faces")
-        same_shapes(f"{name}: walls of {form}", walls_of(form, said), walls)
+        same_shapes(f"{name}: constraints of {form}", constraints_of(form, said), constraints)
         # meshio reads no edges of PLY
-        if wanted and not (form == "ply" and walls):
+        if wanted and not (form == "ply" and constraints):
             MESHES.append((said, form, (len(points), len(wanted))))
     found, areas = read_table(run([*words, "--to", "csv"], text)[0])
     expect(sorted(map(turned, found)) == wanted, f"{name}: csv has other faces")
@@ -314,9 +317,10 @@ def check_forms(name, drawing, walls, faces, words, text):
     said, _ = run([*words, "--to", "geojson"], text)
     rings = read_geojson(said)
     same_shapes(f"{name}: geojson", rings, [[points[k] for k in face] for face in wanted])
-    same_shapes(f"{name}: lines", walls_of("geojson", said), [[points[k] for k in w] for w in walls])
+    same_shapes(f"{name}: lines", constraints_of("geojson", said),
+                [[points[k] for k in pair] for pair in constraints])
     check_read_back(name, rings, said)
-    check_picture(name, drawing, walls, wanted, run([*words, "--to", "svg"], text)[0])
+    check_picture(name, drawing, constraints, wanted, run([*words, "--to", "svg"], text)[0])
 
 
 def check_read_back(name, rings, text):
@@ -328,8 +332,8 @@ def check_read_back(name, rings, text):
     expect(all(tuple(sorted(ring)) in found for ring in rings), f"{name}: a ring is no face")
 
 
-def check_picture(name, drawing, walls, faces, said):
-    """The picture's faces and walls are those of the drawing, moved and scaled."""
+def check_picture(name, drawing, constraints, faces, said):
+    """The picture's faces and constraints are those of the drawing, moved and scaled."""
     shapes, lines = read_svg(said)
     corners = sorted({p for shape in shapes for p in shape})
     wanted = sorted({drawing.points[k] for face in faces for k in face})
@@ -342,20 +346,20 @@ def check_picture(name, drawing, walls, faces, said):
             moved = (c[0] - a[0], c[1] - a[1])
             expect(moved == ((w[0] - p[0]) * scale, (w[1] - p[1]) * scale), f"{name}: a place")
         same_shapes(name, shapes, [[place[drawing.points[k]] for k in f] for f in faces])
-    expect(len(lines) == len(walls), f"{name}: {len(lines)} walls in the picture")
+    expect(len(lines) == len(constraints), f"{name}: {len(lines)} constraints in the picture")
 
 
 def check_read(name, drawing, words, text):
     """All forms of a drawing, as it is and with only its inside kept, and the faces as written."""
-    points, walls = drawing.whole, pieces(drawing.whole, drawing.segments)
+    points, constraints = drawing.whole, subconstraints(drawing.whole, drawing.segments)
     written = read_obj(run(words, text)[0])[1]
-    faces = expected_faces(points, walls, written)
-    check_forms(name, drawing, walls, faces, words, text)
-    inside = kept(points, walls, faces, drawing.inner, within_holes(drawing, faces))
-    check_forms(f"{name}, layers", drawing, walls, inside, [*words, "--keep", "layers"], text)
+    faces = expected_faces(points, constraints, written)
+    check_forms(name, drawing, constraints, faces, words, text)
+    inside = kept(points, constraints, faces, drawing.inner, within_holes(drawing, faces))
+    check_forms(f"{name}, layers", drawing, constraints, inside, [*words, "--keep", "layers"], text)
     if drawing.polygons:
         inside = {face for face, polygons in in_polygons(drawing, faces).items() if polygons}
-    check_forms(f"{name}, inside", drawing, walls, inside, [*words, "--keep", "inside"], text)
+    check_forms(f"{name}, inside", drawing, constraints, inside, [*words, "--keep", "inside"], text)
     return written
 
 
@@ -377,8 +381,8 @@ def check(name, drawing):
         with open(f"{folder}/mesh.obj") as file:
             found = read_obj(file.read())
     # where four points are on one circle, another diagonal may be chosen
-    points, walls = drawing.whole, pieces(drawing.whole, drawing.segments)
-    expect({turned(face) for face in found[1]} == expected_faces(points, walls, found[1])
+    points, constraints = drawing.whole, subconstraints(drawing.whole, drawing.segments)
+    expect({turned(face) for face in found[1]} == expected_faces(points, constraints, found[1])
            and len(found[1]) == len(written), f"{name}: from tables")
 
 
@@ -404,7 +408,7 @@ def hundred():
 
 
 def room():
-    """A room with two holes, a wall inside and a point outside."""
+    """A room with two holes, a constraint inside and a point outside."""
     corners = [(0, 0), (12, 0), (12, 8), (0, 8)]
     first = [(2, 2), (4, 2), (4, 4), (2, 4)]
     second = [(7, 3), (10, 3), (8.5, 6)]
@@ -478,7 +482,8 @@ def drawing_of(text):
     return Drawing([tuple(point) for point in points], segments, polygons=polygons)
 
 
-# A room with two holes, a wall and points, with members in any order and numbers in any spelling.
+# A room with two holes, a constraint and points, with members in any order and numbers
+# in any spelling.
 HOUSE = """{"features": [
  {"geometry": {"coordinates": [[[0, 0], [1.2e1, 0.0], [12, 8], [0, 80e-1], [-0, 0e5]],
                                [[2, 2], [2, 4], [4, 4], [4, 2], [2.0, 2]],
@@ -543,10 +548,10 @@ def check_inside(name, text):
     written, layers, inside = ([[number[places[k]] for k in face]
                                 for face in read_obj(run([*words, *keep], text)[0])[1]]
                                for keep in ((), ("--keep", "layers"), ("--keep", "inside")))
-    walls = pieces(drawing.whole, drawing.segments)
-    faces = expected_faces(drawing.whole, walls, written)
+    constraints = subconstraints(drawing.whole, drawing.segments)
+    faces = expected_faces(drawing.whole, constraints, written)
     expect(len(written) == len(faces), f"{name}: all faces")
-    wanted = kept(drawing.whole, walls, faces, (), within_holes(drawing, faces))
+    wanted = kept(drawing.whole, constraints, faces, (), within_holes(drawing, faces))
     expect(sorted(map(turned, layers)) == sorted(wanted), f"{name}: layers")
     polygons = in_polygons(drawing, faces)
     wanted = {face for face, numbers in polygons.items() if numbers}
@@ -826,18 +831,20 @@ def off_2(a, b, p):
 
 def check_split(text, told, ends, heights, words, reach):
     """No constraint of a mesh crosses another or goes over a vertex; a path of constraints near to
-    each segment joins its ends; faces tile the hull of the points; new heights are between others."""
+    each segment joins its ends; faces tile the hull of the points; new heights are between
+    others."""
     said, error = run([*words, "--to", "obj"], text)
     points, faces = read_obj(said)
     at = [point[:2] for point in points]
     expect(at[:len(told)] == told, f"{told}: the points that there were")
-    walls = [(at[a], at[b]) for a, b in walls_of("obj", said)]
-    for (a, b), (c, d) in combinations(walls, 2):
+    constraints = [(at[a], at[b]) for a, b in constraints_of("obj", said)]
+    for (a, b), (c, d) in combinations(constraints, 2):
         crosses = side(a, b, c) * side(a, b, d) < 0 and side(c, d, a) * side(c, d, b) < 0
         expect(not crosses, f"{told}: {a} {b} crosses {c} {d}")
-    expect(not any(carries(a, b, p) for a, b in walls for p in at), f"{told}: a wall over a point")
+    expect(not any(carries(a, b, p) for a, b in constraints for p in at),
+           f"{told}: a constraint over a point")
     for a, b in ends:
-        near = [pair for pair in walls if all(off_2(a, b, p) <= reach ** 2 for p in pair)]
+        near = [pair for pair in constraints if all(off_2(a, b, p) <= reach ** 2 for p in pair)]
         expect(a == b or are_joined(near, a, b), f"{told}: {a} and {b} are not joined")
     corners = [[at[k] for k in face] for face in faces]
     expect(all(side(*face) > 0 for face in corners), f"{told}: faces turn left")
@@ -967,7 +974,8 @@ STATES = [feature(square(0, 0), {"name": "Berlin", "of": [1, {"a": "}"}], "size"
 
 
 def check_properties():
-    """Faces have the numbers and properties of their polygons, and answers those of what they name."""
+    """Faces have the numbers and properties of their polygons, and answers those of what they
+    name."""
     text = collection(*STATES)
     first, second = ({key: value for key, value in state["properties"].items() if value is not None}
                      for state in STATES[:2])
@@ -1155,15 +1163,16 @@ KINDS = {
     "parts of Triangle": (["--from", "poly", "--keep", "inside"], PARTS, 9, 10),
     "points of Triangle": (["--from", "node"], "3 2 1 0\n0 0 0 5\n1 4 0 5\n2 0 4 6\n", 3, 1),
     "a ring that crosses itself": ([], "x,y,ring\n0,0,a\n4,4,a\n4,0,a\n0,4,a\n", 5, 4),
-    "walls that cross, touch and repeat": ([], "x,y,line\n0,0,a\n4,4,a\n4,0,b\n0,4,b\n0,0,c\n4,4,c\n"
+    "segments that cross, touch and repeat": ([],
+        "x,y,line\n0,0,a\n4,4,a\n4,0,b\n0,4,b\n0,0,c\n4,4,c\n"
                                            "2,2,d\n2,0,d\n", 6, 5),
     "a bad row": (["--skip-bad"], "x,y\n0,0\n4,0\nn/a,n/a\n0,4\n", 3, 1),
 }
 
 
 def check_nested():
-    """Segments of one line that overlap are the pieces that they cover; many of them take time in
-    proportion."""
+    """Segments of one line that overlap are the subconstraints that they cover; many of them take
+    time in proportion."""
     chance = random.Random(3)
     for _ in range(60):
         points = [(chance.randint(0, 9), chance.choice((0, 0, 5))) for _ in range(8)]
@@ -1174,10 +1183,10 @@ def check_nested():
         for place, point in enumerate(points):
             first.setdefault(point, place)
         wanted = {tuple(sorted(first[points[k]] for k in pair))
-                  for pair in pieces(points, [(a, b) for a, b in segments
+                  for pair in subconstraints(points, [(a, b) for a, b in segments
                                               if points[a][1] == points[b][1]])}
-        found = walls_of("obj", run(["--from", "poly", "-q"], text)[0])
-        expect({tuple(sorted(wall)) for wall in found} == wanted, f"{text}: {found}, not {wanted}")
+        found = constraints_of("obj", run(["--from", "poly", "-q"], text)[0])
+        expect({tuple(sorted(pair)) for pair in found} == wanted, f"{text}: {found}, not {wanted}")
     times = []
     for count in 1000, 8000:
         lines = "".join(f"{count - k},0,a{k}\n{9 * count + k},0,a{k}\n" for k in range(count))
@@ -1361,7 +1370,7 @@ def check_lines_of_input():
 
 # ---- points in holes
 
-# A square, a wall along a diagonal of it, and a point that is on none of its sides.
+# A square, a constraint along a diagonal of it, and a point that is on none of its sides.
 SQUARE = [("0", "0"), ("4", "0"), ("4", "4"), ("0", "4")]
 SIDES = [(0, 1), (1, 2), (2, 3), (3, 0)]
 WALL = [*SIDES, (0, 2)]
@@ -1403,8 +1412,8 @@ def poly_of(points, segments, holes):
 
 
 def check_hole_points():
-    """A point in a hole is refused, with its line, where it is on a vertex, on a constraint or in no
-    triangulation; in a face, on an edge that is no constraint and outside it is taken."""
+    """A point in a hole is refused, with its line, where it is on a vertex, on a constraint or in
+    no triangulation; in a face, on an edge that is no constraint and outside it is taken."""
     words = ["--from", "poly", "--to", "obj", "-q", "--keep", "inside"]
     for points, segments, holes, place, told in HOLE_FAULTS:
         text, first = poly_of(points, segments, holes)
@@ -1661,15 +1670,15 @@ def check_more_forms():
     expect(run(["--exact"], text, 1)[1] == f"mesh: {told}: repeat its first point at the end\n",
            "an open ring")
     points, faces = read_obj(said)
-    walls = {(k, (k + 1) % 4) for k in range(4)} | {(4, 5), (5, 6), (6, 4)}
+    constraints = {(k, (k + 1) % 4) for k in range(4)} | {(4, 5), (5, 6), (6, 4)}
     lines = {tuple(int(word) - 1 for word in line.split()[1:]) for line in said.splitlines()
              if line.startswith("l ")}
-    expect({frozenset(pair) for pair in lines} == {frozenset(pair) for pair in walls}, said)
+    expect({frozenset(pair) for pair in lines} == {frozenset(pair) for pair in constraints}, said)
     poly, _ = run(["-q", "--to", "poly"], text)
     again = read_obj(run(["-q", "--from", "poly"], poly)[0])
     expect(again[0] == points and {frozenset(map(int, line.split()[1:])) for line in
                                    poly.splitlines()[9:-1]}
-           == {frozenset((a + 1, b + 1)) for a, b in walls}, poly)
+           == {frozenset((a + 1, b + 1)) for a, b in constraints}, poly)
     facets = re.findall(r"facet normal 0 0 0\nouter loop\n((?:vertex .*\n){3})endloop\nendfacet\n",
                         run(["-q", "--to", "stl"], text)[0])
     expect([[tuple(map(Fraction, line.split()[1:])) for line in facet.splitlines()]
@@ -1748,8 +1757,8 @@ def rows_of(said, head):
 
 
 def ask(drawing, words, asked):
-    """What the program tells of points or of a way, with the drawing read as .poly, and the faces of
-    the triangulation that it asked."""
+    """What the program tells of points or of a way, with the drawing read as .poly, and the faces
+    of the triangulation that it asked."""
     with tempfile.TemporaryDirectory() as folder:
         if asked:
             with open(f"{folder}/asked.csv", "w") as file:
@@ -1897,13 +1906,13 @@ def check_questions(name, drawing):
             check_way(name, drawing, p, q)
 
 
-# A hall of 9 by 9 with a wall from below.
+# A hall of 9 by 9 with a constraint from below.
 HALL = {"type": "Polygon", "coordinates": [
     [[0, 0], [4, 0], [4, 6], [5, 6], [5, 0], [9, 0], [9, 9.5], [0, 9], [0, 0]]]}
 
 
 def check_ways_told():
-    """A way round a wall, in each form, and none."""
+    """A way round a constraint, in each form, and none."""
     text, words = json.dumps(HALL), ["--from", "geojson", "--keep", "inside", "--way"]
     said, _ = run(["-q", *words, "1", "1", "8", "1"], text)
     expect(said == "x,y,point\n1,1,\n4,6,3\n5,6,4\n8,1,\n", said)

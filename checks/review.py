@@ -13,6 +13,7 @@
               other crates import by several paths (tools/imports.py writes one)
   large       contracts of more than eight clauses, functions over 40 lines, files over 500, lines over 100 columns
               (imports apart)
+  laws        functions with an empty body, whose contract is what they are for
   size        lines by kind of file
 With CRATE.. only places with at least one end in these crates are printed. --brief prints the counts alone.
 """
@@ -337,6 +338,19 @@ def large():
             print(f"  {n} lines  {p}")
 
 
+def laws():
+    rows = []
+    for path, lines in rt.items():
+        text = "\n".join(lines)
+        for found in re.finditer(r"^pub fn (\w+)(?:<[^(]*>)?\(\)\n    ensures .*\n(?: .*\n)*(\{.*)", text, re.M):
+            if wanted(path) and found[2] == "{}":
+                rows.append((path, text.count("\n", 0, found.start()) + 1, found[1]))
+    heading(f"laws: {len(rows)} functions with an empty body, of {len({p.split('/')[0] for p, _, _ in rows})} crates")
+    if not brief:
+        for p, n, name in rows:
+            print(f"  {p}:{n} {name}")
+
+
 def size():
     def count(group, test):
         return sum(len(v) for k, v in group.items() if test(k))
@@ -347,5 +361,5 @@ def size():
     heading(f"size: .rt {library} lines and {count(rt, is_test)} of tests; .antt {specs} of definitions, {count(antt, lambda k: True) - specs - answers} of lemmas, {answers} of answers")
 
 
-for part in (statements, blocks, unused, facts, meanings, forwards, depends, imports, large, size):
+for part in (statements, blocks, unused, facts, meanings, forwards, depends, imports, large, laws, size):
     part()

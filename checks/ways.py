@@ -1,7 +1,7 @@
 #!/usr/bin/env python3
 """checks/ways.py PROGRAM: has test_parts find ways in random rooms, and looks that there is none
-exactly where no chain of positions joins the ends, that each way is a taut chain over vertices, and
-how long ways are beside the shortest. It also has faces labelled by the parts that ways join, once
+exactly where no chain of positions joins the ends, that each way is a taut chain over vertices
+which is not shorter where one of them is moved, and how long ways are beside the shortest. It also has faces labelled by the parts that ways join, once
 for all free faces and once for those that are wide, and compares.
 
 A room has segments between points of a grid of 5 by 5. Its free faces are those that the program

@@ -348,9 +348,9 @@ tevasulim_status tevasulim_in_sight(tevasulim_triangulation *self, const tevasul
 
 /* Writes a way from one point to another through free faces: its points, the first at `from` and
  * the last at `to`. Each point is in sight of the next, those between are at vertices, and none of
- * them can be left out, since its two neighbours do not see each other. The way is short, but not
- * always the shortest. It may run along sides of free faces, and pass a corner at which two of them
- * meet.
+ * them can be left out, since its two neighbours do not see each other. The way is the shortest
+ * among those close to it, but not always the shortest of all. It may run along sides of free faces,
+ * and pass a corner at which two of them meet.
  *
  * `*length` is 0 where there is no way, and else 2 or more. There is none exactly where no chain of
  * points of any kind, each in sight of the next, joins the two. From a point in a closed free face

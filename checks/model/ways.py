@@ -40,6 +40,33 @@ def shortest(start, end, vertices, sees):
     return None
 
 
+def can_move(before, here, after, free):
+    """Whether a chain that turns at a position is shorter where it is moved a little to the side to
+    which it turns: whether each direction within its angle leads into a free triangle."""
+    turn = side(before, here, after)
+    if not turn:
+        return False
+    first, last = (after, before) if turn > 0 else (before, after)
+    rays = {corner for corners in free if here in corners for corner in corners
+            if side(here, first, corner) > 0 > side(here, last, corner)}
+    # Against the clock: first those that have the fewest others on their right.
+    rays = sorted(rays, key=lambda ray: sum(side(here, other, ray) > 0 for other in rays))
+    rays = [first, *rays, last]
+
+    def is_free(ray, other):
+        """Whether a free triangle has the direction that is between those of two positions."""
+        middle = ray[0] + other[0] - here[0], ray[1] + other[1] - here[1]
+        for corners in free:
+            if here in corners:
+                at = corners.index(here)
+                right, left = corners[at - 2], corners[at - 1]
+                if side(here, right, middle) > 0 > side(here, left, middle):
+                    return True
+        return False
+
+    return all(map(is_free, rays, rays[1:]))
+
+
 def fault(way, start, end, vertices, sees):
     """What is wrong with a way, if anything is."""
     if len(way) < 2 or way[0] != start or way[-1] != end:
@@ -50,6 +77,8 @@ def fault(way, start, end, vertices, sees):
         return "a leg is not in sight"
     if any(map(sees, way, way[2:])):
         return "it is not taut"
+    if any(can_move(*turn, sees.free) for turn in zip(way, way[1:], way[2:])):
+        return "it is shorter where it is moved"
     return None
 
 

@@ -8,7 +8,8 @@ from pages.sources import definitions, items, text_of
 # stands for its functions.
 SURFACE = {
     "Triangulations": "Triangulation DelaunayTriangulation ConstrainedDelaunayTriangulation "
-    "TriangulationCore FloatTriangulation CdtEdge InsertionError ConstraintError *delaunay_queries",
+    "TriangulationCore FloatTriangulation CdtEdge InsertionError ConstraintError "
+    "*delaunay_extensions",
     "Many vertices, and lists of edits": "InsertAll BulkInsertion BulkInsertionError Edit Outcome "
     "Replayable *delaunay_journal",
     "Location, lines and sight": "PositionInTriangulation LineIntersectionIterator Intersection "

@@ -106,9 +106,10 @@ class Regions(Queries):
         array of shape (n, 2) or None
             The points of the way from `start` to `end`, as `points` has them. There are 2 at least.
             Each is in sight of the next by `is_in_sight`, those between are points of the
-            triangulation, and none of them can be left out. The way is short, but not always the
-            shortest. `None` is given exactly where no chain of points of any kind, each in sight of
-            the next, joins the two: so it is where an end is in no free face.
+            triangulation, and none of them can be left out. The way is the shortest among those
+            close to it, but not always the shortest of all. The answer is `None` exactly where no
+            chain of points, each in sight of the next, joins the two. One such case is an end that
+            is in no free face.
 
         Raises
         ------
@@ -120,8 +121,8 @@ class Regions(Queries):
         Notes
         -----
         A way may run along the sides of free faces and through their corners, also past a corner
-        at which two free faces only meet. So it does with a radius, too: there a disc has to keep
-        away from the corner by itself.
+        at which two free faces only meet. A radius does not change this: there the disc has to
+        keep away from the corner by itself.
 
         Examples
         --------
@@ -178,8 +179,8 @@ class Regions(Queries):
             return library.found(1, ask, len(flags))[:, 0].view(np.int32).copy()
 
     def wide_faces(self, radius: float, free: Any = None) -> NDArray[np.bool_]:
-        """bool array of shape (f,): which free faces are wide enough for a disc: those of which
-        each height is as long as its diameter, or longer. `way`, `reachable` and `is_in_sight` take
+        """bool array of shape (f,): which free faces are wide enough for a disc: those each of
+        whose heights is at least its diameter. `way`, `reachable` and `is_in_sight` take
         the array as `free`.
 
         Parameters

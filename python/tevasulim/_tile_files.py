@@ -136,7 +136,7 @@ def parted(plan: Any, axes: Tuple[NDArray[Any], ...], rows: NDArray[Any]) -> Lis
     return found
 
 
-class Piece(NamedTuple):
+class Chunk(NamedTuple):
     """Some rows of a .npy of points, up to one that is no more among them; or all of them."""
 
     part: str
@@ -148,15 +148,15 @@ class Piece(NamedTuple):
         return load(self.part)[self.begin : self.end]
 
 
-def pieces_of(part: str) -> List[Piece]:
-    """A part in pieces, so that several tasks share a large one. One that only the workers reach is
+def chunks_of(part: str) -> List[Chunk]:
+    """A part in chunks, so that several tasks share a large one. One that only the workers reach is
     not parted."""
     try:
         count = len(load(part))
     except (OSError, TypeError, ValueError):
-        return [Piece(part)]
+        return [Chunk(part)]
     begins = range(0, max(count, 1), PIECE)
-    return [Piece(part, begin, min(begin + PIECE, count)) for begin in begins]
+    return [Chunk(part, begin, min(begin + PIECE, count)) for begin in begins]
 
 
 def is_plain(part: str, reading: Reading) -> bool:
@@ -169,18 +169,18 @@ def is_plain(part: str, reading: Reading) -> bool:
         return False
 
 
-def survey(piece: Piece, count: int, tile_size: int) -> Tuple[int, NDArray[Any]]:
-    """How many points a piece has, and of so many of them those that tiles of a size need, picked
+def survey(chunk: Chunk, count: int, tile_size: int) -> Tuple[int, NDArray[Any]]:
+    """How many points a chunk has, and of so many of them those that tiles of a size need, picked
     blindly but always the same. A part with anything but points in range is refused."""
     try:
         try:
-            points = point_list(piece.points(), None)
+            points = point_list(chunk.points(), None)
         except (TevasulimError, TypeError, ValueError, IndexError):
             # It is told of the whole part what is wrong with it.
-            point_list(load(piece.part), None)
+            point_list(load(chunk.part), None)
             raise
     except (TevasulimError, TypeError, ValueError) as error:
-        error.args = (f"{piece.part}: {error.args[0]}", *error.args[1:])
+        error.args = (f"{chunk.part}: {error.args[0]}", *error.args[1:])
         raise
     count = min(count, max(FOR_TILE * len(points) // tile_size, FOR_TILE))
     if len(points) <= count:
@@ -272,10 +272,10 @@ class TileFiles:
         return name
 
     @freed_is_kept()
-    def cut(self, piece: Piece, number: int, first: int, plan: Any) -> List[int]:
-        """Cuts a piece of what was handed in by tile: the points in the order of their tiles, and
+    def cut(self, chunk: Chunk, number: int, first: int, plan: Any) -> List[int]:
+        """Cuts a chunk of what was handed in by tile: the points in the order of their tiles, and
         their numbers, from `first` on. Gives where each tile begins."""
-        points = np.ascontiguousarray(piece.points(), np.int32).reshape(-1, 2)
+        points = np.ascontiguousarray(chunk.points(), np.int32).reshape(-1, 2)
         rows = rows_by_tile(plan, points)
         order = np.concatenate(rows)
         self.write("cut-points", number, points.take(order, axis=0))
@@ -301,10 +301,10 @@ class TileFiles:
 
     @freed_is_kept()
     def gather_from(
-        self, pieces: List[Piece], first: int, plan: Any, polygon: NDArray[Any], has_keys: bool
+        self, chunks: List[Chunk], first: int, plan: Any, polygon: NDArray[Any], has_keys: bool
     ) -> List[Gathered]:
-        """The same of the tiles from `first` on that a plan has, straight from all pieces."""
-        parts = [np.asarray(it.points(), np.int32).reshape(-1, 2) for it in pieces]
+        """The same of the tiles from `first` on that a plan has, straight from all chunks."""
+        parts = [np.asarray(it.points(), np.int32).reshape(-1, 2) for it in chunks]
         points = np.concatenate([np.empty((0, 2), np.int32), *parts])
         each = enumerate(rows_by_tile(plan, points), first)
         words = polygon, has_keys

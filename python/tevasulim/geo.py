@@ -29,7 +29,7 @@ MESHES = ".obj .stl .vtk .vtu .msh .ply .off .mesh .xdmf .nas".split()
 
 
 class Surface(NamedTuple):
-    """A triangulation of places on a map.
+    """A triangulation of points on a map.
 
     triangulation : Triangulation
     heights : float64 array of shape (n,)

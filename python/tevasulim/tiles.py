@@ -37,11 +37,11 @@ from ._tile import Plan, TileReport, cells_of_tile
 from ._tile_files import (
     Box,
     Gathered,
-    Piece,
+    Chunk,
     TileFiles,
     boxes_in,
     is_plain,
-    pieces_of,
+    chunks_of,
     plan_of,
     some_of,
     survey,
@@ -70,8 +70,8 @@ class TiledCells(NamedTuple):
     run's index, a JSON file that names the files of its cells, and those of the parts in the order
     in which points are numbered, or `None` without a folder.
 
-    A number is the row of a point in all parts, so that what is known of points, as their heights,
-    is had by `heights[cells]`."""
+    A number is the row of a point in all parts, one after another. So `heights[cells]` gives the
+    heights of the corners."""
 
     cells: List[Any]
     reports: List[TileReport]
@@ -128,8 +128,8 @@ def cut_plane(
 ) -> Plan:
     """Cuts the plane into tiles, and gathers the points of each and the segments that may meet it:
     what each tile knows of all."""
-    pieces, workers = [piece for name in names for piece in pieces_of(name)], runner.workers()
-    counts, sample = survey_of(pieces, tile_size, runner)
+    chunks, workers = [chunk for name in names for chunk in chunks_of(name)], runner.workers()
+    counts, sample = survey_of(chunks, tile_size, runner)
     cuts = plan_of(sample, tile_count(sum(counts), tile_size, workers))
     boxes = boxes_in(cuts)
     firsts = np.cumsum([0, *counts]).tolist()
@@ -140,23 +140,23 @@ def cut_plane(
     if firsts[-1] <= AT_ONCE:
         # Each worker gathers the points of as many tiles.
         ends = sorted({len(boxes) * i // workers for i in range(workers + 1)})
-        tasks = [(pieces, i, some_of(cuts, i, k), *words) for i, k in zip(ends, ends[1:])]
+        tasks = [(chunks, i, some_of(cuts, i, k), *words) for i, k in zip(ends, ends[1:])]
         gathered = [it for some in runner.run(files.gather_from, tasks) for it in some]
     else:
-        gathered = cut_and_gather(pieces, firsts, cuts, words, runner, files)
-    of_names = [first for piece, first in zip(pieces, firsts) if piece.begin == 0]
+        gathered = cut_and_gather(chunks, firsts, cuts, words, runner, files)
+    of_names = [first for chunk, first in zip(chunks, firsts) if chunk.begin == 0]
     of_names.append(firsts[-1])
     placed = place_segments(of_segments, names, of_names, cuts, runner, files)
     return plan_from(boxes, gathered, placed)
 
 
 def survey_of(
-    pieces: List[Piece], tile_size: int, runner: Runner
+    chunks: List[Chunk], tile_size: int, runner: Runner
 ) -> Tuple[List[int], NDArray[Any]]:
-    """How many points each piece has, and a sample of all."""
-    each = max(SAMPLE // max(len(pieces), 1), 1)
-    tasks = [(piece, each, tile_size) for piece in pieces]
-    if sum(AT_ONCE if it.end is None else it.end - it.begin for it in pieces) < AT_ONCE:
+    """How many points each chunk has, and a sample of all."""
+    each = max(SAMPLE // max(len(chunks), 1), 1)
+    tasks = [(chunk, each, tile_size) for chunk in chunks]
+    if sum(AT_ONCE if it.end is None else it.end - it.begin for it in chunks) < AT_ONCE:
         # This process has done it before others were asked.
         found = [survey(*words) for words in tasks]
     else:
@@ -166,15 +166,15 @@ def survey_of(
 
 
 def cut_and_gather(
-    pieces: List[Piece],
+    chunks: List[Chunk],
     firsts: List[int],
     cuts: Any,
     words: Tuple[Any, ...],
     runner: Runner,
     files: TileFiles,
 ) -> List[Gathered]:
-    """Sorts each piece by tile, and gathers the points of each tile."""
-    tasks = [(piece, i, firsts[i], cuts) for i, piece in enumerate(pieces)]
+    """Sorts each chunk by tile, and gathers the points of each tile."""
+    tasks = [(chunk, i, firsts[i], cuts) for i, chunk in enumerate(chunks)]
     begins = runner.run(files.cut, tasks)
     parts = [
         [
@@ -185,7 +185,7 @@ def cut_and_gather(
         for tile in range(len(boxes_in(cuts)))
     ]
     gathered = runner.run(files.gather, [(tile, part, *words) for tile, part in enumerate(parts)])
-    for i in range(len(pieces)):
+    for i in range(len(chunks)):
         os.remove(files.name("cut-points", i))
         os.remove(files.name("cut-numbers", i))
     return gathered
@@ -212,8 +212,8 @@ def plan_from(
 
 
 def tile_count(points: int, tile_size: int, workers: int) -> int:
-    """How many tiles there are: where each worker has few, so many that all have as many, but no
-    smaller ones than are worth a task.
+    """How many tiles to cut. If each worker gets only a few, all workers get as many, but no tile is
+    smaller than is worth a task.
 
     >>> [tile_count(points, 100_000, 4) for points in (60_000, 200_000, 1_000_000, 3_000_000)]
     [1, 4, 12, 30]
@@ -279,8 +279,8 @@ def triangulate_tiles(
         About how many points a tile has; fewer where there would be no tile for some workers. A
         worker needs about 1000 bytes for each.
     client : distributed.Client or concurrent.futures.Executor, optional
-        What runs the tasks; without one, this process. A task that failed is run again, and a pool
-        of processes that broke is begun again.
+        What runs the tasks; without one, this process. A task that failed is run again. If a pool
+        of processes breaks, a new one is made.
     folder : str, optional
         A folder that each worker reaches. A folder for this run is made in it, in which the files
         with cells are left, and an index that names them. Without one, a folder of this machine is
@@ -292,8 +292,8 @@ def triangulate_tiles(
     scale : int, optional
         How many parts a unit has, as 100 for coordinates with two decimals: others are refused.
     columns : str, optional
-        The columns of x and y, by names, as "east,north", or places, as "0,1"; without it x and y,
-        or the first two of a table that has no such names.
+        The columns of x and y, by names ("east,north") or by indexes ("0,1"). Without it they are
+        those named x and y, or the first two of a table that has no such names.
     header : bool
         Whether the first row of a table has names, which `columns` by names says too.
     layer : str or int, optional

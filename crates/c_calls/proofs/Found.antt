@@ -17,7 +17,7 @@ use Rattle.delaunay_core.specs.{place_of, Point2}
 use Rattle.{delaunay_legalization.specs.State.State, half_edge_links.specs.MAX_ELEMENTS}
 use Rattle.delaunay_shapes.specs.{AreEdgesInShape, AreVerticesInShape, corners, HasStartAt}
 use Rattle.delaunay_shapes.proofs.Shapes.{circle_begins, rectangle_begins}
-use Rattle.delaunay_queries.specs.Found.{FindsEdges, FindsVertices}
+use Rattle.delaunay_extensions.specs.Found.{FindsEdges, FindsVertices}
 use Rattle.c_calls.specs.{found, indexes_in, OUT_OF_MEMORY, plain_point, refused}
 use Rattle.{c_calls.specs.Links.AreFew, half_edge_dcel.specs.Contents, half_edge_dcel.specs.each_in}
 use Rattle.c_calls.specs.{declared.raw.RawShape.RawShape, Metrics.IsCircleOf, Metrics.IsRectangleOf}

@@ -12,8 +12,8 @@ use Rattle.half_edge_links.specs.{MAX_ELEMENTS}
 use Rattle.delaunay_core.specs.{InsertionError, OutOfIndexes, OutOfMemory, TooLarge}
 use Rattle.delaunay_legalization.specs.{declared.cdt_edge.CdtEdge.CdtEdge, State.State}
 use Rattle.delaunay_edit.specs.{constraint_edges, none}
-use Rattle.delaunay_bulk.specs.{BulkInsertionError, InsertsAll, NoRoom, StopsAt, Vertex}
-use Rattle.{delaunay_bulk.proofs.Turns.one_of_all, plane.specs.InRange, plane.specs.Point}
+use Rattle.delaunay_extensions.specs.{BulkInsertionError, InsertsAll, NoRoom, StopsAt, Vertex}
+use Rattle.{delaunay_extensions.proofs.Turns.one_of_all, plane.specs.InRange, plane.specs.Point}
 use Rattle.c_calls.specs.{AnyTriangulation, Constrained, IsRawInRange, kept_place, NumberedPoint}
 use Rattle.c_calls.specs.{OUT_OF_MEMORY, Plain, RawPoint, unnumbered_points, WELL}
 use Rattle.c_calls.specs.{Answers.status_of_error, Kept.unnumbered_at}

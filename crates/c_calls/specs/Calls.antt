@@ -1,16 +1,16 @@
 -- What each call says of the triangulation that a handle has, where it has one.
 use Rattle.std.specs.Prelude.{◌≡◌, ℕ, ℤ, List, Option, None, Some, MatchOption}
-use Rattle.c_calls.specs.{Answers.OpensAt, Answers.OpensCopy, declared.raw.RawMeeting.RawMeeting}
+use Rattle.c_calls.specs.{Answers.OpensAt, Answers.OpensCopy, declared.raw.RawLocation.RawLocation}
 use Rattle.c_calls.specs.{Beyond.ListsBeyond, Reach.ListsLabels, Ways.FindsWay, Written.Answering}
 use Rattle.c_calls.specs.{Conflicts.FindsConflicts, declared.kept.AnyTriangulation.AnyTriangulation}
 use Rattle.c_calls.specs.Kept.{CountsKept, kept_drawing, kept_links, kept_state, kept_vertices}
 use Rattle.c_calls.specs.{declared.raw.RawCounts.RawCounts, Layers.kept_marked, Layers.ListsLayers}
-use Rattle.c_calls.specs.Queries.{FindsKeptNearest, FindsLine, IsKeptPlace, ListsNumbers}
+use Rattle.c_calls.specs.Queries.{FindsKeptNearest, FindsLine, IsKeptLocation, ListsNumbers}
 use Rattle.c_calls.specs.Queries.{ListsPositions, ListsRawEdges, ListsRawFaces}
 use Rattle.c_calls.specs.{declared.raw.RawEdge.RawEdge, Shapes.FindsEdgesIn, Shapes.FindsVerticesIn}
 use Rattle.c_calls.specs.Sight.{FindsSight}
 use Rattle.c_calls.specs.{declared.raw.RawBox.RawBox, declared.raw.RawFace.RawFace, Wide.ListsWide}
-use Rattle.c_calls.specs.{declared.raw.RawPlace.RawPlace, declared.raw.RawSegment.RawSegment}
+use Rattle.c_calls.specs.{declared.raw.RawMeeting.RawMeeting, declared.raw.RawSegment.RawSegment}
 use Rattle.c_calls.specs.{declared.raw.RawPoint.RawPoint, declared.raw.RawShape.RawShape}
 use Rattle.c_calls.specs.declared.statuses.TheConstants.{ALREADY_OPEN, CLOSED, WELL}
 
@@ -69,10 +69,11 @@ TellsBeyond kept within status was told old new = AsksOpen ((new ≡ old) × (to
     (λ k. ListsBeyond (kept_drawing k) within status told old new) status kept
 
 -- ---- answers to many queries
-abbrev pub TellsPlaces : Option AnyTriangulation → List RawPoint → ℕ → List RawPlace → List RawPlace
+abbrev pub TellsLocations : Option AnyTriangulation → List RawPoint → ℕ → List RawLocation →
+    List RawLocation
     → Type 0
-TellsPlaces kept queries status old new = AsksOpen (new ≡ old)
-    (λ k. Answering queries (IsKeptPlace k) status old new) status kept
+TellsLocations kept queries status old new = AsksOpen (new ≡ old)
+    (λ k. Answering queries (IsKeptLocation k) status old new) status kept
 
 abbrev pub TellsNearest : Option AnyTriangulation → List RawPoint → ℕ → List ℕ → List ℕ → Type 0
 TellsNearest kept queries status old new = AsksOpen (new ≡ old)

@@ -1,7 +1,7 @@
 -- What C is told of the layers of faces.
 use Rattle.std.specs.Prelude.{◌≡◌, ◌+◌, ℕ, List, length}
 use Rattle.delaunay_edit.specs.{constraint_edges, none}
-use Rattle.{delaunay_queries.specs.Layers.IsLayer, plane.specs.Triangulation}
+use Rattle.{delaunay_extensions.specs.Layers.IsLayer, plane.specs.Triangulation}
 use Rattle.c_calls.specs.{declared.kept.AnyTriangulation.AnyTriangulation, Written.Listing}
 use Rattle.c_calls.specs.declared.kept.AnyTriangulation.TheVariants.{Constrained, Plain}
 use Rattle.{c_calls.specs.declared.statuses.TheConstants.OUT_OF_MEMORY, half_edge_links.specs.Mesh}

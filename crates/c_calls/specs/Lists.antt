@@ -6,7 +6,7 @@ use Rattle.plane.specs.{Adds, CanAdd, InRange, Point}
 use Rattle.half_edge_links.specs.{MAX_ELEMENTS}
 use Rattle.delaunay_legalization.specs.{declared.cdt_edge.CdtEdge.CdtEdge, State.State}
 use Rattle.delaunay_edit.specs.{constrained, constraint_edges, none}
-use Rattle.delaunay_bulk.specs.{Bulk.StopsLater, BulkInsertionError, InsertsAll}
+use Rattle.delaunay_extensions.specs.{Bulk.StopsLater, BulkInsertionError, InsertsAll}
 use Rattle.c_calls.specs.Kept.{kept_place, unnumbered_at}
 use Rattle.c_calls.specs.declared.kept.AnyTriangulation.{AnyTriangulation}
 use Rattle.c_calls.specs.declared.kept.AnyTriangulation.TheVariants.{Constrained, Plain}

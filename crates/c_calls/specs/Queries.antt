@@ -13,8 +13,8 @@ use Rattle.c_calls.specs.declared.kept.AnyTriangulation.TheVariants.{Constrained
 use Rattle.c_calls.specs.declared.lines.TheConstants.{ACROSS_EDGE, ALONG_EDGE, AT_VERTEX}
 use Rattle.c_calls.specs.declared.queries.TheConstants.{IN_FACE, NOWHERE, ON_EDGE, ON_VERTEX}
 use Rattle.c_calls.specs.{declared.queries.TheConstants.OUTSIDE, declared.raw.RawMeeting.RawMeeting}
-use Rattle.c_calls.specs.{declared.raw.NumberedPoint.NumberedPoint, declared.raw.RawPlace.RawPlace}
-use Rattle.c_calls.specs.{declared.raw.RawEdge.RawEdge, declared.raw.RawPoint.RawPoint}
+use Rattle.c_calls.specs.{declared.raw.NumberedPoint.NumberedPoint, declared.raw.RawPoint.RawPoint}
+use Rattle.c_calls.specs.{declared.raw.RawEdge.RawEdge, declared.raw.RawLocation.RawLocation}
 use Rattle.c_calls.specs.declared.raw.RawFace.{RawFace}
 use Rattle.c_calls.specs.declared.statuses.TheConstants.{IS_CONSTRAINED, NONE, TOO_LARGE}
 
@@ -46,25 +46,26 @@ ListsNumbers vs status told old new =
 abbrev pub face_number : ℕ → ℕ
 face_number f = if f == 0 then NONE else (f - 1)
 
--- a place, for C
-abbrev pub raw_place : PositionInTriangulation → RawPlace
-raw_place (OnVertex v) = record { kind = ON_VERTEX; index = v }
-raw_place (OnEdge e) = record { kind = ON_EDGE; index = e / 2 }
-raw_place (OnFace f) = record { kind = IN_FACE; index = face_number f }
-raw_place (OutsideOfConvexHull e) = record { kind = OUTSIDE; index = e / 2 }
-raw_place NoTriangulation = record { kind = NOWHERE; index = NONE }
+-- a location, for C
+abbrev pub raw_location : PositionInTriangulation → RawLocation
+raw_location (OnVertex v) = record { kind = ON_VERTEX; index = v }
+raw_location (OnEdge e) = record { kind = ON_EDGE; index = e / 2 }
+raw_location (OnFace f) = record { kind = IN_FACE; index = face_number f }
+raw_location (OutsideOfConvexHull e) = record { kind = OUTSIDE; index = e / 2 }
+raw_location NoTriangulation = record { kind = NOWHERE; index = NONE }
 
 -- what C is told of where a point is: the library's answer
-pub record IsPlaceIn {V D U F : Type 0} (place : V → Point) (s : State V D U F) (query : RawPoint)
-    (told : RawPlace) : Type 0 where
+pub record IsLocationIn {V D U F : Type 0} (place : V → Point) (s : State V D U F)
+    (query : RawPoint)
+    (told : RawLocation) : Type 0 where
   pub answer : PositionInTriangulation
   pub finds : FindsLocation place s (plain_point query) answer
-  pub named : told ≡ raw_place answer
+  pub named : told ≡ raw_location answer
 
 -- the same of a triangulation that C keeps
-abbrev pub IsKeptPlace : AnyTriangulation → RawPoint → RawPlace → Type 0
-IsKeptPlace (Plain t) query told = IsPlaceIn kept_place t query told
-IsKeptPlace (Constrained t) query told = IsPlaceIn kept_place t query told
+abbrev pub IsKeptLocation : AnyTriangulation → RawPoint → RawLocation → Type 0
+IsKeptLocation (Plain t) query told = IsLocationIn kept_place t query told
+IsKeptLocation (Constrained t) query told = IsLocationIn kept_place t query told
 
 -- ---- which vertex is nearest
 -- a vertex that none is strictly nearer than, or that there is none

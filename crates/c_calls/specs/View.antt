@@ -1,11 +1,12 @@
 -- What a query may ask of a triangulation of either type.
 use Rattle.std.specs.Prelude.{ℕ, List}
-use Rattle.{half_edge_links.specs.Mesh, plane.specs.Triangulation}
+use Rattle.plane.specs.{Triangulation}
 use Rattle.delaunay_legalization.specs.{constraints_by, State.State, triangulation_of}
 use Rattle.c_calls.specs.Kept.{kept_drawing, kept_links, kept_place, kept_state, kept_vertices}
 use Rattle.c_calls.specs.{declared.kept.AnyTriangulation.AnyTriangulation, Layers.kept_marked}
-use Rattle.c_calls.specs.{declared.raw.RawPoint.RawPoint, Queries.IsKeptPlace, Queries.IsPlaceIn}
-use Rattle.c_calls.specs.{declared.raw.NumberedPoint.NumberedPoint, declared.raw.RawPlace.RawPlace}
+use Rattle.c_calls.specs.Queries.{IsKeptLocation, IsLocationIn}
+use Rattle.c_calls.specs.{declared.raw.NumberedPoint.NumberedPoint, declared.raw.RawPoint.RawPoint}
+use Rattle.{c_calls.specs.declared.raw.RawLocation.RawLocation, half_edge_links.specs.Mesh}
 
 -- the vertices, what is drawn of them and how the edges are linked; the undirected edges that are
 -- constraints, and the pairs of vertices that these join; and where a point is
@@ -15,7 +16,7 @@ pub record View : Type 1 where
   pub links : Mesh
   pub marked : List ℕ
   pub constraints : List (ℕ × ℕ)
-  pub IsPlace : RawPoint → RawPlace → Type 0
+  pub IsLocation : RawPoint → RawLocation → Type 0
 
 -- of a triangulation in a state
 abbrev pub view_of : {D U F : Type 0} → (List U → List ℕ) → State NumberedPoint D U F → View
@@ -25,7 +26,7 @@ view_of constraints s = record {
   links = s.mesh;
   marked = constraints s.undirected;
   constraints = constraints_by constraints s;
-  IsPlace = IsPlaceIn kept_place s;
+  IsLocation = IsLocationIn kept_place s;
 }
 
 -- of one that C keeps
@@ -36,5 +37,5 @@ kept_view k = record {
   links = kept_links k;
   marked = kept_marked k;
   constraints = (kept_state k).constraints;
-  IsPlace = IsKeptPlace k;
+  IsLocation = IsKeptLocation k;
 }

@@ -2,8 +2,8 @@
 use crate::Query;
 use crate::raw::NumberedPoint;
 use crate::statuses::{OUT_OF_MEMORY, TOO_SHORT, WELL};
+use delaunay_extensions::face_layers;
 use delaunay_interface::Triangulation;
-use delaunay_queries::face_layers;
 use std::alloc::Global;
 
 /// The layer of each face.

@@ -36,7 +36,7 @@ pub use lists::{ListEdges, ListFaces, ListNumbers, ListPositions, write_faces};
 pub use queries::{Locate, is_in_range};
 pub use query::Query;
 pub use raw::{
-    RawBox, RawCounts, RawEdge, RawFace, RawMeeting, RawPlace, RawPoint, RawSegment, RawShape,
+    RawBox, RawCounts, RawEdge, RawFace, RawLocation, RawMeeting, RawPoint, RawSegment, RawShape,
 };
 pub use reach::ListLabels;
 pub use shapes::{Edges, InShape, Part, Vertices};

@@ -14,8 +14,8 @@ use crate::raw::NumberedPoint;
 use crate::statuses::{
     IS_PLAIN, NO_SUCH_VERTEX, OUT_OF_MEMORY, TOO_LARGE, TOO_SHORT, UNEQUAL_LENGTHS, WELL, status_of,
 };
-use delaunay_bulk::InsertAll;
 use delaunay_core::point::Point2;
+use delaunay_extensions::InsertAll;
 use delaunay_interface::Triangulation;
 use exact_predicates::ExactTests;
 use half_edge_links::FixedVertexHandle;
@@ -41,8 +41,8 @@ fn write_indexes(vertices: &[FixedVertexHandle], indexes: &mut [u32])
     requires { length vertices.now ≤ length indexes.old }
     ensures { indexes.new ≡ vertices.now ++ drop (length vertices.now) indexes.old }
 {
-    for place in 0..vertices.len() {
-        indexes[place] = vertices[place].index();
+    for index in 0..vertices.len() {
+        indexes[index] = vertices[index].index();
     }
 }
 
@@ -98,8 +98,8 @@ fn insert_all<T: Triangulation<Vertex = NumberedPoint>>(
 fn are_vertices<T: Triangulation>(points: &T, indexes: &[u32]) -> bool
     ensures { IsTrue result ↔ All (λ i. i < length (T.state points.now).vertices) indexes.now }
 {
-    for place in 0..indexes.len() {
-        if !is_vertex(points, indexes[place]) {
+    for index in 0..indexes.len() {
+        if !is_vertex(points, indexes[index]) {
             return false;
         }
     }
@@ -137,8 +137,8 @@ fn set_numbers<T: Triangulation<Vertex = NumberedPoint>>(
     if !are_vertices(points, vertices) {
         return NO_SUCH_VERTEX;
     }
-    for place in 0..vertices.len() {
-        set_number(points, vertices[place], numbers[place]);
+    for index in 0..vertices.len() {
+        set_number(points, vertices[index], numbers[index]);
     }
     WELL
 }
@@ -151,12 +151,12 @@ fn constrain_path(points: &mut ConstrainedPoints, vertices: &[u32], made: &mut u
         points.old points.new }
 {
     *made = 0;
-    for place in 1..vertices.len() {
-        let status = constrain(points, vertices[place - 1], vertices[place]);
+    for index in 1..vertices.len() {
+        let status = constrain(points, vertices[index - 1], vertices[index]);
         if status != WELL {
             return status;
         }
-        *made = place;
+        *made = index;
     }
     WELL
 }

@@ -1,13 +1,14 @@
 //! Queries of many points in one call.
 ghost use Rattle.std.specs.Prelude.{◌≡◌, ◌↔◌, All, IsTrue};
-ghost use Rattle.c_calls.specs.{Kept.kept_place, Written.Answering, Written.IsRawInRange};
-ghost use Rattle.c_calls.specs.Queries.{FindsKeptNearest, IsNearestAnswer, IsPlaceIn, raw_place};
+ghost use Rattle.c_calls.specs.Kept.{kept_place};
+ghost use Rattle.c_calls.specs.Queries.{FindsKeptNearest, IsLocationIn, IsNearestAnswer};
+ghost use Rattle.c_calls.specs.{Queries.raw_location, Written.Answering, Written.IsRawInRange};
 
 use crate::kept::{AnyTriangulation, PlainPoints};
 use crate::lists::face_index;
 use crate::raw::NumberedPoint;
 use crate::statuses::{IS_CONSTRAINED, NONE, TOO_LARGE, TOO_SHORT, WELL};
-use crate::{Query, RawPlace, RawPoint};
+use crate::{Query, RawLocation, RawPoint};
 use delaunay_core::math::validate_vertex;
 use delaunay_core::point::Point2;
 use delaunay_interface::Triangulation;
@@ -54,28 +55,28 @@ pub fn are_in_range(points: &[RawPoint]) -> bool
     true
 }
 
-// A place, for C.
-fn raw_place(place: PositionInTriangulation) -> RawPlace
-    ensures { result ≡ raw_place place }
+// A location, for C.
+fn raw_location(location: PositionInTriangulation) -> RawLocation
+    ensures { result ≡ raw_location location }
 {
-    match place {
-        PositionInTriangulation::OnVertex(vertex) => RawPlace {
+    match location {
+        PositionInTriangulation::OnVertex(vertex) => RawLocation {
             kind: ON_VERTEX,
             index: vertex.index(),
         },
-        PositionInTriangulation::OnEdge(edge) => RawPlace {
+        PositionInTriangulation::OnEdge(edge) => RawLocation {
             kind: ON_EDGE,
             index: edge.as_undirected().index(),
         },
-        PositionInTriangulation::OnFace(face) => RawPlace {
+        PositionInTriangulation::OnFace(face) => RawLocation {
             kind: IN_FACE,
             index: face_index(face),
         },
-        PositionInTriangulation::OutsideOfConvexHull(edge) => RawPlace {
+        PositionInTriangulation::OutsideOfConvexHull(edge) => RawLocation {
             kind: OUTSIDE,
             index: edge.as_undirected().index(),
         },
-        PositionInTriangulation::NoTriangulation => RawPlace {
+        PositionInTriangulation::NoTriangulation => RawLocation {
             kind: NOWHERE,
             index: NONE,
         },
@@ -83,11 +84,14 @@ fn raw_place(place: PositionInTriangulation) -> RawPlace
 }
 
 // Where a point in range is, for C.
-fn place_at<T: Triangulation<Vertex = NumberedPoint>>(points: &T, query: &RawPoint) -> RawPlace
+fn location_at<T: Triangulation<Vertex = NumberedPoint>>(
+    points: &T,
+    query: &RawPoint,
+) -> RawLocation
     requires { IsRawInRange query.now }
-    ensures { IsPlaceIn kept_place (T.state points.now) query.now result }
+    ensures { IsLocationIn kept_place (T.state points.now) query.now result }
 {
-    raw_place(points.locate(point_of(query), &ExactTests))
+    raw_location(points.locate(point_of(query), &ExactTests))
 }
 
 /// Where each point of a list is.
@@ -99,28 +103,28 @@ pub struct Locate<'a> {
 impl<'a> Query for Locate<'a> {
     ghost use Rattle.c_calls.specs.Written.{Answering};
 
-    type Item = RawPlace;
+    type Item = RawLocation;
 
     type Told = ();
 
-    ghost tells = { λ q v status _ _ old new. Answering q.queries.now v.IsPlace status old new };
+    ghost tells = { λ q v status _ _ old new. Answering q.queries.now v.IsLocation status old new };
 
     fn ask<T: Triangulation<Vertex = NumberedPoint>>(
         &self,
         points: &T,
         _alloc: Global,
-        places: &mut [RawPlace],
+        locations: &mut [RawLocation],
         _told: &mut (),
     ) -> u32 {
         let queries = self.queries;
-        if places.len() < queries.len() {
+        if locations.len() < queries.len() {
             return TOO_SHORT;
         }
         if !are_in_range(queries) {
             return TOO_LARGE;
         }
         for index in 0..queries.len() {
-            places[index] = place_at(points, &queries[index]);
+            locations[index] = location_at(points, &queries[index]);
         }
         WELL
     }

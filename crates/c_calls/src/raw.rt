@@ -45,7 +45,7 @@ pub struct RawEdge {
 /// Where a point is.
 #[repr(C)]
 #[derive(Clone, Copy)]
-pub struct RawPlace {
+pub struct RawLocation {
     pub kind: u32,
     pub index: u32,
 }

@@ -12,8 +12,8 @@ use crate::raw::NumberedPoint;
 use crate::statuses::{NEGATIVE, NO_SUCH_KIND, OUT_OF_MEMORY, TOO_LARGE};
 use crate::told::{put, status_by_room};
 use crate::{Query, RawPoint, RawShape, is_in_range};
+use delaunay_extensions::FloatTriangulation;
 use delaunay_interface::Triangulation;
-use delaunay_queries::FloatTriangulation;
 use delaunay_shapes::{
     CircleMetric, DistanceMetric, EdgesInShapeIterator, RectangleMetric, VerticesInShapeIterator,
 };

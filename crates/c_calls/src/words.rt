@@ -35,8 +35,8 @@ fn write_bytes(bytes: &[u8], text: &mut [u8])
     requires { length bytes.now ≤ length text.old }
     ensures { text.new ≡ bytes.now ++ drop (length bytes.now) text.old }
 {
-    for place in 0..bytes.len() {
-        text[place] = bytes[place];
+    for index in 0..bytes.len() {
+        text[index] = bytes[index];
     }
 }
 

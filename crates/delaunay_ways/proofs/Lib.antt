@@ -10,3 +10,4 @@ pub mod Flooding
 pub mod Labelled
 pub mod LabelRounds
 pub mod Heights
+pub mod Shortening

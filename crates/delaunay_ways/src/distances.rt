@@ -1,14 +1,13 @@
 //! Lengths, by which a search chooses where it goes on. No answer rests on them.
 use delaunay_core::point::{Point2, SpadeNum};
 
-// The greatest number whose square is at most another number.
+// About the root of a number, by three steps of Newton's method from a power of two: at most three
+// parts in ten thousand more.
 fn root(number: u64) -> u64 {
-    let mut root: u64 = 0;
-    for place in 0..32u32 {
-        let next = root | 1 << (31 - place);
-        if next.saturating_mul(next) <= number {
-            root = next;
-        }
+    let bits = 64 - number.leading_zeros();
+    let mut root: u64 = 1 << (bits + 1) / 2;
+    for _ in 0..3 {
+        root = root.saturating_add(number / root.max(1)) / 2;
     }
     root
 }

@@ -6,11 +6,15 @@ mod corners;
 mod distances;
 mod labels;
 mod leads;
+mod near;
 mod parts;
 mod reading;
 mod search;
+mod short;
 mod sides;
+mod spokes;
 mod taut;
+mod turns;
 mod way;
 mod wide;
 

@@ -5,16 +5,17 @@ ghost use Rattle.{delaunay_core.specs.place_of, plane_theorems.specs.Ways.Chains
 ghost use Rattle.{delaunay_legalization.specs.triangulation_of, delaunay_shapes.specs.by_place};
 ghost use Rattle.delaunay_ways.specs.{Pulling.CanGoOn, Pulling.GoesOn, Ways.IsWay};
 
+use crate::near::is_seen;
 use delaunay_core::math::PlaneTests;
 use delaunay_core::point::{HasPosition, Point2};
 use delaunay_legalization::position_of;
 use delaunay_location::HasMesh;
-use delaunay_shapes::{FreeFaces, is_in_sight};
+use delaunay_shapes::FreeFaces;
 use half_edge_links::FixedVertexHandle;
 use std::alloc::{AllocError, Global};
 
 // Goes on to a position that is in sight of the last one: positions before it from which it is seen
-// become the last one.
+// become the last one. Searches begin at the vertex `near`.
 fn go_on<
     T: HasMesh<V, DE, UE, F>,
     V: HasPosition,
@@ -27,6 +28,7 @@ fn go_on<
     triangulation: &T,
     way: &mut Vec<Point2<V::Scalar>>,
     next: Point2<V::Scalar>,
+    near: FixedVertexHandle,
     free: &G,
     tests: &P,
 ) -> Result<(), AllocError>
@@ -46,7 +48,7 @@ fn go_on<
         (map (place_of V.Scalar.whole) way.new.items)) }
 {
     while way.len() > 1 {
-        if !is_in_sight(triangulation, way[way.len() - 2], next, free, tests) {
+        if !is_seen(triangulation, way[way.len() - 2], next, near, free, tests) {
             break;
         }
         way.pop();
@@ -90,9 +92,11 @@ pub(crate) fn pull_taut<
     let mut way = Vec::new(alloc);
     way.push(from)?;
     for vertex in path {
-        let next = position_of(dcel, FixedVertexHandle::from_index(*vertex));
-        go_on(triangulation, &mut way, next, free, tests)?;
+        let near = FixedVertexHandle::from_index(*vertex);
+        let next = position_of(dcel, near);
+        go_on(triangulation, &mut way, next, near, free, tests)?;
     }
-    go_on(triangulation, &mut way, to, free, tests)?;
+    let near = triangulation.search_start(to, tests);
+    go_on(triangulation, &mut way, to, near, free, tests)?;
     Ok(way)
 }

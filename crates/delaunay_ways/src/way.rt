@@ -8,6 +8,7 @@ ghost use Rattle.delaunay_ways.specs.Ways.{IsPathBetween, IsWay};
 
 use crate::corners::corners_at;
 use crate::search::find_path;
+use crate::short::shorten;
 use crate::taut::pull_taut;
 use delaunay_core::math::PlaneTests;
 use delaunay_core::point::{HasPosition, Point2};
@@ -68,8 +69,9 @@ fn path_between<
 /// and past a corner at which two free faces meet.
 ///
 /// The way is taut: no position between can be left out, since its two neighbours do not see each
-/// other. It is short, and not always the shortest. The tests cover both positions and have the
-/// vertices as sites. It gives `AllocError` where memory was refused.
+/// other. It is the shortest among those close to it, and not always the shortest of all: no
+/// contract tells its length. The tests cover both positions and have the vertices as sites. It
+/// gives `AllocError` where memory was refused.
 ///
 /// ```
 /// if let Some(way) = find_way(&hall, guard, door, &floor, &ExactTests, rt.alloc())? {
@@ -111,6 +113,7 @@ pub fn find_way<
     let Some(path) = path_between(triangulation, from, to, free, tests, alloc)? else {
         return Ok(None);
     };
+    let path = shorten(triangulation, from, to, path, free, tests, alloc)?;
     let way = pull_taut(triangulation, from, to, &path, free, tests, alloc)?;
     Ok(Some(way))
 }

@@ -13,8 +13,8 @@ use Rattle.{delaunay_core.specs.Point2, half_edge_dcel.specs.Contents}
 use Rattle.{delaunay_legalization.specs.State.State, delaunay_legalization.specs.state_of}
 use Rattle.delaunay_location.specs.{AreLeft, GivesNext, Intersection, IsReady, item_in}
 use Rattle.delaunay_location.specs.{LineIntersectionIterator, mesh_of, Walk.WalksBetween}
-use Rattle.drawing_faces.specs.{DrawnSegment, ends_of, position}
-use Rattle.drawing_faces.specs.Sides.{AddsBeside, AddsOnLeft, AreBeside, AreOnLeft}
+use Rattle.drawing_faces.specs.{AddsBeside, DrawnSegment, ends_of, position}
+use Rattle.drawing_faces.specs.Sides.{AddsOnLeft, AreBeside, AreOnLeft}
 
 -- ---- items
 module _ {V D U F : Type 0} (s : State V D U F) where

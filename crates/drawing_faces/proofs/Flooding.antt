@@ -14,7 +14,7 @@ use Rattle.std.proofs.lemmas.List.Sums.{sum_by-append}
 use Rattle.plane.proofs.{below_or_last}
 use Rattle.half_edge_links.specs.{AreSoundLinks, face, Mesh, rev}
 use Rattle.{half_edge_links.proofs.rev_within, plane_theorems.proofs.get_or_any}
-use Rattle.delaunay_queries.specs.{AreLayers, crossed, is_constrained, Leads, weight}
+use Rattle.delaunay_extensions.specs.{AreLayers, crossed, is_constrained, Leads, weight}
 use Rattle.drawing_faces.specs.{Flood.Enters, IsFlood, IsReached, Kept.IsOpenFace, MarkOpenFaces}
 
 -- whether a face was reached

@@ -15,3 +15,6 @@ pub mod Keeping
 pub mod Together
 -- Segments that were split.
 pub mod Leading
+-- Which polygons a face is in.
+pub mod Parities
+pub mod PolygonSearching

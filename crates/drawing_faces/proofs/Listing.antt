@@ -13,8 +13,8 @@ use Rattle.std.proofs.lemmas.List.Elements.{Contains-push, Contains-push_cases}
 use Rattle.std.proofs.lemmas.List.Elements.{Contains-append_left}
 use Rattle.std.proofs.lemmas.List.Sums.{sum_by-set}
 use Rattle.half_edge_links.specs.{AreSoundLinks, face_edge, Mesh, next, prev}
-use Rattle.delaunay_queries.specs.{IsSideOf, weight}
-use Rattle.{delaunay_queries.proofs.Searching.three_sides, plane_theorems.proofs.get_or_any}
+use Rattle.delaunay_extensions.specs.{IsSideOf, weight}
+use Rattle.{delaunay_extensions.proofs.Searching.three_sides, plane_theorems.proofs.get_or_any}
 use Rattle.drawing_faces.specs.{Flood.Enters, Flood.flood_left, Flood.ListsFree, IsReached}
 
 -- ---- lists of edges

@@ -1,4 +1,4 @@
--- The vertices that insertions of a list of points gave, by the places of their points.
+-- The vertices that insertions of a list of points gave, by the indexes of their points.
 -- Notions: IsAmong; step_from, came_from, one_vertex, has_point, handle_below, handles_below,
 -- named_by_firsts, placed_below, placed_names.
 use Rattle.std.proofs.Common.{◌≡◌, ◌⊎◌, ◌<◌, ◌≤◌, [], ◌∷◌, ◌∙◌}
@@ -14,7 +14,7 @@ use Rattle.plane.specs.{DifferInPosition, insert, Inserts, Plain, Point, points_
 use Rattle.{delaunay_core.specs.Point2, delaunay_journal.proofs.Inserted.appended_points}
 use Rattle.delaunay_legalization.specs.{IsKnown, point_at, points_and_constraints_by, State.State}
 use Rattle.{delaunay_edit.specs.IsWellFormed, plane.proofs.below_or_last, plane.proofs.less_or_more}
-use Rattle.delaunay_bulk.specs.{HaveHandles, InsertsAll, IsAt}
+use Rattle.delaunay_extensions.specs.{HaveHandles, InsertsAll, IsAt}
 use Rattle.drawing_faces.specs.{Names.AreFirsts, Names.NamesVertices, position}
 
 -- ---- where vertices come from
@@ -202,7 +202,7 @@ module _ (points : List (Point2 ℤ)) (handles : List ℕ) (vertices : List (Poi
   module _ (firsts : List ℕ) (are : AreFirsts (length vertices) handles firsts)
       (has : (v : ℕ) → v < length vertices
       → (i : ℕ) × (i < length points) × (slice_get handles i ≡ Some v)) where
-    -- the first place of a vertex
+    -- the first index of a vertex
     first_at : (v i : ℕ) → i < length points → slice_index handles i ≡ v
         → (slice_index firsts v ≤ i) × (slice_index handles (slice_index firsts v) ≡ v)
     first_at v i within is =

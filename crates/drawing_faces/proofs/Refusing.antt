@@ -14,8 +14,8 @@ use Rattle.half_edge_links.specs.{MAX_ELEMENTS}
 use Rattle.delaunay_core.specs.{InsertionError, Point2}
 use Rattle.{delaunay_legalization.specs.point_at, plane.specs.InRange, plane.specs.Point}
 use Rattle.{delaunay_legalization.specs.State.State, drawing_faces.proofs.Named.handle_below}
-use Rattle.delaunay_bulk.specs.{BulkInsertionError, HaveHandles, IsAt, NoRoom, RefusesWhere}
-use Rattle.delaunay_bulk.specs.{StopsAt, Vertex}
+use Rattle.delaunay_extensions.specs.{BulkInsertionError, HaveHandles, IsAt, NoRoom, RefusesWhere}
+use Rattle.delaunay_extensions.specs.{StopsAt, Vertex}
 use Rattle.drawing_faces.specs.{AreIn, DrawingError, DrawnSegment, HasEnds, MayTake, position}
 use Rattle.drawing_faces.specs.{Holes.RefusesHole, Holes.RefusesHoles, RefusesEnds, RefusesPoints}
 use Rattle.drawing_faces.specs.Refusals.{bulk_fault, EndsAtPoints}
@@ -97,7 +97,7 @@ module _ {R D U F : Type 0} (constraints : List U → List ℕ) (points : List (
       inside : All (λ p. InRange (position p)) points
       inside = All-from_get_or (λ p. InRange (position p)) points origin at_place
 
--- points that may be taken are few enough for places
+-- points that may be taken are few enough for indexes
 few_places : (points : List (Point2 ℤ)) (handles : List ℕ) (vertices : List (Point2 ℤ))
     → HaveHandles position points handles vertices → MayTake points 0
     → MAX_ELEMENTS < length handles → ⊥
@@ -152,13 +152,13 @@ one_lacks_ends vertices count segments i d within lacks all =
     lacks (All-get_or (HasEnds vertices count) segments i d within all)
 
 -- ---- holes
--- the point at this place is refused, and those before it were taken
+-- the point at this index is refused, and those before it were taken
 pub refused_at : {D U F : Type 0} (s : State (Point2 ℤ) D U F) (constraints : List ℕ)
     (holes : List (Point2 ℤ)) (i : ℕ) (d : Point2 ℤ) (before : List ℕ) (why : DrawingError)
     → i < length holes → AreIn s constraints (take i holes) before
     → RefusesHole s constraints i (get_or holes i d) why → RefusesHoles s constraints holes why
 refused_at s constraints holes i d before why within are refused = record {
-  place = i;
+  index = i;
   point = get_or holes i d;
   there = slice_get-get_or holes i d within;
   refused = refused;

@@ -1,5 +1,5 @@
--- Segments that are joined one after another: which are taken, and what they join.
--- Lemmas: joining_more, taken_in_turn, same_vertices, added_segments.
+-- Segments that are joined one after another: which are added, and what they join.
+-- Lemmas: joining_more, added_in_turn, same_vertices, added_segments.
 use Rattle.std.proofs.Common.{◌≡◌, ◌⊎◌, ◌↔◌, ◌+◌, ◌<◌, [], ◌∷◌, ◌++◌, ◌∙◌}
 use Rattle.std.proofs.Common.{ℕ, suc, List, length, map, take, get_or, refl, sym, ap, subst}
 use Rattle.std.proofs.Common.{inl, inr, arith}
@@ -11,8 +11,8 @@ use Rattle.delaunay_journal.specs.{AddConstraint, Added, Edit, Outcome, Refused}
 use Rattle.delaunay_journal.specs.{declared.edit.Refusal.TheVariants.Conflict, Journal.Replays}
 use Rattle.delaunay_journal.specs.Marking.{Marking}
 use Rattle.drawing_faces.specs.{DrawnSegment, ends_of}
-use Rattle.drawing_faces.specs.Drawing.{is_taken, IsDecided, joining_of}
-use Rattle.drawing_faces.specs.Segments.{AddsSegments, AreOnTaken, AreTaken, IsUncrossed}
+use Rattle.drawing_faces.specs.Drawing.{is_added, IsDecided, joining_of}
+use Rattle.drawing_faces.specs.Segments.{AddsSegments, AreAdded, AreOnAdded, IsUncrossed}
 
 -- ---- one of two or of three
 first_by : {A B C : Type 0} → (A → B) → A ⊎ C → B ⊎ C
@@ -91,53 +91,53 @@ module _ {V D U F : Type 0} (position : V → Point) (constraints : List U → L
           λ x. (adds.constraints a b).1 (first_by (pairs a b).1 x),
         ))
 
-  -- the segments that were taken, and the pairs that they joined
+  -- the segments that were added, and the pairs that they joined
   abbrev Takes : (ℕ → ℕ → Type 0) → List DrawnSegment → List (Outcome V) → State V D U F
       → Type 0
   Takes IsPair ss os new =
-      AreTaken position points IsPair (map (ends_of vertices) ss) (map is_taken os)
+      AreAdded position points IsPair (map (ends_of vertices) ss) (map is_added os)
       × ArePairs new (λ a b. IsPair a b
-      ⊎ AreOnTaken position points (map (ends_of vertices) ss) (map is_taken os) a b)
+      ⊎ AreOnAdded position points (map (ends_of vertices) ss) (map is_added os) a b)
 
-  -- one segment more, that was taken
-  one_taken : (IsPair : ℕ → ℕ → Type 0) (s : DrawnSegment) (ss : List DrawnSegment) (made : Bool)
+  -- one segment more, that was added
+  one_added : (IsPair : ℕ → ℕ → Type 0) (s : DrawnSegment) (ss : List DrawnSegment) (made : Bool)
       (os : List (Outcome V)) (new : State V D U F)
       → IsUncrossed position points IsPair (ends_of vertices s)
       → Takes (λ a b. IsPair a b
       ⊎ AreNeighboursOn position points (ends_of vertices s).0 (ends_of vertices s).1 a b) ss os new
       → Takes IsPair (s ∷ ss) (Added made ∷ os) new
-  one_taken IsPair s ss made os new free (each, pairs) = (
+  one_added IsPair s ss made os new free (each, pairs) = (
     (free, each),
     λ a b. (λ p. last_two ((pairs a b).0 p), λ x. (pairs a b).1 (first_two x)),
   )
 
-  pub taken_in_turn : (ss : List DrawnSegment) (os : List (Outcome V)) (old new : State V D U F)
+  pub added_in_turn : (ss : List DrawnSegment) (os : List (Outcome V)) (old new : State V D U F)
       (IsPair : ℕ → ℕ → Type 0)
       → Replays position constraints marking (map (joining_of vertices) ss) os old new
       → All IsDecided os → points ≡ map position old.vertices → ArePairs old IsPair
       → Takes IsPair ss os new
-  taken_in_turn [] [] old new IsPair r decided at pairs =
+  added_in_turn [] [] old new IsPair r decided at pairs =
       (tt, nothing_joined old new IsPair r pairs)
-  taken_in_turn [] (o ∷ os) old new IsPair r decided at pairs = absurd r
-  taken_in_turn (s ∷ ss) [] old new IsPair r decided at pairs = absurd r
-  taken_in_turn (s ∷ ss) (Added made ∷ os) old new IsPair (middle, given, rest) decided at pairs =
+  added_in_turn [] (o ∷ os) old new IsPair r decided at pairs = absurd r
+  added_in_turn (s ∷ ss) [] old new IsPair r decided at pairs = absurd r
+  added_in_turn (s ∷ ss) (Added made ∷ os) old new IsPair (middle, given, rest) decided at pairs =
       let e = ends_of vertices s in
-      one_taken IsPair s ss made os new
+      one_added IsPair s ss made os new
       (uncrossed old middle IsPair e.0 e.1 at pairs given.plain.free)
-      (taken_in_turn ss os middle new
+      (added_in_turn ss os middle new
       (λ a b. IsPair a b ⊎ AreNeighboursOn position points e.0 e.1 a b) rest
       (λ k d h. decided (suc k) d (omega (arith, h)))
       (at ∙ ap (map position) (sym given.plain.vertices))
       (joined_more old middle IsPair e.0 e.1 at pairs given.plain))
-  taken_in_turn (s ∷ ss) (Refused Conflict ∷ os) old new IsPair (middle, given, rest) decided at
+  added_in_turn (s ∷ ss) (Refused Conflict ∷ os) old new IsPair (middle, given, rest) decided at
       pairs =
       let e = ends_of vertices s in
-      let then = taken_in_turn ss os middle new IsPair rest
+      let then = added_in_turn ss os middle new IsPair rest
       (λ k d h. decided (suc k) d (omega (arith, h)))
       (at ∙ ap (λ (s : State V D U F). map position s.vertices) (sym given.1))
       (subst (λ (s : State V D U F). ArePairs s IsPair) (sym given.1) pairs) in
       ((crossed old middle IsPair e.0 e.1 at pairs given.0.1, then.0), then.1)
-  taken_in_turn (s ∷ ss) (o ∷ os) old new IsPair r decided at pairs =
+  added_in_turn (s ∷ ss) (o ∷ os) old new IsPair r decided at pairs =
       absurd (decided 0 o (omega arith))
 
   -- no vertex goes or comes
@@ -155,11 +155,11 @@ module _ {V D U F : Type 0} (position : V → Point) (constraints : List U → L
 
 module _ {V D U F : Type 0} (position : V → Point) (constraints : List U → List ℕ)
     (marking : Marking U) (old new : State V D U F) where
-  -- segments that were added, where each outcome tells whether one was taken
+  -- segments that were added, where each outcome tells whether one was added
   pub added_segments : {A E : Type 0} (result : Result A E) (items : A → List Bool)
       (vertices : List ℕ) (ss : List DrawnSegment) (es : List (Edit V)) (os : List (Outcome V))
       → es ≡ map (joining_of vertices) ss → Replays position constraints marking es os old new
-      → IfOk result (λ a. items a ≡ map is_taken os) → OnOk result (All IsDecided os)
+      → IfOk result (λ a. items a ≡ map is_added os) → OnOk result (All IsDecided os)
       → IfOk result (λ a. AddsSegments position constraints (map (ends_of vertices) ss) (items a)
       old new)
   added_segments (Err e) items vertices ss es os is replays told decided = tt
@@ -167,17 +167,17 @@ module _ {V D U F : Type 0} (position : V → Point) (constraints : List U → L
       let given : Replays position constraints marking (map (joining_of vertices) ss) os old new =
       subst (λ (xs : List (Edit V)). Replays position constraints marking xs os old new) is replays
       in
-      let takes = taken_in_turn position constraints marking vertices (map position old.vertices)
+      let takes = added_in_turn position constraints marking vertices (map position old.vertices)
       ss os old new (Joins (constraints_by constraints old)) given decided refl
       (λ a b. (λ j. j, λ j. j)) in
       let points = map position old.vertices in
       let segments = map (ends_of vertices) ss in
       record {
-        each = subst (AreTaken position points (Joins (constraints_by constraints old)) segments)
+        each = subst (AreAdded position points (Joins (constraints_by constraints old)) segments)
             (sym told) takes.0;
-        joined = subst (λ (taken : List Bool). (a b : ℕ)
+        joined = subst (λ (added : List Bool). (a b : ℕ)
             → Joins (constraints_by constraints new) a b
             ↔ (Joins (constraints_by constraints old) a b
-            ⊎ AreOnTaken position points segments taken a b)) (sym told) takes.1;
+            ⊎ AreOnAdded position points segments added a b)) (sym told) takes.1;
         vertices = same_vertices position constraints marking vertices points ss os old new given;
       }

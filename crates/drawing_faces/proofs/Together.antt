@@ -3,22 +3,22 @@
 use Rattle.std.proofs.Common.{◌≡◌, ◌⊎◌, ◌↔◌, [], ◌∙◌}
 use Rattle.std.proofs.Common.{ℕ, List, length, map, sym, ap, subst, inl, inr, refl, arith}
 use Rattle.std.specs.Prelude.{ℤ, Bool, All}
+use Rattle.{delaunay_core.specs.Point2, delaunay_extensions.specs.HaveHandles}
 use Rattle.delaunay_legalization.specs.{constraints_by, declared.cdt_edge.CdtEdge.CdtEdge}
 use Rattle.{delaunay_legalization.specs.State.State, drawing_faces.specs.Names.NamesVertices}
 use Rattle.delaunay_edit.specs.{constraint_edges, constraints_of, IsDelaunay}
-use Rattle.{delaunay_bulk.specs.HaveHandles, delaunay_core.specs.Point2}
 use Rattle.drawing_faces.specs.{AreIn, DrawingError, DrawnSegment, ends_of, HasEnds, MayTake}
 use Rattle.drawing_faces.specs.{memory_refused, OutOfMemory, position, RefusesDrawing, RefusesEnds}
 use Rattle.drawing_faces.specs.Drawing.{HasDrawing, IsDrawingOf, segment_of_none, side_of_none}
-use Rattle.drawing_faces.specs.Segments.{AddsSegments, AreOnTaken, AreTaken}
+use Rattle.drawing_faces.specs.Segments.{AddsSegments, AreAdded, AreOnAdded}
 use Rattle.{drawing_faces.specs.declared.error.DrawingError.TheVariants.NoPoint, plane.specs.Joins}
 use Rattle.drawing_faces.proofs.Refusing.{all_end_at_points, not_all_have_ends}
 
 module _ {D U F : Type 0} (constraints : List U → List ℕ) (points : List (Point2 ℤ))
-    (handles names : List ℕ) (segments : List (ℕ × ℕ)) (taken : List Bool)
+    (handles names : List ℕ) (segments : List (ℕ × ℕ)) (added : List Bool)
     (plain : List (Point2 ℤ)) (old new : State (Point2 ℤ) D U F)
     (same : old.vertices ≡ plain) (none : constraints_by constraints old ≡ [])
-    (adds : AddsSegments position constraints segments taken old new) where
+    (adds : AddsSegments position constraints segments added old new) where
   vertices_are : plain ≡ new.vertices
   vertices_are = sym (adds.vertices ∙ same)
 
@@ -33,12 +33,12 @@ module _ {D U F : Type 0} (constraints : List U → List ℕ) (points : List (Po
       → HaveHandles position points handles new.vertices
   handled = subst (HaveHandles position points handles) vertices_are
 
-  -- segments are taken where no constraint was there before
-  pub taken_first : AreTaken position (map position new.vertices) (Joins []) segments taken
-  taken_first = subst (λ (vs : List (Point2 ℤ)).
-      AreTaken position (map position vs) (Joins []) segments taken) (sym adds.vertices)
+  -- segments are added where no constraint was there before
+  pub added_first : AreAdded position (map position new.vertices) (Joins []) segments added
+  added_first = subst (λ (vs : List (Point2 ℤ)).
+      AreAdded position (map position vs) (Joins []) segments added) (sym adds.vertices)
       (subst (λ (ps : List (ℕ × ℕ)).
-      AreTaken position (map position old.vertices) (Joins ps) segments taken) none adds.each)
+      AreAdded position (map position old.vertices) (Joins ps) segments added) none adds.each)
 
   none_joined : (a b : ℕ) → Joins [] a b → ⊥
   none_joined a b (inl c) = let w = c.1 in omega (arith, w)
@@ -50,25 +50,26 @@ module _ {D U F : Type 0} (constraints : List U → List ℕ) (points : List (Po
 
   -- and nothing else is joined then
   pub joined_first : (a b : ℕ) → Joins (constraints_by constraints new) a b
-      ↔ AreOnTaken position (map position new.vertices) segments taken a b
+      ↔ AreOnAdded position (map position new.vertices) segments added a b
   joined_first a b = subst (λ (vs : List (Point2 ℤ)). Joins (constraints_by constraints new) a b
-      ↔ AreOnTaken position (map position vs) segments taken a b) (sym adds.vertices) (
+      ↔ AreOnAdded position (map position vs) segments added a b) (sym adds.vertices) (
         λ j. only_taken a b (subst (λ (ps : List (ℕ × ℕ)). Joins ps a b
-            ⊎ AreOnTaken position (map position old.vertices) segments taken a b) none
+            ⊎ AreOnAdded position (map position old.vertices) segments added a b) none
             ((adds.joined a b).0 j)),
         λ on. (adds.joined a b).1 (inr on),
       )
 
 module _ {D U F : Type 0} (points : List (Point2 ℤ)) (handles names : List ℕ)
-    (segments : List DrawnSegment) (taken : List Bool) (plain : List (Point2 ℤ))
+    (segments : List DrawnSegment) (added : List Bool) (plain : List (Point2 ℤ))
     (old new : State (Point2 ℤ) D (CdtEdge U) F) (may : MayTake points 0)
     (have : HaveHandles position points handles plain)
     (name : NamesVertices points (map position plain) names) (same : old.vertices ≡ plain) where
   -- the triangulation of points and segments, from what its steps say
   pub drawing_of : constraints_of old ≡ []
-      → AddsSegments position constraint_edges (map (ends_of handles) segments) taken old new
+      → AddsSegments position constraint_edges (map (ends_of handles) segments) added old new
       → All (HasEnds handles (length old.vertices)) segments
-      → IsDelaunay position constraint_edges new → IsDrawingOf points segments handles names taken new
+      → IsDelaunay position constraint_edges new → IsDrawingOf points segments handles names
+      added new
   drawing_of none adds ends headline =
       let pairs = map (ends_of handles) segments in
       record {
@@ -77,13 +78,13 @@ module _ {D U F : Type 0} (points : List (Point2 ℤ)) (handles names : List ℕ
             (subst (λ (vs : List (Point2 ℤ)). All (HasEnds handles (length vs)) segments) same
             ends);
         delaunay = headline;
-        vertices = named constraint_edges points handles names pairs taken plain old new same none
+        vertices = named constraint_edges points handles names pairs added plain old new same none
             adds name;
-        handles_are = handled constraint_edges points handles names pairs taken plain old new same
+        handles_are = handled constraint_edges points handles names pairs added plain old new same
             none adds have;
-        taken_are = taken_first constraint_edges points handles names pairs taken plain old new
+        added_are = added_first constraint_edges points handles names pairs added plain old new
             same none adds;
-        joined = joined_first constraint_edges points handles names pairs taken plain old new same
+        joined = joined_first constraint_edges points handles names pairs added plain old new same
             none adds;
       }
 

@@ -1,19 +1,19 @@
 -- The triangulation of a drawing.
 use Rattle.std.specs.Prelude.{◌≡◌, ◌↔◌, [], ◌∷◌, ◌++◌, ℕ, ℤ, Bool, true, false, List, length, map}
 use Rattle.std.specs.Prelude.{All, slice_index, if◌then◌else◌, nat_eq}
+use Rattle.plane.specs.{Face, face, Joins}
 use Rattle.half_edge_links.specs.{face_edge, Mesh, Triangle, triangle_at}
 use Rattle.{delaunay_core.specs.Point2, drawing_faces.specs.declared.faces.FaceCorners.FaceCorners}
 use Rattle.delaunay_legalization.specs.{declared.cdt_edge.CdtEdge.CdtEdge, triangulation_of}
-use Rattle.delaunay_legalization.specs.State.{State}
 use Rattle.delaunay_edit.specs.{constraint_edges, constraints_of, IsDelaunay}
 use Rattle.delaunay_journal.specs.{AddConstraint, Added, Edit, Outcome, Refused}
 use Rattle.delaunay_journal.specs.declared.edit.Refusal.TheVariants.{Conflict}
-use Rattle.{delaunay_bulk.specs.HaveHandles, plane.specs.Face, plane.specs.face, plane.specs.Joins}
+use Rattle.{delaunay_extensions.specs.HaveHandles, delaunay_legalization.specs.State.State}
 use Rattle.drawing_faces.specs.{declared.drawn.DrawnMesh.DrawnMesh, Holes.AreIn, Holes.RefusesHoles}
 use Rattle.drawing_faces.specs.Kept.{AreKept, IsLeftOut}
 use Rattle.drawing_faces.specs.Names.{NamesVertices, places_of, position}
 use Rattle.drawing_faces.specs.Refusals.{EndsAtPoints, MayTake, RefusesPoints}
-use Rattle.drawing_faces.specs.Segments.{AreOnTaken, AreTaken}
+use Rattle.drawing_faces.specs.Segments.{AreAdded, AreOnAdded}
 use Rattle.drawing_faces.specs.{declared.error.DrawingError.DrawingError, Sides.AreBeside}
 use Rattle.drawing_faces.specs.{declared.edits.DrawnSegment.DrawnSegment, declared.faces.Kept.Kept}
 use Rattle.drawing_faces.specs.declared.error.DrawingError.TheVariants.{NoPoint, OutOfMemory}
@@ -45,10 +45,10 @@ ends_of vertices s = (slice_index vertices s.from, slice_index vertices s.to)
 abbrev pub joining_of : {V : Type 0} → List ℕ → DrawnSegment → Edit V
 joining_of vertices s = AddConstraint (ends_of vertices s).0 (ends_of vertices s).1
 
--- whether a segment was taken, by what its edit gave
-abbrev pub is_taken : {V : Type 0} → Outcome V → Bool
-is_taken (Added made) = true
-is_taken o = false
+-- whether a segment was added, by what its edit gave
+abbrev pub is_added : {V : Type 0} → Outcome V → Bool
+is_added (Added made) = true
+is_added o = false
 
 -- the edit was made, or a constraint was in the way
 abbrev pub IsDecided : {V : Type 0} → Outcome V → Type 0
@@ -57,36 +57,38 @@ IsDecided (Refused Conflict) = Unit {0}
 IsDecided o = ⊥
 
 -- this is the constrained Delaunay triangulation of these points, whose vertices have these handles
--- and names, with the constraints that the segments make which were taken
+-- and names, with the constraints that the segments make which were added
 pub record IsDrawingOf {D U F : Type 0} (points : List (Point2 ℤ)) (segments : List DrawnSegment)
-    (handles names : List ℕ) (taken : List Bool) (s : State (Point2 ℤ) D (CdtEdge U) F) : Type 0
+    (handles names : List ℕ) (added : List Bool) (s : State (Point2 ℤ) D (CdtEdge U) F) : Type 0
   where
     pub may_take : MayTake points 0
     pub ends : All (EndsAtPoints (length points)) segments
     pub delaunay : IsDelaunay position constraint_edges s
     pub vertices : NamesVertices points (map position s.vertices) names
     pub handles_are : HaveHandles position points handles s.vertices
-    pub taken_are : AreTaken position (map position s.vertices) (Joins [])
-        (map (ends_of handles) segments) taken
+    pub added_are : AreAdded position (map position s.vertices) (Joins [])
+        (map (ends_of handles) segments) added
     pub joined : (a b : ℕ) → Joins (constraints_of s) a b
-        ↔ AreOnTaken position (map position s.vertices) (map (ends_of handles) segments) taken a b
+        ↔ AreOnAdded position (map position s.vertices) (map (ends_of handles) segments) added a b
 
--- such a triangulation; its faces that are kept, each once, by the places of their corners. Faces
+-- such a triangulation; its faces that are kept, each once, by the indexes of their corners. Faces
 -- in holes are those that a point of a hole is in, and those on the left of a hole's side
 pub record IsDrawn (points : List (Point2 ℤ)) (segments : List DrawnSegment)
     (holes : List (Point2 ℤ)) (sides : List DrawnSegment) (kept : Kept) (m : DrawnMesh) :
     Type 0 where
   pub handles : List ℕ
-  pub drawing : IsDrawingOf points segments handles m.vertices.items m.taken.items m.site
+  pub drawing : IsDrawingOf points segments handles m.vertices.items m.added.items m.triangulation
   pub in_holes : List ℕ
-  pub in_holes_are : AreIn m.site (constraint_edges m.site.undirected) holes in_holes
+  pub in_holes_are : AreIn m.triangulation (constraint_edges m.triangulation.undirected) holes
+      in_holes
   pub side_ends : All (EndsAtPoints (length points)) sides
   pub beside : List ℕ
-  pub beside_are : AreBeside m.site (map (ends_of handles) sides) beside
+  pub beside_are : AreBeside m.triangulation (map (ends_of handles) sides) beside
   pub faces : List Face
   pub faces_are : AreKept
-      (IsLeftOut kept m.site.mesh (constraint_edges m.site.undirected) (in_holes ++ beside)) 1
-      (triangulation_of position m.site).faces faces
+      (IsLeftOut kept m.triangulation.mesh (constraint_edges m.triangulation.undirected)
+      (in_holes ++ beside)) 1
+      (triangulation_of position m.triangulation).faces faces
   pub places : m.faces.items ≡ map (places_of m.vertices.items) faces
 
 -- some triangulation of these points and segments. Where its vertices and constraints lie depends
@@ -94,9 +96,9 @@ pub record IsDrawn (points : List (Point2 ℤ)) (segments : List DrawnSegment)
 pub record HasDrawing (points : List (Point2 ℤ)) (segments : List DrawnSegment) : Type 0 where
   pub handles : List ℕ
   pub names : List ℕ
-  pub taken : List Bool
+  pub added : List Bool
   pub state : State (Point2 ℤ) (Unit {0}) (CdtEdge (Unit {0})) (Unit {0})
-  pub drawing : IsDrawingOf points segments handles names taken state
+  pub drawing : IsDrawingOf points segments handles names added state
 
 -- a drawing is refused for this. Points, segments, points in holes and sides of holes are looked at
 -- in this order, and each case says that all before it is as it should be, as `IsDrawn` says of the

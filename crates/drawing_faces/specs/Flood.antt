@@ -3,7 +3,7 @@ use Rattle.std.specs.Prelude.{◌≡◌, ◌⊎◌, ◌+◌, ◌*◌, ◌<◌, �
 use Rattle.std.specs.Prelude.{Contains, slice_index_or, slice_set}
 use Rattle.std.specs.List.{count_by}
 use Rattle.half_edge_links.specs.{face, Mesh, rev}
-use Rattle.delaunay_queries.specs.{IsSideOf, weight}
+use Rattle.delaunay_extensions.specs.{IsSideOf, weight}
 use Rattle.drawing_faces.specs.Kept.{IsOpenFace}
 
 -- face f was reached: a 0 stands at its place

@@ -61,19 +61,19 @@ module _ {D U F : Type 0} (s : State (Point2 ℤ) D U F) (constraints : List ℕ
     pub faces : new ≡ old ++ here
     pub within : All (λ f. f ≤ length s.faces) here
 
-  -- a point in a hole, at this place of its list, is refused for this
+  -- a point in a hole, at this index of its list, is refused for this
   abbrev pub RefusesHole : ℕ → Point2 ℤ → DrawingError → Type 0
-  RefusesHole i p (HoleTooLarge place) = (place ≡ i) × ¬ InRange (position p)
-  RefusesHole i p (HoleOnSegment place) = (place ≡ i) × IsWhere p (IsOnConstraint constraints)
-  RefusesHole i p (HoleInNoFace place) = (place ≡ i) × IsWhere p IsInNoFace
+  RefusesHole i p (HoleTooLarge index) = (index ≡ i) × ¬ InRange (position p)
+  RefusesHole i p (HoleOnSegment index) = (index ≡ i) × IsWhere p (IsOnConstraint constraints)
+  RefusesHole i p (HoleInNoFace index) = (index ≡ i) × IsWhere p IsInNoFace
   RefusesHole i p OutOfMemory = Unit {0}
   RefusesHole i p error = ⊥
 
   -- of a list of such points one is refused for this, and those before it are taken
   pub record RefusesHoles (holes : List (Point2 ℤ)) (error : DrawingError) : Type 0 where
-    pub place : ℕ
+    pub index : ℕ
     pub point : Point2 ℤ
-    pub there : slice_get holes place ≡ Some point
-    pub refused : RefusesHole place point error
+    pub there : slice_get holes index ≡ Some point
+    pub refused : RefusesHole index point error
     pub before : List ℕ
-    pub before_are : AreIn (take place holes) before
+    pub before_are : AreIn (take index holes) before

@@ -1,6 +1,6 @@
 -- Which faces are kept.
 use Rattle.std.specs.Prelude.{◌≡◌, ◌⊎◌, [], ◌∷◌, ℕ, suc, List, Contains}
-use Rattle.{delaunay_queries.specs.crossed, delaunay_queries.specs.Leads, plane.specs.Face}
+use Rattle.{delaunay_extensions.specs.crossed, delaunay_extensions.specs.Leads, plane.specs.Face}
 use Rattle.{drawing_faces.specs.declared.faces.Kept.Kept, half_edge_links.specs.Mesh}
 use Rattle.drawing_faces.specs.declared.faces.Kept.TheVariants.{All, Inside}
 

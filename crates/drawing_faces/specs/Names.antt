@@ -1,4 +1,4 @@
--- Vertices and faces by the places of their points in a list.
+-- Vertices and faces by the indexes of their points in a list.
 use Rattle.std.specs.Prelude.{◌≡◌, ◌<◌, ◌≤◌, [], ◌∷◌, ℕ, ℤ, List, length, map, slice_index}
 use Rattle.delaunay_core.specs.{place_of, Point2}
 use Rattle.{delaunay_legalization.specs.point_at, plane.specs.Face, plane.specs.Point}
@@ -7,14 +7,14 @@ use Rattle.{delaunay_legalization.specs.point_at, plane.specs.Face, plane.specs.
 abbrev pub position : Point2 ℤ → Point
 position p = place_of (λ z. z) p
 
--- of each vertex the first place where it stands in a list of vertices
+-- of each vertex the first index where it stands in a list of vertices
 pub record AreFirsts (count : ℕ) (vertices firsts : List ℕ) : Type 0 where
   pub size : length firsts ≡ count
   pub each : (i : ℕ) → i < length vertices
       → let first = slice_index firsts (slice_index vertices i) in
       (first ≤ i) × (slice_index vertices first ≡ slice_index vertices i)
 
--- each vertex is a point of a list, and this is its place: the first of a point there
+-- each vertex is a point of a list, and this is its index: the first of a point there
 pub record NamesVertices (points : List (Point2 ℤ)) (vertices : List Point) (names : List ℕ) :
     Type 0 where
   pub size : length names ≡ length vertices
@@ -24,7 +24,7 @@ pub record NamesVertices (points : List (Point2 ℤ)) (vertices : List Point) (n
   pub first : (i : ℕ) → i < length points → (v : ℕ) × (v < length vertices)
       × (point_at (map position points) i ≡ point_at vertices v) × (slice_index names v ≤ i)
 
--- the places of a face's corners, against the clock
+-- the indexes of a face's corners, against the clock
 abbrev pub places_of : List ℕ → Face → List ℕ
 places_of names f =
     slice_index names f.a ∷ slice_index names f.b ∷ slice_index names f.c ∷ []

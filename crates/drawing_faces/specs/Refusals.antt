@@ -2,13 +2,13 @@
 use Rattle.std.specs.Prelude.{◌+◌, ◌*◌, ◌<◌, ℕ, ℤ, List, length, All, slice_index}
 use Rattle.half_edge_links.specs.{MAX_ELEMENTS}
 use Rattle.{delaunay_core.specs.InsertionError, delaunay_core.specs.Point2, plane.specs.InRange}
-use Rattle.delaunay_bulk.specs.{BulkInsertionError, IsFirstOutside}
+use Rattle.delaunay_extensions.specs.{BulkInsertionError, IsFirstOutside}
 use Rattle.drawing_faces.specs.{declared.edits.DrawnSegment.DrawnSegment, Names.position}
 use Rattle.drawing_faces.specs.declared.error.DrawingError.{DrawingError}
 use Rattle.drawing_faces.specs.declared.error.DrawingError.TheVariants.{NoPoint, OutOfMemory}
 use Rattle.drawing_faces.specs.declared.error.DrawingError.TheVariants.{TooLarge, TooMany}
 use Rattle.delaunay_core.specs.declared.math.InsertionError.TheVariants as insertion
-use Rattle.delaunay_bulk.specs.declared.error.BulkInsertionError.TheVariants as bulk
+use Rattle.delaunay_extensions.specs.declared.error.BulkInsertionError.TheVariants as bulk
 
 -- ---- points
 -- the error of an insertion, as one of a drawing
@@ -22,7 +22,7 @@ abbrev pub bulk_fault : BulkInsertionError → DrawingError
 bulk_fault (bulk.Vertex i why) = insertion_fault why
 bulk_fault (bulk.NoRoom why) = insertion_fault why
 
--- points that come to a mesh with so many vertices may be taken: all are in range, and they are few
+-- points that come to a mesh with so many vertices may be added: all are in range, and they are few
 -- enough for indexes
 pub record MayTake (points : List (Point2 ℤ)) (count : ℕ) : Type 0 where
   pub in_range : All (λ p. InRange (position p)) points

@@ -9,30 +9,30 @@ module _ {V : Type 0} (position : V → Point) (points : List Point) where
   IsUncrossed IsPair e = (a b : ℕ) → IsPair a b
       → ¬ Cross (place points e.0) (place points e.1) (place points a) (place points b)
 
-  -- each segment in turn is taken exactly if no pair crosses it of those that there are: some to
-  -- begin with, and the neighbours on each segment that was taken before it
-  abbrev pub AreTaken : (ℕ → ℕ → Type 0) → List (ℕ × ℕ) → List Bool → Type 0
-  AreTaken IsPair [] [] = Unit {0}
-  AreTaken IsPair [] (t ∷ ts) = ⊥
-  AreTaken IsPair (e ∷ es) [] = ⊥
-  AreTaken IsPair (e ∷ es) (true ∷ ts) = IsUncrossed IsPair e
-      × AreTaken (λ a b. IsPair a b ⊎ AreNeighboursOn position points e.0 e.1 a b) es ts
-  AreTaken IsPair (e ∷ es) (false ∷ ts) = (¬ IsUncrossed IsPair e) × AreTaken IsPair es ts
+  -- each segment in turn is added exactly if no pair crosses it of those that there are: some to
+  -- begin with, and the neighbours on each segment that was added before it
+  abbrev pub AreAdded : (ℕ → ℕ → Type 0) → List (ℕ × ℕ) → List Bool → Type 0
+  AreAdded IsPair [] [] = Unit {0}
+  AreAdded IsPair [] (t ∷ ts) = ⊥
+  AreAdded IsPair (e ∷ es) [] = ⊥
+  AreAdded IsPair (e ∷ es) (true ∷ ts) = IsUncrossed IsPair e
+      × AreAdded (λ a b. IsPair a b ⊎ AreNeighboursOn position points e.0 e.1 a b) es ts
+  AreAdded IsPair (e ∷ es) (false ∷ ts) = (¬ IsUncrossed IsPair e) × AreAdded IsPair es ts
 
-  -- two vertices are neighbours on a segment that was taken
-  abbrev pub AreOnTaken : List (ℕ × ℕ) → List Bool → ℕ → ℕ → Type 0
-  AreOnTaken [] ts a b = ⊥
-  AreOnTaken (e ∷ es) [] a b = ⊥
-  AreOnTaken (e ∷ es) (true ∷ ts) a b =
-      AreNeighboursOn position points e.0 e.1 a b ⊎ AreOnTaken es ts a b
-  AreOnTaken (e ∷ es) (false ∷ ts) a b = AreOnTaken es ts a b
+  -- two vertices are neighbours on a segment that was added
+  abbrev pub AreOnAdded : List (ℕ × ℕ) → List Bool → ℕ → ℕ → Type 0
+  AreOnAdded [] ts a b = ⊥
+  AreOnAdded (e ∷ es) [] a b = ⊥
+  AreOnAdded (e ∷ es) (true ∷ ts) a b =
+      AreNeighboursOn position points e.0 e.1 a b ⊎ AreOnAdded es ts a b
+  AreOnAdded (e ∷ es) (false ∷ ts) a b = AreOnAdded es ts a b
 
--- segments became constraints, those that are taken; the vertices stay
+-- segments became constraints, those that are added; the vertices stay
 pub record AddsSegments {V D U F : Type 0} (position : V → Point) (constraints : List U → List ℕ)
-    (segments : List (ℕ × ℕ)) (taken : List Bool) (old new : State V D U F) : Type 0 where
-  pub each : AreTaken position (map position old.vertices)
-      (Joins (constraints_by constraints old)) segments taken
+    (segments : List (ℕ × ℕ)) (added : List Bool) (old new : State V D U F) : Type 0 where
+  pub each : AreAdded position (map position old.vertices)
+      (Joins (constraints_by constraints old)) segments added
   pub joined : (a b : ℕ) → Joins (constraints_by constraints new) a b
       ↔ (Joins (constraints_by constraints old) a b
-      ⊎ AreOnTaken position (map position old.vertices) segments taken a b)
+      ⊎ AreOnAdded position (map position old.vertices) segments added a b)
   pub vertices : new.vertices ≡ old.vertices

@@ -20,7 +20,7 @@ pub record ListsParts (segments : List (ℕ × ℕ)) (ends : ℕ × ℕ) (by : �
   pub first : Contains segments (ends.0, by)
   pub second : Contains segments (by, ends.1)
 
--- and those of a constraint that it crossed, if that was taken out
+-- and those of a constraint that it crossed, if that was added out
 pub record ListsLead (segments : List (ℕ × ℕ)) (lead : Lead) : Type 0 where
   pub ends : ListsParts segments lead.ends lead.by
   pub crossed : IfSome lead.crossed (λ ends. ListsParts segments ends lead.by)
@@ -31,7 +31,7 @@ pub record GoesBy (constraints segments : List (ℕ × ℕ)) (ends : ℕ × ℕ)
   pub first : AreConnected (IsLink constraints segments) ends.0 by
   pub second : AreConnected (IsLink constraints segments) by ends.1
 
--- so do they for the constraint that it crossed, if that was taken out
+-- so do they for the constraint that it crossed, if that was added out
 pub record IsLed (constraints segments : List (ℕ × ℕ)) (lead : Lead) : Type 0 where
   pub ends : GoesBy constraints segments lead.ends lead.by
   pub crossed : IfSome lead.crossed (λ ends. GoesBy constraints segments ends lead.by)

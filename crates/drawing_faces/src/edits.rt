@@ -1,21 +1,21 @@
 //! Points that are inserted, and segments between them that become constraints.
 ghost use Rattle.std.specs.Prelude.{◌≡◌, All, length, map, IfErr, IfOk, MatchOption, OnOk};
-ghost use Rattle.{delaunay_bulk.specs.InsertsAll, delaunay_edit.specs.IsDelaunay};
-ghost use Rattle.drawing_faces.specs.Drawing.{ends_of, is_taken, IsDecided, joining_of};
+ghost use Rattle.{delaunay_edit.specs.IsDelaunay, delaunay_extensions.specs.InsertsAll};
+ghost use Rattle.drawing_faces.specs.Drawing.{ends_of, is_added, IsDecided, joining_of};
 ghost use Rattle.drawing_faces.specs.{Names.position, Segments.AddsSegments};
 ghost use Rattle.drawing_faces.specs.Refusals.{HasEnds, MayTake, RefusesEnds, RefusesPoints};
 ghost use Rattle.drawing_faces.specs.declared.error.DrawingError.TheVariants.{OutOfMemory};
 
 use crate::DrawingError;
-use delaunay_bulk::InsertAll;
 use delaunay_core::point::Point2;
+use delaunay_extensions::InsertAll;
 use delaunay_interface::Triangulation;
 use delaunay_journal::{Edit, Outcome, Refusal, Replayable, replay};
 use exact_predicates::ExactTests;
 use half_edge_links::FixedVertexHandle;
 use std::alloc::{AllocError, Global};
 
-/// The ends of a segment, by the places of its points in a list.
+/// The ends of a segment, by the indexes of its points in a list.
 #[derive(Clone, Copy, Debug, PartialEq, Eq)]
 pub struct DrawnSegment {
     pub from: u32,
@@ -35,21 +35,22 @@ fn copies(points: &[Point2<i32>], alloc: Global) -> Result<Vec<Point2<i32>>, All
 /// `MAX_ELEMENTS`; but `OutOfMemory` where memory was refused, at any step: then some points may be
 /// inserted.
 pub fn insert_points<T: Triangulation<Vertex = Point2<i32>>>(
-    site: &mut T,
+    triangulation: &mut T,
     points: &[Point2<i32>],
     alloc: Global,
 ) -> Result<Vec<FixedVertexHandle>, DrawingError>
     ensures inserts { IfOk result (λ vertices. InsertsAll position T.Constraints.constraints
-        points.now vertices.items (T.state site.old) (T.state site.new)) }
-    ensures may_take { OnOk result (MayTake points.now (length (T.state site.old).vertices)) }
+        points.now vertices.items (T.state triangulation.old) (T.state triangulation.new)) }
+    ensures may_take { OnOk result (MayTake points.now
+        (length (T.state triangulation.old).vertices)) }
     ensures refuses { IfErr result
-        (RefusesPoints points.now (length (T.state site.old).vertices)) }
-    ensures headline { IsDelaunay position T.Constraints.constraints (T.state site.new) }
+        (RefusesPoints points.now (length (T.state triangulation.old).vertices)) }
+    ensures headline { IsDelaunay position T.Constraints.constraints (T.state triangulation.new) }
 {
-    site.recall_invariant();
+    triangulation.recall_invariant();
     let values = copies(points, alloc)?;
-    let vertices = site.insert_all(values, &ExactTests)?;
-    site.recall_invariant();
+    let vertices = triangulation.insert_all(values, &ExactTests)?;
+    triangulation.recall_invariant();
     Ok(vertices)
 }
 
@@ -96,46 +97,46 @@ fn joinings(
     Ok(edits)
 }
 
-/// Which segments were taken, by what their edits gave: the others are crossed by constraints. An
+/// Which segments were added, by what their edits gave: the others are crossed by constraints. An
 /// edit that was neither made nor refused for that was refused memory.
-fn taken_of(outcomes: Vec<Outcome<Point2<i32>>>, alloc: Global) -> Result<Vec<bool>, DrawingError>
-    ensures taken { IfOk result (λ taken. taken.items ≡ map is_taken outcomes.items) }
+fn added_of(outcomes: Vec<Outcome<Point2<i32>>>, alloc: Global) -> Result<Vec<bool>, DrawingError>
+    ensures added { IfOk result (λ added. added.items ≡ map is_added outcomes.items) }
     ensures decided { OnOk result (All IsDecided outcomes.items) }
     ensures memory { IfErr result (λ error. error ≡ OutOfMemory) }
 {
-    let mut taken = Vec::with_capacity(alloc, outcomes.len())?;
+    let mut added = Vec::with_capacity(alloc, outcomes.len())?;
     for outcome in outcomes {
         match outcome {
-            Outcome::Added(_) => taken.push(true)?,
-            Outcome::Refused(Refusal::Conflict) => taken.push(false)?,
+            Outcome::Added(_) => added.push(true)?,
+            Outcome::Refused(Refusal::Conflict) => added.push(false)?,
             _ => return Err(DrawingError::OutOfMemory),
         }
     }
-    Ok(taken)
+    Ok(added)
 }
 
 /// Makes constraints of segments, one after another: of the edges between neighbours among the
-/// vertices on it. It tells which were taken; the others are crossed by constraints. It gives
-/// `NoPoint`, with nothing changed, exactly where a segment ends at no place of the list of
+/// vertices on it. It tells which were added; the others are crossed by constraints. It gives
+/// `NoPoint`, with nothing changed, exactly where a segment ends at no index of the list of
 /// vertices or at a handle of none; but `OutOfMemory` where memory was refused, at any step: then
 /// some segments may be constraints.
 pub fn add_segments<T: Replayable<Vertex = Point2<i32>>>(
-    site: &mut T,
+    triangulation: &mut T,
     segments: &[DrawnSegment],
     vertices: &[FixedVertexHandle],
     alloc: Global,
 ) -> Result<Vec<bool>, DrawingError>
-    ensures adds { IfOk result (λ taken. AddsSegments position T.Constraints.constraints
-        (map (ends_of vertices.now) segments.now) taken.items (T.state site.old)
-        (T.state site.new)) }
+    ensures adds { IfOk result (λ added. AddsSegments position T.Constraints.constraints
+        (map (ends_of vertices.now) segments.now) added.items (T.state triangulation.old)
+        (T.state triangulation.new)) }
     ensures ends { OnOk result (All
-        (HasEnds vertices.now (length (T.state site.old).vertices)) segments.now) }
+        (HasEnds vertices.now (length (T.state triangulation.old).vertices)) segments.now) }
     ensures refuses { IfErr result
-        (RefusesEnds vertices.now (length (T.state site.old).vertices) segments.now) }
-    ensures headline { IsDelaunay position T.Constraints.constraints (T.state site.new) }
+        (RefusesEnds vertices.now (length (T.state triangulation.old).vertices) segments.now) }
+    ensures headline { IsDelaunay position T.Constraints.constraints (T.state triangulation.new) }
 {
-    site.recall_invariant();
-    let edits = joinings(segments, vertices, site.num_vertices(), alloc)?;
-    let outcomes = replay(site, edits, &ExactTests)?;
-    taken_of(outcomes, alloc)
+    triangulation.recall_invariant();
+    let edits = joinings(segments, vertices, triangulation.num_vertices(), alloc)?;
+    let outcomes = replay(triangulation, edits, &ExactTests)?;
+    added_of(outcomes, alloc)
 }

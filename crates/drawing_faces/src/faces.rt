@@ -7,8 +7,8 @@ ghost use Rattle.drawing_faces.specs.{Kept.AreKept, Kept.IsLeftOut, Names.positi
 
 use crate::flood::reach_faces;
 use delaunay_core::point::Point2;
+use delaunay_extensions::face_layers;
 use delaunay_interface::Triangulation;
-use delaunay_queries::face_layers;
 use half_edge_dcel::FaceHandle;
 use half_edge_links::FixedFaceHandle;
 use std::alloc::{AllocError, Global};
@@ -45,15 +45,15 @@ fn corner_indexes<DE, UE, F>(face: FaceHandle<'_, Point2<i32>, DE, UE, F>) -> Fa
 
 /// All inner faces, each once, by rising index.
 pub fn faces_of<T: Triangulation<Vertex = Point2<i32>>>(
-    site: &T,
+    triangulation: &T,
     alloc: Global,
 ) -> Result<Vec<FaceCorners>, AllocError>
     ensures { IfOk result (λ faces. map face_of faces.items ≡
-        (triangulation_of position (T.state site.now)).faces) }
+        (triangulation_of position (T.state triangulation.now)).faces) }
 {
-    site.recall_invariant();
-    let mut faces = Vec::with_capacity(alloc, site.num_inner_faces())?;
-    for face in site.inner_faces() {
+    triangulation.recall_invariant();
+    let mut faces = Vec::with_capacity(alloc, triangulation.num_inner_faces())?;
+    for face in triangulation.inner_faces() {
         faces.push(corner_indexes(face))?;
     }
     Ok(faces)
@@ -82,50 +82,51 @@ pub fn faces_inside(
 /// The layers of all faces, with 0 in place of that of a face which a way from one of some others
 /// reaches past no constraint.
 fn open_layers<T: Triangulation<Vertex = Point2<i32>>>(
-    site: &T,
+    triangulation: &T,
     starts: &[FixedFaceHandle],
     alloc: Global,
 ) -> Result<Vec<u32>, AllocError>
-    requires { All (λ f. f ≤ length (T.state site.now).faces) starts.now }
-    ensures { IfOk result (λ layers. MarkOpenFaces (T.state site.now).mesh
-        (T.Constraints.constraints (T.state site.now).undirected) starts.now layers.items) }
+    requires { All (λ f. f ≤ length (T.state triangulation.now).faces) starts.now }
+    ensures { IfOk result (λ layers. MarkOpenFaces (T.state triangulation.now).mesh
+        (T.Constraints.constraints (T.state triangulation.now).undirected) starts.now
+        layers.items) }
 {
-    let layers = face_layers(site, alloc)?;
-    reach_faces::<T::Constraints, _, _, _, _>(site.s(), layers, starts, alloc)
+    let layers = face_layers(triangulation, alloc)?;
+    reach_faces::<T::Constraints, _, _, _, _>(triangulation.s(), layers, starts, alloc)
 }
 
 /// The faces that no way from outside, or from one of some faces, reaches without crossing a
 /// constraint, by rising index.
 fn closed_faces<T: Triangulation<Vertex = Point2<i32>>>(
-    site: &T,
+    triangulation: &T,
     holes: &[FixedFaceHandle],
     alloc: Global,
 ) -> Result<Vec<FaceCorners>, AllocError>
-    requires { All (λ f. f ≤ length (T.state site.now).faces) holes.now }
-    ensures { IfOk result (λ faces. AreKept (IsLeftOut Inside (T.state site.now).mesh
-        (T.Constraints.constraints (T.state site.now).undirected) holes.now) 1
-        (triangulation_of position (T.state site.now)).faces (map face_of faces.items)) }
+    requires { All (λ f. f ≤ length (T.state triangulation.now).faces) holes.now }
+    ensures { IfOk result (λ faces. AreKept (IsLeftOut Inside (T.state triangulation.now).mesh
+        (T.Constraints.constraints (T.state triangulation.now).undirected) holes.now) 1
+        (triangulation_of position (T.state triangulation.now)).faces (map face_of faces.items)) }
 {
-    let faces = faces_of(site, alloc)?;
-    let layers = open_layers(site, holes, alloc)?;
+    let faces = faces_of(triangulation, alloc)?;
+    let layers = open_layers(triangulation, holes, alloc)?;
     faces_inside(faces.as_slice(), layers.as_slice(), alloc)
 }
 
 /// The faces that are kept, each once, by rising index. Where the inside is kept, these are left
 /// out that a way from outside, or from one of some faces, reaches.
 pub fn kept_faces<T: Triangulation<Vertex = Point2<i32>>>(
-    site: &T,
+    triangulation: &T,
     kept: Kept,
     holes: &[FixedFaceHandle],
     alloc: Global,
 ) -> Result<Vec<FaceCorners>, AllocError>
-    requires { All (λ f. f ≤ length (T.state site.now).faces) holes.now }
-    ensures { IfOk result (λ faces. AreKept (IsLeftOut kept (T.state site.now).mesh
-        (T.Constraints.constraints (T.state site.now).undirected) holes.now) 1
-        (triangulation_of position (T.state site.now)).faces (map face_of faces.items)) }
+    requires { All (λ f. f ≤ length (T.state triangulation.now).faces) holes.now }
+    ensures { IfOk result (λ faces. AreKept (IsLeftOut kept (T.state triangulation.now).mesh
+        (T.Constraints.constraints (T.state triangulation.now).undirected) holes.now) 1
+        (triangulation_of position (T.state triangulation.now)).faces (map face_of faces.items)) }
 {
     match kept {
-        Kept::All => faces_of(site, alloc),
-        Kept::Inside => closed_faces(site, holes, alloc),
+        Kept::All => faces_of(triangulation, alloc),
+        Kept::Inside => closed_faces(triangulation, holes, alloc),
     }
 }

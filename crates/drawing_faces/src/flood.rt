@@ -1,7 +1,7 @@
 //! A search for the faces that are reached past no constraint: face by face, from the outer face
 //! and from others.
 ghost use Rattle.std.specs.Prelude.{◌≡◌, ◌+◌, ◌<◌, ◌≤◌, ℕ, All, Contains, length, IfOk, OnOk};
-ghost use Rattle.{delaunay_queries.specs.AreLayers, drawing_faces.specs.Flood.MarkOpenFaces};
+ghost use Rattle.{delaunay_extensions.specs.AreLayers, drawing_faces.specs.Flood.MarkOpenFaces};
 ghost use Rattle.drawing_faces.specs.Flood.{Enters, flood_left, IsFlood, IsReached, ListsFree};
 
 use delaunay_legalization::{ConstraintMarker, is_constraint_edge};

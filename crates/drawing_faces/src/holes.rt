@@ -13,40 +13,40 @@ use half_edge_links::FixedFaceHandle;
 use std::alloc::Global;
 
 // Adds the faces that a point is in: behind an edge those on both sides, unless it is a constraint.
-// Errors have the point's place in its list.
+// Errors have the point's index in its list.
 fn add_faces<T: Triangulation<Vertex = Point2<i32>>>(
-    site: &T,
+    triangulation: &T,
     hole: Point2<i32>,
-    place: usize,
+    index: usize,
     faces: &mut Vec<FixedFaceHandle>,
 ) -> Result<(), DrawingError>
-    ensures adds { OnOk result (AddsFacesAt (T.state site.now)
-        (T.Constraints.constraints (T.state site.now).undirected) hole faces.old.items
+    ensures adds { OnOk result (AddsFacesAt (T.state triangulation.now)
+        (T.Constraints.constraints (T.state triangulation.now).undirected) hole faces.old.items
         faces.new.items) }
-    ensures refuses { IfErr result (RefusesHole (T.state site.now)
-        (T.Constraints.constraints (T.state site.now).undirected) place hole) }
+    ensures refuses { IfErr result (RefusesHole (T.state triangulation.now)
+        (T.Constraints.constraints (T.state triangulation.now).undirected) index hole) }
 {
-    site.recall_invariant();
+    triangulation.recall_invariant();
     if validate_vertex(&hole).is_err() {
-        return Err(DrawingError::HoleTooLarge(place));
+        return Err(DrawingError::HoleTooLarge(index));
     }
-    match site.locate(hole, &ExactTests) {
+    match triangulation.locate(hole, &ExactTests) {
         PositionInTriangulation::OnFace(face) => {
             faces.push(face)?;
             Ok(())
         }
         PositionInTriangulation::OnEdge(edge) => {
-            let edge = site.directed_edge(edge);
+            let edge = triangulation.directed_edge(edge);
             let whole = edge.as_undirected().fix();
-            if is_constraint_edge::<T::Constraints, _, _, _, _>(site.s(), whole) {
-                return Err(DrawingError::HoleOnSegment(place));
+            if is_constraint_edge::<T::Constraints, _, _, _, _>(triangulation.s(), whole) {
+                return Err(DrawingError::HoleOnSegment(index));
             }
             faces.push(edge.face().fix())?;
             faces.push(edge.rev().face().fix())?;
             Ok(())
         }
         PositionInTriangulation::OutsideOfConvexHull(_) => Ok(()),
-        _ => Err(DrawingError::HoleInNoFace(place)),
+        _ => Err(DrawingError::HoleInNoFace(index)),
     }
 }
 
@@ -54,20 +54,20 @@ fn add_faces<T: Triangulation<Vertex = Point2<i32>>>(
 /// `HoleInNoFace` exactly where a point is out of range, within a constraint, or on a vertex or in
 /// no triangulation: for the first such point. It gives `OutOfMemory` where memory was refused.
 pub(crate) fn hole_faces<T: Triangulation<Vertex = Point2<i32>>>(
-    site: &T,
+    triangulation: &T,
     holes: &[Point2<i32>],
     alloc: Global,
 ) -> Result<Vec<FixedFaceHandle>, DrawingError>
-    ensures faces { IfOk result (λ faces. AreIn (T.state site.now)
-        (T.Constraints.constraints (T.state site.now).undirected) holes.now faces.items) }
+    ensures faces { IfOk result (λ faces. AreIn (T.state triangulation.now)
+        (T.Constraints.constraints (T.state triangulation.now).undirected) holes.now faces.items) }
     ensures within { IfOk result
-        (λ faces. All (λ f. f ≤ length (T.state site.now).faces) faces.items) }
-    ensures refuses { IfErr result (RefusesHoles (T.state site.now)
-        (T.Constraints.constraints (T.state site.now).undirected) holes.now) }
+        (λ faces. All (λ f. f ≤ length (T.state triangulation.now).faces) faces.items) }
+    ensures refuses { IfErr result (RefusesHoles (T.state triangulation.now)
+        (T.Constraints.constraints (T.state triangulation.now).undirected) holes.now) }
 {
     let mut faces = Vec::new(alloc);
-    for (place, hole) in holes.iter().enumerate() {
-        add_faces(site, *hole, place, &mut faces)?;
+    for (index, hole) in holes.iter().enumerate() {
+        add_faces(triangulation, *hole, index, &mut faces)?;
     }
     Ok(faces)
 }

@@ -1,4 +1,4 @@
-//! Vertices and faces by the places of their points in a list.
+//! Vertices and faces by the indexes of their points in a list.
 ghost use Rattle.std.specs.Prelude.{◌≡◌, ◌⊎◌, ◌<◌, All, length, map, slice_index, IfErr, IfOk};
 ghost use Rattle.half_edge_links.specs.{MAX_ELEMENTS};
 ghost use Rattle.drawing_faces.specs.{Drawing.face_of, Names.AreFirsts, Names.places_of};
@@ -8,9 +8,9 @@ use crate::{DrawingError, FaceCorners};
 use half_edge_links::{FixedVertexHandle, MAX_ELEMENTS};
 use std::alloc::{AllocError, Global};
 
-/// Of each of so many vertices the first place where it stands in a list. It gives `TooMany` for a
+/// Of each of so many vertices the first index where it stands in a list. It gives `TooMany` for a
 /// list of more than `MAX_ELEMENTS`, and `OutOfMemory` where memory was refused.
-pub(crate) fn first_places(
+pub(crate) fn first_indexes(
     vertices: &[FixedVertexHandle],
     count: usize,
     alloc: Global,
@@ -24,11 +24,11 @@ pub(crate) fn first_places(
         return Err(DrawingError::TooMany);
     }
     let mut firsts = Vec::from_elem(alloc, 0, count)?;
-    let mut place = vertices.len();
-    while place > 0 {
-        place -= 1;
-        let vertex = vertices[place].index() as usize;
-        firsts[vertex] = place as u32;
+    let mut index = vertices.len();
+    while index > 0 {
+        index -= 1;
+        let vertex = vertices[index].index() as usize;
+        firsts[vertex] = index as u32;
     }
     Ok(firsts)
 }

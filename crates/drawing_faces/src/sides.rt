@@ -48,42 +48,43 @@ fn add_left<DE, UE, F, P: PlaneTests<i32>>(
 
 // Adds the faces on the left of the way from one vertex to another.
 fn add_beside<DE, UE, F, T: HasMesh<Point2<i32>, DE, UE, F>>(
-    site: &T,
+    triangulation: &T,
     from: FixedVertexHandle,
     to: FixedVertexHandle,
     faces: &mut Vec<FixedFaceHandle>,
 ) -> Result<(), AllocError>
-    requires from_in { from < length (T.mesh_state site.now).vertices }
-    requires to_in { to < length (T.mesh_state site.now).vertices }
-    ensures { OnOk result (AddsBeside (T.mesh_state site.now) ((from, to) ∷ []) faces.old.items
+    requires from_in { from < length (T.mesh_state triangulation.now).vertices }
+    requires to_in { to < length (T.mesh_state triangulation.now).vertices }
+    ensures { OnOk result (AddsBeside (T.mesh_state triangulation.now) ((from, to) ∷ [])
+        faces.old.items
         faces.new.items) }
 {
-    let mut way = LineIntersectionIterator::new_from_handles(site, from, to, &ExactTests);
+    let mut way = LineIntersectionIterator::new_from_handles(triangulation, from, to, &ExactTests);
     add_left(&mut way, faces)
 }
 
 /// Adds the faces on the left of the edges that lie on the sides of holes, in the direction of
-/// these. It gives `NoPoint` exactly where a side ends at no place of the list of vertices or at a
+/// these. It gives `NoPoint` exactly where a side ends at no index of the list of vertices or at a
 /// handle of none, and `OutOfMemory` where memory was refused.
 pub(crate) fn add_side_faces<DE, UE, F, T: HasMesh<Point2<i32>, DE, UE, F>>(
-    site: &T,
+    triangulation: &T,
     sides: &[DrawnSegment],
     vertices: &[FixedVertexHandle],
     faces: &mut Vec<FixedFaceHandle>,
 ) -> Result<(), DrawingError>
-    ensures adds { OnOk result (AddsBeside (T.mesh_state site.now)
+    ensures adds { OnOk result (AddsBeside (T.mesh_state triangulation.now)
         (map (ends_of vertices.now) sides.now) faces.old.items faces.new.items) }
     ensures ends { OnOk result (All
-        (HasEnds vertices.now (length (T.mesh_state site.now).vertices)) sides.now) }
+        (HasEnds vertices.now (length (T.mesh_state triangulation.now).vertices)) sides.now) }
     ensures refuses { IfErr result
-        (RefusesEnds vertices.now (length (T.mesh_state site.now).vertices) sides.now) }
+        (RefusesEnds vertices.now (length (T.mesh_state triangulation.now).vertices) sides.now) }
 {
-    let count = site.mesh().num_vertices();
+    let count = triangulation.mesh().num_vertices();
     for side in sides {
         let Some(ends) = ends_among(*side, vertices, count) else {
             return Err(DrawingError::NoPoint);
         };
-        add_beside(site, ends.0, ends.1, faces)?;
+        add_beside(triangulation, ends.0, ends.1, faces)?;
     }
     Ok(())
 }

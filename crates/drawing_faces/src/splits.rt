@@ -61,7 +61,7 @@ fn point_at(position: Point2<i64>) -> Point2<i32> {
     Point2::new(x, i32::try_from(position.y).unwrap_or(i32::MAX))
 }
 
-// The ends of what two segments of a list are together, by their places, if the first ends at a
+// The ends of what two segments of a list are together, by their indexes, if the first ends at a
 // vertex where the second begins.
 fn ends_over(
     segments: &[VertexPair],
@@ -114,31 +114,31 @@ fn lead_in(segments: &[VertexPair], before: usize) -> Option<Lead>
 
 // Makes constraints of segments or splits them, step by step, and notes where each was led.
 fn lead_all<T: Replayable<Vertex = Point2<i32>>>(
-    site: &mut T,
+    triangulation: &mut T,
     segments: &mut Vec<VertexPair>,
     steps: usize,
     leads: &mut Vec<Lead>,
 ) -> Result<(), SplitError>
     requires { leads.old.items ≡ [] }
     ensures splits { Splits IsAnyPoint
-        (points_and_constraints_by T.Constraints.constraints (T.state site.old))
-        (points_and_constraints_by T.Constraints.constraints (T.state site.new))
+        (points_and_constraints_by T.Constraints.constraints (T.state triangulation.old))
+        (points_and_constraints_by T.Constraints.constraints (T.state triangulation.new))
         segments.old.items segments.new.items }
     ensures all { OnOk result (segments.new.items ≡ []) }
     ensures steps { IsErrOf result TooManySteps → segments.new.items ≢ [] }
     ensures leads { OnOk result (AreLed
-        (constraints_by T.Constraints.constraints (T.state site.new)) segments.new.items
+        (constraints_by T.Constraints.constraints (T.state triangulation.new)) segments.new.items
         leads.new.items) }
-    ensures headline { IsDelaunay position T.Constraints.constraints (T.state site.new) }
+    ensures headline { IsDelaunay position T.Constraints.constraints (T.state triangulation.new) }
 {
-    site.recall_invariant();
+    triangulation.recall_invariant();
     let make_vertex = |position: Point2<i64>| point_at(position);
     for _ in 0..steps {
         let before = segments.len();
         if before == 0 {
             return Ok(());
         }
-        let step = add_constraints_and_split(site, segments, 1, &ExactTests, &make_vertex);
+        let step = add_constraints_and_split(triangulation, segments, 1, &ExactTests, &make_vertex);
         if let Err(SplitError::Refused(refusal)) = step {
             return Err(SplitError::Refused(refusal));
         }
@@ -166,30 +166,32 @@ fn lead_all<T: Replayable<Vertex = Point2<i32>>>(
 /// splits, and `Refused` where one of these was refused. Those before it stand then, and what
 /// constraints and segments connected, constraints and the segments that are left connect still.
 pub fn split_segments<T: Replayable<Vertex = Point2<i32>>>(
-    site: &mut T,
+    triangulation: &mut T,
     segments: &mut Vec<VertexPair>,
     steps: usize,
     alloc: Global,
 ) -> Result<Vec<Lead>, SegmentError>
     ensures splits { Splits IsAnyPoint
-        (points_and_constraints_by T.Constraints.constraints (T.state site.old))
-        (points_and_constraints_by T.Constraints.constraints (T.state site.new))
+        (points_and_constraints_by T.Constraints.constraints (T.state triangulation.old))
+        (points_and_constraints_by T.Constraints.constraints (T.state triangulation.new))
         segments.old.items segments.new.items }
     ensures all { OnOk result (segments.new.items ≡ []) }
     ensures leads { IfOk result (λ leads.
-        AreLed (constraints_by T.Constraints.constraints (T.state site.new)) [] leads.items) }
-    ensures ends { OnOk result (All (EndsAtVertices (length (T.state site.old).vertices))
+        AreLed (constraints_by T.Constraints.constraints (T.state triangulation.new)) []
+        leads.items) }
+    ensures ends { OnOk result (All (EndsAtVertices (length (T.state triangulation.old).vertices))
         segments.old.items) }
-    ensures refuses { IfErr result (RefusesSegments (T.state site.old) (T.state site.new)
+    ensures refuses { IfErr result (RefusesSegments (T.state triangulation.old)
+        (T.state triangulation.new)
         segments.old.items segments.new.items) }
-    ensures headline { IsDelaunay position T.Constraints.constraints (T.state site.new) }
+    ensures headline { IsDelaunay position T.Constraints.constraints (T.state triangulation.new) }
 {
-    site.recall_invariant();
-    if !all_end_at_vertices(segments.as_slice(), site.num_vertices()) {
+    triangulation.recall_invariant();
+    if !all_end_at_vertices(segments.as_slice(), triangulation.num_vertices()) {
         return Err(SegmentError::NoVertex);
     }
     let mut leads = Vec::new(alloc);
-    match lead_all(site, segments, steps, &mut leads) {
+    match lead_all(triangulation, segments, steps, &mut leads) {
         Ok(()) => Ok(leads),
         Err(SplitError::TooManySteps) => Err(SegmentError::TooManySteps),
         Err(SplitError::Refused(refusal)) => Err(SegmentError::Refused(refusal)),

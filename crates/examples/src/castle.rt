@@ -1,5 +1,5 @@
-//! A castle: rings of walls as constraints, and how many of them lie at least between a place and
-//! the fields. A breach opens a ring, and a hedge that is no ring is walked round.
+//! A castle: rings of walls as constraints, and how many of them lie at least between a position
+//! and the fields. A breach opens a ring, and a hedge that is no ring is walked round.
 
 use exact_predicates::ExactTests;
 use spade_delaunay::handles::FixedFaceHandle;
@@ -61,12 +61,12 @@ fn build(castle: &mut Castle) -> anyhow::Result<()> {
     Ok(())
 }
 
-/// The face at a place, or nothing on a wall.
-fn face_at(castle: &Castle, place: Point2<i64>) -> Option<FixedFaceHandle> {
-    if validate_vertex(&place).is_err() {
+/// The face at a position, or nothing on a wall.
+fn face_at(castle: &Castle, position: Point2<i64>) -> Option<FixedFaceHandle> {
+    if validate_vertex(&position).is_err() {
         return None;
     }
-    match castle.locate(place, &ExactTests) {
+    match castle.locate(position, &ExactTests) {
         PositionInTriangulation::OnFace(face) => Some(face),
         PositionInTriangulation::OnEdge(edge) => {
             let edge = castle.directed_edge(edge);
@@ -82,9 +82,9 @@ fn face_at(castle: &Castle, place: Point2<i64>) -> Option<FixedFaceHandle> {
     }
 }
 
-/// How many walls lie before a place, or nothing on a wall.
-fn walls_before(castle: &Castle, layers: &[u32], place: Point2<i64>) -> Option<u32> {
-    let face = face_at(castle, place)?;
+/// How many walls lie before a position, or nothing on a wall.
+fn walls_before(castle: &Castle, layers: &[u32], position: Point2<i64>) -> Option<u32> {
+    let face = face_at(castle, position)?;
     layers.get(face.index() as usize).copied()
 }
 
@@ -99,12 +99,12 @@ fn report(rt: &HostRuntime, castle: &Castle) -> anyhow::Result<()> {
     Ok(())
 }
 
-/// Breaches the wall at a place.
-fn breach(castle: &mut Castle, place: Point2<i64>) -> anyhow::Result<()> {
-    if validate_vertex(&place).is_err() {
+/// Breaches the wall at a position.
+fn breach(castle: &mut Castle, position: Point2<i64>) -> anyhow::Result<()> {
+    if validate_vertex(&position).is_err() {
         return Ok(());
     }
-    if let PositionInTriangulation::OnEdge(edge) = castle.locate(place, &ExactTests) {
+    if let PositionInTriangulation::OnEdge(edge) = castle.locate(position, &ExactTests) {
         let wall = castle.directed_edge(edge).as_undirected().fix();
         castle.remove_constraint_edge(wall, &ExactTests)?;
     }

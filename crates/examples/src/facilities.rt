@@ -9,17 +9,17 @@ use spade_delaunay::{
 #[derive(Drop)]
 struct Station {
     name: &'static str,
-    place: Point2<i64>,
+    position: Point2<i64>,
 }
 
 impl HasPosition for Station {
     type Scalar = i64;
 
     // A user's position is that of a field; proofs see it so too.
-    ghost place = { λ s. ⟦<Point2<i64> as HasPosition>⟧.place s.place };
+    ghost place = { λ s. ⟦<Point2<i64> as HasPosition>⟧.place s.position };
 
     fn position(&self) -> Point2<i64> {
-        self.place
+        self.position
     }
 }
 
@@ -54,18 +54,18 @@ const FIRES: [(i64, i64); 6] = [
 /// Tells how many stations there are then.
 fn open_all(stations: &mut impl Triangulation<Vertex = Station>) -> Result<usize, InsertionError> {
     for (name, x, y) in STATIONS {
-        let place = Point2::new(x, y);
-        stations.insert(Station { name, place }, &ExactTests)?;
+        let position = Point2::new(x, y);
+        stations.insert(Station { name, position }, &ExactTests)?;
     }
     Ok(stations.num_vertices())
 }
 
-/// Nothing where the place is too far off, or no station is open.
-fn nearest_to(stations: &Stations, place: Point2<i64>) -> Option<&'static str> {
-    if validate_vertex(&place).is_err() {
+/// Nothing where the position is too far off, or no station is open.
+fn nearest_to(stations: &Stations, position: Point2<i64>) -> Option<&'static str> {
+    if validate_vertex(&position).is_err() {
         return None;
     }
-    match stations.nearest_neighbor(place, &ExactTests) {
+    match stations.nearest_neighbor(position, &ExactTests) {
         Some(nearest) => Some(nearest.data().name),
         None => None,
     }

@@ -89,10 +89,10 @@ fn raise_pillars(hall: &mut Hall) -> anyhow::Result<()> {
     Ok(())
 }
 
-/// Whether a place is in a pillar or on its side.
-fn is_in(pillar: (i64, i64, i64, i64), place: Point2<i64>) -> bool {
+/// Whether a position is in a pillar or on its side.
+fn is_in(pillar: (i64, i64, i64, i64), position: Point2<i64>) -> bool {
     let (west, south, east, north) = pillar;
-    west <= place.x && place.x <= east && south <= place.y && place.y <= north
+    west <= position.x && position.x <= east && south <= position.y && position.y <= north
 }
 
 /// Whether the face with three corners is in a pillar. A pillar's sides are edges, so a face that
@@ -130,8 +130,8 @@ fn build_all(rt: &HostRuntime, hall: &mut Hall) -> anyhow::Result<()> {
     Ok(())
 }
 
-/// Whether one sees from a place to another, past all walls and pillars. Nothing where a place is
-/// too far off.
+/// Whether one sees from a position to another, past all walls and pillars. Nothing where a
+/// position is too far off.
 fn sees(hall: &Hall, floor: &Floor, from: Point2<i64>, to: Point2<i64>) -> Option<bool> {
     if validate_vertex(&from).is_err() || validate_vertex(&to).is_err() {
         return None;
@@ -151,12 +151,12 @@ fn look(rt: &HostRuntime, hall: &Hall) -> anyhow::Result<()> {
     Ok(())
 }
 
-/// Takes down the wall through a place, if there is one.
-fn take_down(hall: &mut Hall, place: Point2<i64>) -> anyhow::Result<bool> {
-    if validate_vertex(&place).is_err() {
+/// Takes down the wall through a position, if there is one.
+fn take_down(hall: &mut Hall, position: Point2<i64>) -> anyhow::Result<bool> {
+    if validate_vertex(&position).is_err() {
         return Ok(false);
     }
-    match hall.locate(place, &ExactTests) {
+    match hall.locate(position, &ExactTests) {
         PositionInTriangulation::OnEdge(edge) => {
             let wall = hall.directed_edge(edge).as_undirected().fix();
             Ok(hall.remove_constraint_edge(wall, &ExactTests)?)

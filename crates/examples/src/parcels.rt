@@ -29,7 +29,7 @@ const STONES: [(i64, i64); 7] = [
 /// The stone that a flood takes.
 const LOST: (i64, i64) = (-10, 110);
 
-/// Names, and a place inside the parcel of each.
+/// Names, and a position inside the parcel of each.
 const OWNERS: [(&str, i64, i64); 4] = [
     ("Aune", 60, 10),
     ("Berg", 140, 30),
@@ -37,14 +37,14 @@ const OWNERS: [(&str, i64, i64); 4] = [
     ("Diaz", 30, 50),
 ];
 
-/// Gives each parcel to its owner. A place outside of all parcels changes nothing.
+/// Gives each parcel to its owner. A position outside of all parcels changes nothing.
 fn sell_all(map: &mut impl Triangulation<Vertex = Point2<i64>, Face = Parcel>) {
     for (owner, x, y) in OWNERS {
-        let place = Point2::new(x, y);
-        if validate_vertex(&place).is_err() {
+        let position = Point2::new(x, y);
+        if validate_vertex(&position).is_err() {
             continue;
         }
-        if let PositionInTriangulation::OnFace(face) = map.locate(place, &ExactTests) {
+        if let PositionInTriangulation::OnFace(face) = map.locate(position, &ExactTests) {
             map.face_data_mut(face).owner = Some(owner);
         }
     }
@@ -52,12 +52,12 @@ fn sell_all(map: &mut impl Triangulation<Vertex = Point2<i64>, Face = Parcel>) {
 
 fn owner_at(
     map: &impl Triangulation<Vertex = Point2<i64>, Face = Parcel>,
-    place: Point2<i64>,
+    position: Point2<i64>,
 ) -> Option<&'static str> {
-    if validate_vertex(&place).is_err() {
+    if validate_vertex(&position).is_err() {
         return None;
     }
-    match map.locate(place, &ExactTests) {
+    match map.locate(position, &ExactTests) {
         PositionInTriangulation::OnFace(face) => map.face(face).data().owner,
         _ => None,
     }
@@ -85,9 +85,9 @@ fn set_stones(map: &mut impl Triangulation<Vertex = Point2<i64>>) -> Result<(), 
 /// The flood takes its stone.
 fn lose_stone(map: &mut impl Triangulation<Vertex = Point2<i64>>) -> anyhow::Result<()> {
     let (x, y) = LOST;
-    let place = Point2::new(x, y);
-    if validate_vertex(&place).is_ok() {
-        map.locate_and_remove(place, &ExactTests)?;
+    let position = Point2::new(x, y);
+    if validate_vertex(&position).is_ok() {
+        map.locate_and_remove(position, &ExactTests)?;
     }
     Ok(())
 }

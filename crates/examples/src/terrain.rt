@@ -12,17 +12,17 @@ use spade_delaunay::{
 /// A post of the survey.
 #[derive(Drop)]
 struct Post {
-    place: Point2<i64>,
+    position: Point2<i64>,
     metres: i32,
 }
 
 impl HasPosition for Post {
     type Scalar = i64;
 
-    ghost place = { λ p. ⟦<Point2<i64> as HasPosition>⟧.place p.place };
+    ghost place = { λ p. ⟦<Point2<i64> as HasPosition>⟧.place p.position };
 
     fn position(&self) -> Point2<i64> {
-        self.place
+        self.position
     }
 }
 
@@ -58,7 +58,7 @@ fn post_at(column: u8, row: u8) -> Post
 {
     let x = 100 * i64::from(column) + 50 * i64::from(row % 2);
     Post {
-        place: Point2::new(x, 100 * i64::from(row)),
+        position: Point2::new(x, 100 * i64::from(row)),
         metres: HEIGHTS[usize::from(row)][usize::from(column)],
     }
 }
@@ -78,15 +78,15 @@ fn survey(
     Ok(())
 }
 
-/// The lowest and the highest corner of the face at a place; that of a post is its own.
+/// The lowest and the highest corner of the face at a position; that of a post is its own.
 fn heights_at(
     terrain: &impl Triangulation<Vertex = Post>,
-    place: Point2<i64>,
+    position: Point2<i64>,
 ) -> Option<(i32, i32)> {
-    if validate_vertex(&place).is_err() {
+    if validate_vertex(&position).is_err() {
         return None;
     }
-    match terrain.locate(place, &ExactTests) {
+    match terrain.locate(position, &ExactTests) {
         PositionInTriangulation::OnVertex(vertex) => {
             let metres = terrain.vertex(vertex).data().metres;
             Some((metres, metres))

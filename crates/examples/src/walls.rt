@@ -1,5 +1,5 @@
-//! Walls between the corners of a site, each built where no other crosses it, and what ways over
-//! the site meet, to the end of each and no further.
+//! Walls between the corners of a yard, each built where no other crosses it, and what ways over
+//! the yard meet, to the end of each and no further.
 
 ghost use Rattle.spade_delaunay.specs.Place.{place_of};
 ghost use Rattle.spade_delaunay.specs.Tests.{InRange};
@@ -14,7 +14,7 @@ use spade_delaunay::{
 };
 use std::alloc::AllocError;
 
-type Site = ConstrainedDelaunayTriangulation<Point2<i64>>;
+type Yard = ConstrainedDelaunayTriangulation<Point2<i64>>;
 
 /// Metres east and north of the gate.
 const CORNERS: [(i64, i64); 6] = [(0, 0), (60, 0), (60, 40), (0, 40), (20, 20), (45, 15)];
@@ -22,7 +22,7 @@ const CORNERS: [(i64, i64); 6] = [(0, 0), (60, 0), (60, 40), (0, 40), (20, 20), 
 /// The numbers of the corners that each wall joins. The third would cross the second.
 const WALLS: [(u32, u32); 5] = [(0, 4), (4, 2), (1, 3), (5, 2), (0, 5)];
 
-/// Both ends of ways over the site: through a corner, across two walls, along one, and past all.
+/// Both ends of ways over the yard: through a corner, across two walls, along one, and past all.
 const WAYS: [(i64, i64, i64, i64); 4] = [
     (-10, 30, 80, 0),
     (30, -10, 30, 50),
@@ -30,41 +30,41 @@ const WAYS: [(i64, i64, i64, i64); 4] = [
     (-10, -10, -10, 50),
 ];
 
-fn mark_corners(site: &mut impl Triangulation<Vertex = Point2<i64>>) -> Result<(), InsertionError> {
+fn mark_corners(yard: &mut impl Triangulation<Vertex = Point2<i64>>) -> Result<(), InsertionError> {
     for (x, y) in CORNERS {
-        site.insert(Point2::new(x, y), &ExactTests)?;
+        yard.insert(Point2::new(x, y), &ExactTests)?;
     }
     Ok(())
 }
 
 /// Builds a wall between two corners, unless one of them is not there, or the wall would cross
 /// another, and tells whether it did.
-fn build(site: &mut Site, from: u32, to: u32) -> Result<bool, AllocError> {
-    if from as usize >= site.num_vertices() || to as usize >= site.num_vertices() {
+fn build(yard: &mut Yard, from: u32, to: u32) -> Result<bool, AllocError> {
+    if from as usize >= yard.num_vertices() || to as usize >= yard.num_vertices() {
         return Ok(false);
     }
     let (from, to) = (
         FixedVertexHandle::from_index(from),
         FixedVertexHandle::from_index(to),
     );
-    if site.can_add_constraint(from, to, &ExactTests) {
-        site.add_constraint(from, to, &ExactTests)
+    if yard.can_add_constraint(from, to, &ExactTests) {
+        yard.add_constraint(from, to, &ExactTests)
     } else {
         Ok(false)
     }
 }
 
-fn build_all(rt: &HostRuntime, site: &mut Site) -> anyhow::Result<()> {
-    mark_corners(site)?;
+fn build_all(rt: &HostRuntime, yard: &mut Yard) -> anyhow::Result<()> {
+    mark_corners(yard)?;
     for (from, to) in WALLS {
-        let done = if build(site, from, to)? {
+        let done = if build(yard, from, to)? {
             "built"
         } else {
             "not built"
         };
         println!(rt; "wall from corner {from} to corner {to}: {done}")?;
     }
-    println!(rt; "{} walls", site.num_constraints())?;
+    println!(rt; "{} walls", yard.num_constraints())?;
     Ok(())
 }
 
@@ -117,32 +117,32 @@ fn tell_walls<M: ConstraintMarker<UE>, V: HasPosition, DE, UE, F, P: PlaneTests<
 }
 
 /// Tells what a way in range meets, and which walls it crosses.
-fn tell_way(rt: &HostRuntime, site: &Site, from: Point2<i64>, to: Point2<i64>) -> anyhow::Result<()>
+fn tell_way(rt: &HostRuntime, yard: &Yard, from: Point2<i64>, to: Point2<i64>) -> anyhow::Result<()>
     requires from { InRange (place_of (λ z. z) from) }
     requires to { InRange (place_of (λ z. z) to) }
 {
-    let mut line = LineIntersectionIterator::new(site, from, to, &ExactTests);
-    let mut walls = site.get_conflicting_edges_between_points(from, to, &ExactTests);
+    let mut line = LineIntersectionIterator::new(yard, from, to, &ExactTests);
+    let mut walls = yard.get_conflicting_edges_between_points(from, to, &ExactTests);
     tell_line(rt, &mut line)?;
     tell_walls(rt, &mut walls)
 }
 
-fn tell_ways(rt: &HostRuntime, site: &Site) -> anyhow::Result<()> {
+fn tell_ways(rt: &HostRuntime, yard: &Yard) -> anyhow::Result<()> {
     for (a, b, c, d) in WAYS {
         println!(rt; "from {a} {b} to {c} {d}:")?;
         let (from, to) = (Point2::new(a, b), Point2::new(c, d));
         if validate_vertex(&from).is_ok() && validate_vertex(&to).is_ok() {
-            tell_way(rt, site, from, to)?;
+            tell_way(rt, yard, from, to)?;
         }
     }
     Ok(())
 }
 
-fn patrol(rt: &HostRuntime, site: &mut Site) -> anyhow::Result<()> {
-    build_all(rt, site)?;
-    tell_ways(rt, site)
+fn patrol(rt: &HostRuntime, yard: &mut Yard) -> anyhow::Result<()> {
+    build_all(rt, yard)?;
+    tell_ways(rt, yard)
 }
 
 pub fn run(rt: &HostRuntime) -> anyhow::Result<()> {
-    patrol(rt, &mut Site::new(rt.alloc()))
+    patrol(rt, &mut Yard::new(rt.alloc()))
 }

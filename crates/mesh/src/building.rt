@@ -1,6 +1,6 @@
 //! The triangulation of a drawing, and what is told of it.
 use crate::crossings::{crossing_point, first_crossed};
-use crate::pieces::pieces_of;
+use crate::disjoint::disjoint_segments;
 use crate::splitting::{SplitMesh, split_scene};
 use anyhow::{anyhow, bail};
 use decimal_numbers::Decimal;
@@ -20,11 +20,11 @@ use std::fmt;
 /// What there is of a drawing beside its triangulation.
 #[derive(Clone, Copy)]
 pub struct DrawnLists<'a> {
-    /// Of each vertex the place of its point.
-    pub places: &'a [u32],
-    /// Of each segment whether it was taken.
-    pub taken: &'a [bool],
-    /// The faces that are kept, by the places of their corners.
+    /// Of each vertex the index of its point.
+    pub indexes: &'a [u32],
+    /// Of each segment whether it was added.
+    pub added: &'a [bool],
+    /// The faces that are kept, by the indexes of their corners.
     pub faces: &'a [[u32; 3]],
     /// The polygons that each of them is in, where the drawing has polygons.
     pub polygons: Option<FacePolygons<'a>>,
@@ -35,16 +35,16 @@ pub struct DrawnLists<'a> {
 impl<'a> DrawnLists<'a> {
     /// The lists of a drawing with polygons.
     pub fn with_polygons(
-        places: &'a [u32],
-        taken: &'a [bool],
+        indexes: &'a [u32],
+        added: &'a [bool],
         faces: &'a [[u32; 3]],
         polygons: FacePolygons<'a>,
         constraints: usize,
     ) -> DrawnLists<'a> {
         let polygons = Some(polygons);
         DrawnLists {
-            places,
-            taken,
+            indexes,
+            added,
             faces,
             polygons,
             constraints,
@@ -53,17 +53,17 @@ impl<'a> DrawnLists<'a> {
 }
 
 /// Where a segment stands in its file.
-fn segment_line(scene: &Scene, place: usize) -> FileLine {
-    match scene.drawing.segments.get(place) {
-        Some(segment) => segment.file_place(),
+fn segment_line(scene: &Scene, index: usize) -> FileLine {
+    match scene.drawing.segments.get(index) {
+        Some(segment) => segment.file_line(),
         None => FileLine::of_line(0),
     }
 }
 
 /// The name of a segment's file.
-fn segment_file<'a>(task: &Task<'a>, scene: &Scene, place: usize) -> &'a str {
+fn segment_file<'a>(task: &Task<'a>, scene: &Scene, index: usize) -> &'a str {
     match task.lines {
-        Some(lines) if place >= scene.own_segments => lines,
+        Some(lines) if index >= scene.own_segments => lines,
         _ => input_name(task),
     }
 }
@@ -72,7 +72,7 @@ fn segment_file<'a>(task: &Task<'a>, scene: &Scene, place: usize) -> &'a str {
 #[derive(Clone, Copy)]
 pub struct Crossing<'a> {
     file: &'a str,
-    place: FileLine,
+    file_line: FileLine,
     other: Option<(&'a str, FileLine)>,
     at: Option<[Decimal; 2]>,
 }
@@ -95,14 +95,14 @@ fn write_crossed<W: fmt::Write>(
 fn write_crossing<W: fmt::Write>(
     f: &mut fmt::Formatter<W>,
     file: &str,
-    place: FileLine,
+    file_line: FileLine,
 ) -> fmt::Result {
-    write!(f, "{file}: {place}: the segment crosses ")
+    write!(f, "{file}: {file_line}: the segment crosses ")
 }
 
 impl fmt::Display for Crossing<'_> {
     fn fmt<W: fmt::Write>(&self, f: &mut fmt::Formatter<W>) -> fmt::Result {
-        write_crossing(f, self.file, self.place)?;
+        write_crossing(f, self.file, self.file_line)?;
         match self.other {
             None => f.write_str("another")?,
             Some((file, other)) => write_crossed(f, self.file, file, other)?,
@@ -117,20 +117,20 @@ impl fmt::Display for Crossing<'_> {
     }
 }
 
-/// That a segment crosses one before it, by their places.
+/// That a segment crosses one before it, by their indexes.
 fn crossing_of<'a>(
     task: &Task<'a>,
     scene: &Scene,
-    place: usize,
+    index: usize,
     crossed: Option<usize>,
 ) -> Crossing<'a> {
     let at = match crossed {
-        Some(other) => crossing_point(scene, place, other),
+        Some(other) => crossing_point(scene, index, other),
         None => None,
     };
     Crossing {
-        file: segment_file(task, scene, place),
-        place: segment_line(scene, place),
+        file: segment_file(task, scene, index),
+        file_line: segment_line(scene, index),
         other: match crossed {
             Some(other) => Some((segment_file(task, scene, other), segment_line(scene, other))),
             None => None,
@@ -154,8 +154,8 @@ fn segments_of(drawing: &Drawing, alloc: Global) -> Result<Vec<DrawnSegment>, Al
     Ok(segments)
 }
 
-/// Segments between points by their places.
-fn sides_of(sides: &[[u32; 2]], alloc: Global) -> Result<Vec<DrawnSegment>, AllocError> {
+/// Segments between points by their indexes.
+fn segments_between(sides: &[[u32; 2]], alloc: Global) -> Result<Vec<DrawnSegment>, AllocError> {
     let mut segments = Vec::with_capacity(alloc, sides.len())?;
     for [from, to] in sides {
         segments.push(DrawnSegment {
@@ -191,7 +191,7 @@ pub fn drawn_sides(
         return Ok(Vec::new(alloc));
     }
     let sides = hole_sides(&scene.drawing, scene.scaled.points.as_slice(), alloc)?;
-    sides_of(sides.as_slice(), alloc)
+    segments_between(sides.as_slice(), alloc)
 }
 
 /// Tells that a segment was left out, or gives that as an error.
@@ -208,8 +208,8 @@ fn tell_crossings<T: Triangulation<Vertex = Point2<i32>>>(
     rt: &impl Eprint,
     task: &Task<'_>,
     scene: &Scene,
-    site: &T,
-    taken: &[bool],
+    triangulation: &T,
+    added: &[bool],
 ) -> anyhow::Result<()> {
     if task.crossing == CrossingRule::Split {
         return Ok(());
@@ -217,42 +217,42 @@ fn tell_crossings<T: Triangulation<Vertex = Point2<i32>>>(
     if task.crossing == CrossingRule::Skip && task.is_quiet {
         return Ok(());
     }
-    for (place, is_taken) in taken.iter().enumerate() {
-        if !*is_taken {
-            let crossed = first_crossed(scene, site, taken, place);
-            tell_crossing(rt, task, crossing_of(task, scene, place, crossed))?;
+    for (index, is_added) in added.iter().enumerate() {
+        if !*is_added {
+            let crossed = first_crossed(scene, triangulation, added, index);
+            tell_crossing(rt, task, crossing_of(task, scene, index, crossed))?;
         }
     }
     Ok(())
 }
 
-/// The place of the point of a vertex, by the places of all.
-pub fn point_place(places: &[u32], vertex: u32) -> u32 {
-    places.get(vertex as usize).copied().unwrap_or(u32::MAX)
+/// The index of the point of a vertex, by the indexes of all.
+pub fn point_index(indexes: &[u32], vertex: u32) -> u32 {
+    indexes.get(vertex as usize).copied().unwrap_or(u32::MAX)
 }
 
-/// The places of the ends of an edge's points.
-fn end_places<V, DE, UE, F>(
-    places: &[u32],
+/// The indexes of the ends of an edge's points.
+fn end_indexes<V, DE, UE, F>(
+    indexes: &[u32],
     edge: UndirectedEdgeHandle<'_, V, DE, UE, F>,
 ) -> [u32; 2] {
     let [a, b] = edge.vertices();
     [
-        point_place(places, a.fix().index()),
-        point_place(places, b.fix().index()),
+        point_index(indexes, a.fix().index()),
+        point_index(indexes, b.fix().index()),
     ]
 }
 
-/// The edges that are constraints, by the places of their ends.
+/// The edges that are constraints, by the indexes of their ends.
 fn constraint_ends<T: Triangulation<Vertex = Point2<i32>>>(
-    site: &T,
+    triangulation: &T,
     drawn: &DrawnLists<'_>,
     alloc: Global,
 ) -> Result<Vec<[u32; 2]>, AllocError> {
     let mut constraints = Vec::with_capacity(alloc, drawn.constraints)?;
-    for edge in site.undirected_edges() {
+    for edge in triangulation.undirected_edges() {
         if T::Constraints::is_constraint_edge(edge.data()) {
-            constraints.push(end_places(drawn.places, edge))?;
+            constraints.push(end_indexes(drawn.indexes, edge))?;
         }
     }
     Ok(constraints)
@@ -262,10 +262,10 @@ fn constraint_ends<T: Triangulation<Vertex = Point2<i32>>>(
 pub fn drawing_fault(task: &Task<'_>, drawing: &Drawing, error: DrawingError) -> anyhow::Error {
     let name = input_name(task);
     match error {
-        DrawingError::HoleTooLarge(place)
-        | DrawingError::HoleOnSegment(place)
-        | DrawingError::HoleInNoFace(place) => {
-            let line = match drawing.holes.get(place) {
+        DrawingError::HoleTooLarge(index)
+        | DrawingError::HoleOnSegment(index)
+        | DrawingError::HoleInNoFace(index) => {
+            let line = match drawing.holes.get(index) {
                 Some(spot) => spot.line,
                 None => 0,
             };
@@ -277,7 +277,7 @@ pub fn drawing_fault(task: &Task<'_>, drawing: &Drawing, error: DrawingError) ->
 
 /// Tells how many there are of each.
 fn tell_counts(rt: &impl Eprint, points: usize, drawn: &DrawnLists<'_>) {
-    let vertices = drawn.places.len();
+    let vertices = drawn.indexes.len();
     if vertices < points {
         let repeated = points.saturating_sub(vertices);
         let _ = eprintln!(rt;
@@ -313,27 +313,27 @@ fn triangulate_segments(
     }
 }
 
-/// Whether all segments of a drawing were taken.
+/// Whether all segments of a drawing were added.
 fn are_all_taken(drawn: &DrawnMesh) -> bool {
-    drawn.taken.iter().all(|is_taken| *is_taken)
+    drawn.added.iter().all(|is_added| *is_added)
 }
 
 /// The triangulation of a drawing, with the faces that are kept. Segments that overlap become
-/// pieces that do not, if all of these can be taken: else each walks over all that it covers.
+/// segments that do not, if all of these can be added: else each walks over all that it covers.
 fn triangulate_scene(task: &Task<'_>, scene: &Scene, alloc: Global) -> anyhow::Result<DrawnMesh> {
     let segments = segments_of(&scene.drawing, alloc)?;
     let sides = drawn_sides(task, scene, alloc)?;
     let points = scene.scaled.points.as_slice();
-    if let Some(pieces) = pieces_of(points, segments.as_slice(), alloc)? {
+    if let Some(disjoint) = disjoint_segments(points, segments.as_slice(), alloc)? {
         let mut drawn = triangulate_segments(
             task,
             scene,
-            pieces.as_slice(),
+            disjoint.as_slice(),
             sides.as_slice(),
             alloc,
         )?;
         if are_all_taken(&drawn) {
-            drawn.taken = Vec::from_elem(alloc, true, segments.len())?;
+            drawn.added = Vec::from_elem(alloc, true, segments.len())?;
             return Ok(drawn);
         }
     }
@@ -372,12 +372,12 @@ pub fn needs_polygons(task: &Task<'_>, scene: &Scene) -> bool {
 fn first_crossing<'a, T: Triangulation<Vertex = Point2<i32>>>(
     task: &Task<'a>,
     scene: &Scene,
-    site: &T,
-    taken: &[bool],
+    triangulation: &T,
+    added: &[bool],
 ) -> Option<Crossing<'a>> {
-    let place = taken.iter().position(|is_taken| !*is_taken)?;
-    let crossed = first_crossed(scene, site, taken, place);
-    Some(crossing_of(task, scene, place, crossed))
+    let index = added.iter().position(|is_added| !*is_added)?;
+    let crossed = first_crossed(scene, triangulation, added, index);
+    Some(crossing_of(task, scene, index, crossed))
 }
 
 /// Splits the segments that cross, where that is asked for, tells how many times and how far that
@@ -386,18 +386,18 @@ pub fn split_crossing<T: Replayable<Vertex = Point2<i32>>>(
     rt: &HostRuntime,
     task: &Task<'_>,
     scene: &mut Scene,
-    site: &mut T,
+    triangulation: &mut T,
     names: &mut Vec<u32>,
-    taken: &[bool],
+    added: &[bool],
 ) -> anyhow::Result<Option<SplitMesh>> {
-    site.recall_invariant();
+    triangulation.recall_invariant();
     if task.crossing != CrossingRule::Split {
         return Ok(None);
     }
-    let Some(crossing) = first_crossing(task, scene, site, taken) else {
+    let Some(crossing) = first_crossing(task, scene, triangulation, added) else {
         return Ok(None);
     };
-    let split = split_scene(task, scene, site, names, taken, rt.alloc())?;
+    let split = split_scene(task, scene, triangulation, names, added, rt.alloc())?;
     if !task.is_quiet {
         let (count, largest) = (split.count, split.largest(scene.scaled.x_scale.digits));
         let _ = eprintln!(rt;
@@ -412,29 +412,29 @@ pub fn tell_drawn<T: Triangulation<Vertex = Point2<i32>>>(
     rt: &impl Eprint,
     task: &Task<'_>,
     scene: &Scene,
-    site: &T,
+    triangulation: &T,
     drawn: &DrawnLists<'_>,
 ) -> anyhow::Result<()> {
-    tell_crossings(rt, task, scene, site, drawn.taken)?;
+    tell_crossings(rt, task, scene, triangulation, drawn.added)?;
     if !task.is_quiet {
         tell_counts(rt, scene.scaled.points.len(), drawn);
     }
     Ok(())
 }
 
-/// The places of the points of vertices, in order.
-fn written_places(places: &[u32], alloc: Global) -> Result<Vec<u32>, AllocError> {
-    let mut written = Vec::with_capacity(alloc, places.len())?;
-    written.extend_from_slice(places)?;
+/// The indexes of the points of vertices, in order.
+fn written_indexes(indexes: &[u32], alloc: Global) -> Result<Vec<u32>, AllocError> {
+    let mut written = Vec::with_capacity(alloc, indexes.len())?;
+    written.extend_from_slice(indexes)?;
     written.sort()?;
     Ok(written)
 }
 
-/// Of each of so many points how many come before it of those at these places.
+/// Of each of so many points how many come before it of those at these indexes.
 fn ranks_of(written: &[u32], points: usize, alloc: Global) -> Result<Vec<u32>, AllocError> {
     let mut ranks = Vec::from_elem(alloc, 0, points)?;
-    for (rank, place) in written.iter().enumerate() {
-        if let Some(entry) = ranks.get_mut(*place as usize) {
+    for (rank, index) in written.iter().enumerate() {
+        if let Some(entry) = ranks.get_mut(*index as usize) {
             *entry = u32::try_from(rank).unwrap_or(u32::MAX);
         }
     }
@@ -446,14 +446,14 @@ pub fn write_triangulated<T: Triangulation<Vertex = Point2<i32>>>(
     rt: &HostRuntime,
     task: &Task<'_>,
     scene: &Scene,
-    site: &T,
+    triangulation: &T,
     drawn: &DrawnLists<'_>,
 ) -> anyhow::Result<()> {
-    let constraints = constraint_ends(site, drawn, rt.alloc())?;
-    let written = written_places(drawn.places, rt.alloc())?;
+    let constraints = constraint_ends(triangulation, drawn, rt.alloc())?;
+    let written = written_indexes(drawn.indexes, rt.alloc())?;
     let ranks = ranks_of(written.as_slice(), scene.scaled.points.len(), rt.alloc())?;
     let points = WrittenPoints {
-        places: written.as_slice(),
+        indexes: written.as_slice(),
         ranks: ranks.as_slice(),
     };
     let text = MeshText {

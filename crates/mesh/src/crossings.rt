@@ -14,9 +14,9 @@ struct SegmentEnds {
     to: Point2<i32>,
 }
 
-/// The ends of a drawing's segment, by its place in the list.
-fn segment_ends(scene: &Scene, place: usize) -> Option<SegmentEnds> {
-    let segment = scene.drawing.segments.get(place)?;
+/// The ends of a drawing's segment, by its index in the list.
+fn segment_ends(scene: &Scene, index: usize) -> Option<SegmentEnds> {
+    let segment = scene.drawing.segments.get(index)?;
     Some(SegmentEnds {
         from: *scene.scaled.points.get(segment.from as usize)?,
         to: *scene.scaled.points.get(segment.to as usize)?,
@@ -31,7 +31,7 @@ fn are_parted(ends: SegmentEnds, by: SegmentEnds) -> bool {
 }
 
 /// The coordinate at a part of the way from one to another, if it is whole.
-fn part_way(from: i32, to: i32, part: i64, whole: i64) -> Option<i32> {
+fn exact_part(from: i32, to: i32, part: i64, whole: i64) -> Option<i32> {
     let way = i128::from(to).wrapping_sub(i128::from(from));
     let product = way.wrapping_mul(i128::from(part));
     if product.checked_rem(i128::from(whole))? != 0 {
@@ -46,8 +46,8 @@ fn meeting_point(one: SegmentEnds, two: SegmentEnds) -> Option<Point2<i32>> {
     let before = turned_area(two.from, two.to, one.from);
     let behind = turned_area(two.from, two.to, one.to);
     let whole = before.wrapping_sub(behind);
-    let x = part_way(one.from.x, one.to.x, before, whole)?;
-    let y = part_way(one.from.y, one.to.y, before, whole)?;
+    let x = exact_part(one.from.x, one.to.x, before, whole)?;
+    let y = exact_part(one.from.y, one.to.y, before, whole)?;
     Some(Point2::new(x, y))
 }
 
@@ -62,9 +62,9 @@ fn nearest_part(from: i32, to: i32, part: i64, whole: i64) -> Option<i32> {
     i32::try_from(moved.wrapping_add(i128::from(from))).ok()
 }
 
-/// The whole coordinates nearest to where two segments of a drawing cross, by their places.
-pub fn crossing_point(scene: &Scene, place: usize, other: usize) -> Option<Point2<i32>> {
-    let (one, two) = (segment_ends(scene, place)?, segment_ends(scene, other)?);
+/// The whole coordinates nearest to where two segments of a drawing cross, by their indexes.
+pub fn crossing_point(scene: &Scene, index: usize, other: usize) -> Option<Point2<i32>> {
+    let (one, two) = (segment_ends(scene, index)?, segment_ends(scene, other)?);
     let before = turned_area(two.from, two.to, one.from);
     let behind = turned_area(two.from, two.to, one.to);
     let (part, whole) = if before < behind {
@@ -78,11 +78,11 @@ pub fn crossing_point(scene: &Scene, place: usize, other: usize) -> Option<Point
 
 /// Whether two segments that cross meet in a point of the drawing, where both are cut.
 fn meet_in_vertex<T: Triangulation<Vertex = Point2<i32>>>(
-    site: &T,
+    triangulation: &T,
     one: SegmentEnds,
     two: SegmentEnds,
 ) -> bool {
-    site.recall_invariant();
+    triangulation.recall_invariant();
     let Some(point) = meeting_point(one, two) else {
         return false;
     };
@@ -90,33 +90,33 @@ fn meet_in_vertex<T: Triangulation<Vertex = Point2<i32>>>(
         return false;
     }
     matches!(
-        site.locate(point, &ExactTests),
+        triangulation.locate(point, &ExactTests),
         PositionInTriangulation::OnVertex(_)
     )
 }
 
 /// Whether one segment is in the way of another: they cross where no point of the drawing is.
 fn is_in_way<T: Triangulation<Vertex = Point2<i32>>>(
-    site: &T,
+    triangulation: &T,
     one: SegmentEnds,
     two: SegmentEnds,
 ) -> bool {
-    are_parted(one, two) && are_parted(two, one) && !meet_in_vertex(site, one, two)
+    are_parted(one, two) && are_parted(two, one) && !meet_in_vertex(triangulation, one, two)
 }
 
-/// The place of the first segment that was taken and is in the way of a later one.
+/// The index of the first segment that was added and is in the way of a later one.
 pub fn first_crossed<T: Triangulation<Vertex = Point2<i32>>>(
     scene: &Scene,
-    site: &T,
-    taken: &[bool],
-    place: usize,
+    triangulation: &T,
+    added: &[bool],
+    index: usize,
 ) -> Option<usize> {
-    let ends = segment_ends(scene, place)?;
-    for i in 0..place {
-        if !taken.get(i).copied().unwrap_or(false) {
+    let ends = segment_ends(scene, index)?;
+    for i in 0..index {
+        if !added.get(i).copied().unwrap_or(false) {
             continue;
         }
-        if is_in_way(site, ends, segment_ends(scene, i)?) {
+        if is_in_way(triangulation, ends, segment_ends(scene, i)?) {
             return Some(i);
         }
     }

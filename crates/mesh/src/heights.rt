@@ -5,7 +5,7 @@ use mesh_files::Drawing;
 /// A point with its weight among others.
 #[derive(Clone, Copy)]
 pub struct Weighed {
-    pub place: u32,
+    pub index: u32,
     pub weight: i64,
 }
 
@@ -18,16 +18,16 @@ fn thousandths(number: u128, by: u128) -> Option<u64> {
     u64::try_from((number / by).checked_mul(1000)?.checked_add(rest)?).ok()
 }
 
-/// The height of the point at a place, if it has one.
-pub fn height_at(drawing: &Drawing, place: u32) -> Option<Decimal> {
-    Some(drawing.height(place as usize)?.decimal)
+/// The height of the point at an index, if it has one.
+pub fn height_at(drawing: &Drawing, index: u32) -> Option<Decimal> {
+    Some(drawing.height(index as usize)?.decimal)
 }
 
 /// The most digits behind the point of the heights of points.
 fn height_digits(drawing: &Drawing, points: &[Weighed]) -> Option<u32> {
     let mut digits = 0;
     for point in points {
-        digits = digits.max(height_at(drawing, point.place)?.digits);
+        digits = digits.max(height_at(drawing, point.index)?.digits);
     }
     Some(digits)
 }
@@ -38,7 +38,7 @@ pub fn height_of(drawing: &Drawing, points: &[Weighed]) -> Option<Decimal> {
     let digits = height_digits(drawing, points)?;
     let (mut sum, mut weights) = (0i128, 0i128);
     for point in points {
-        let units = height_at(drawing, point.place)?.times_power(digits).ok()?;
+        let units = height_at(drawing, point.index)?.times_power(digits).ok()?;
         let weight = i128::from(point.weight);
         sum = sum.wrapping_add(i128::from(units).wrapping_mul(weight));
         weights = weights.wrapping_add(weight);

@@ -1,5 +1,5 @@
 //! Which faces are kept, by their corners, and the polygons that they are in.
-use crate::building::{DrawnLists, point_place};
+use crate::building::{DrawnLists, point_index};
 use half_edge_dcel::{DirectedEdgeHandle, VertexHandle};
 use mesh_io::{KeepRule, Task};
 use std::alloc::{AllocError, Global};
@@ -44,8 +44,8 @@ impl<'a> KeptFaces<'a> {
         let is_part = task.keep != KeepRule::All;
         let mut keys = Vec::new(alloc);
         if is_part || drawn.polygons.is_some() {
-            for (place, face) in drawn.faces.iter().enumerate() {
-                keys.push(key_of(*face, u32::try_from(place).unwrap_or(u32::MAX)))?;
+            for (index, face) in drawn.faces.iter().enumerate() {
+                keys.push(key_of(*face, u32::try_from(index).unwrap_or(u32::MAX)))?;
             }
             keys.sort()?;
         }
@@ -56,13 +56,13 @@ impl<'a> KeptFaces<'a> {
         })
     }
 
-    /// Which of the list a face is, by the places of its corners.
+    /// Which of the list a face is, by the indexes of its corners.
     fn find(&self, corners: [u32; 3]) -> Option<usize> {
         let wanted = key_of(corners, 0);
-        let place = match self.keys.binary_search(&wanted) {
-            Ok(place) | Err(place) => place,
+        let index = match self.keys.binary_search(&wanted) {
+            Ok(index) | Err(index) => index,
         };
-        let key = self.keys.get(place)?;
+        let key = self.keys.get(index)?;
         if key.a == wanted.a && key.b == wanted.b && key.c == wanted.c {
             Some(key.face as usize)
         } else {
@@ -81,9 +81,9 @@ impl<'a> KeptFaces<'a> {
         Ok(true)
     }
 
-    /// The place of a vertex's point.
-    fn place_of<V, DE, UE, F>(&self, vertex: VertexHandle<'_, V, DE, UE, F>) -> u32 {
-        point_place(self.drawn.places, vertex.fix().index())
+    /// The index of a vertex's point.
+    fn index_of<V, DE, UE, F>(&self, vertex: VertexHandle<'_, V, DE, UE, F>) -> u32 {
+        point_index(self.drawn.indexes, vertex.fix().index())
     }
 
     /// The corners of the face on the left of an edge, if one is there.
@@ -93,7 +93,7 @@ impl<'a> KeptFaces<'a> {
     ) -> Option<[u32; 3]> {
         let third = edge.opposite_vertex()?;
         let [from, to] = edge.vertices();
-        Some([self.place_of(from), self.place_of(to), self.place_of(third)])
+        Some([self.index_of(from), self.index_of(to), self.index_of(third)])
     }
 
     /// Adds the polygons of the face on the left of an edge, and tells whether it is kept.

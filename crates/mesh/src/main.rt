@@ -5,13 +5,13 @@
 mod areas;
 mod building;
 mod crossings;
+mod disjoint;
 mod heights;
 mod kept;
+mod locations;
 mod nearest;
 mod overlaps;
 mod paths;
-mod pieces;
-mod places;
 mod polygons;
 mod splitting;
 mod way;
@@ -23,10 +23,10 @@ use crate::building::{
     write_triangulated,
 };
 use crate::kept::KeptFaces;
+use crate::locations::tell_locations;
 use crate::nearest::tell_nearest;
 use crate::overlaps::tell_overlaps;
 use crate::paths::Turn;
-use crate::places::tell_places;
 use crate::polygons::polygon_lists;
 use crate::splitting::SplitMesh;
 use crate::way::tell_way;
@@ -43,7 +43,7 @@ fn answer_question<T: Triangulation<Vertex = Point2<i32>>>(
     task: &Task<'_>,
     question: Question<'_>,
     scene: &Scene,
-    site: &T,
+    triangulation: &T,
     drawn: &DrawnLists<'_>,
 ) -> anyhow::Result<()> {
     if let Question::Nearest(_) = question {
@@ -53,13 +53,13 @@ fn answer_question<T: Triangulation<Vertex = Point2<i32>>>(
         return tell_overlaps(rt, task.is_quiet, scene, drawn);
     }
     if let Question::Way(_) = question {
-        return tell_way_between(rt, task, scene, site, drawn);
+        return tell_way_between(rt, task, scene, triangulation, drawn);
     }
     let kept = KeptFaces::of(task, drawn, rt.alloc())?;
     if let Question::Line(_) = question {
-        return tell_way(rt, scene, site, &kept);
+        return tell_way(rt, scene, triangulation, &kept);
     }
-    tell_places(rt, scene, site, &kept)
+    tell_locations(rt, scene, triangulation, &kept)
 }
 
 /// Tells what is to be told of a triangulation, answers the question, and writes the mesh: where
@@ -68,18 +68,18 @@ fn tell_and_write<T: Triangulation<Vertex = Point2<i32>>>(
     rt: &HostRuntime,
     task: &Task<'_>,
     scene: &Scene,
-    site: &T,
+    triangulation: &T,
     drawn: &DrawnLists<'_>,
 ) -> anyhow::Result<()> {
-    tell_drawn(rt, task, scene, site, drawn)?;
+    tell_drawn(rt, task, scene, triangulation, drawn)?;
     if let Some(question) = task.question {
-        answer_question(rt, task, question, scene, site, drawn)?;
+        answer_question(rt, task, question, scene, triangulation, drawn)?;
         if task.output.is_none() {
             return Ok(());
         }
     }
     tell_step(rt, task, scene.scaled.points.len(), "writing");
-    write_triangulated(rt, task, scene, site, drawn)
+    write_triangulated(rt, task, scene, triangulation, drawn)
 }
 
 /// Keeps the faces in polygons, where that is asked for, and tells and writes what is asked for.
@@ -87,25 +87,25 @@ fn keep_and_write<T: Triangulation<Vertex = Point2<i32>>>(
     rt: &HostRuntime,
     task: &Task<'_>,
     scene: &Scene,
-    site: &T,
+    triangulation: &T,
     drawn: &DrawnLists<'_>,
     turns: &[Turn],
 ) -> anyhow::Result<()> {
     if !needs_polygons(task, scene) {
-        return tell_and_write(rt, task, scene, site, drawn);
+        return tell_and_write(rt, task, scene, triangulation, drawn);
     }
     let alloc = rt.alloc();
-    let (places, taken, constraints) = (drawn.places, drawn.taken, drawn.constraints);
-    let lists = polygon_lists(scene, site, places, turns, drawn.faces, alloc)?;
+    let (indexes, added, constraints) = (drawn.indexes, drawn.added, drawn.constraints);
+    let lists = polygon_lists(scene, triangulation, indexes, turns, drawn.faces, alloc)?;
     if task.keep != KeepRule::Inside {
         let polygons = lists.lists(&scene.records);
-        let drawn = DrawnLists::with_polygons(places, taken, drawn.faces, polygons, constraints);
-        return tell_and_write(rt, task, scene, site, &drawn);
+        let drawn = DrawnLists::with_polygons(indexes, added, drawn.faces, polygons, constraints);
+        return tell_and_write(rt, task, scene, triangulation, &drawn);
     }
     let (faces, lists) = lists.within(drawn.faces, alloc)?;
     let polygons = lists.lists(&scene.records);
-    let drawn = DrawnLists::with_polygons(places, taken, faces.as_slice(), polygons, constraints);
-    tell_and_write(rt, task, scene, site, &drawn)
+    let drawn = DrawnLists::with_polygons(indexes, added, faces.as_slice(), polygons, constraints);
+    tell_and_write(rt, task, scene, triangulation, &drawn)
 }
 
 /// The faces that are kept, and by which vertices segments go: those after a split, if there was
@@ -128,19 +128,19 @@ fn build_and_write(rt: &HostRuntime, task: &Task<'_>, scene: &mut Scene) -> anyh
         rt,
         task,
         scene,
-        &mut drawn.site,
+        &mut drawn.triangulation,
         &mut drawn.vertices,
-        drawn.taken.as_slice(),
+        drawn.added.as_slice(),
     )?;
     let (faces, turns) = kept_lists(drawn.faces.as_slice(), &split);
     let lists = DrawnLists {
-        places: drawn.vertices.as_slice(),
-        taken: drawn.taken.as_slice(),
+        indexes: drawn.vertices.as_slice(),
+        added: drawn.added.as_slice(),
         faces,
         polygons: None,
-        constraints: drawn.site.num_constraints(),
+        constraints: drawn.triangulation.num_constraints(),
     };
-    keep_and_write(rt, task, scene, &drawn.site, &lists, turns)
+    keep_and_write(rt, task, scene, &drawn.triangulation, &lists, turns)
 }
 
 /// Does what a task asks for. Which point is nearest does not depend on the segments.

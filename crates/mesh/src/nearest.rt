@@ -1,12 +1,12 @@
 //! Which point of a drawing is nearest to each that is asked about.
-use crate::building::point_place;
+use crate::building::point_index;
 use crate::wide::{push_wide, thousandths_of_root};
 use anyhow::Context;
 use delaunay_core::HintGenerator;
 use delaunay_core::math::validate_vertex;
 use delaunay_core::point::Point2;
 use delaunay_interface::{DelaunayTriangulation, Triangulation};
-use drawing_faces::place_points;
+use drawing_faces::triangulate_points;
 use exact_predicates::ExactTests;
 use half_edge_dcel::VertexHandle;
 use mesh_files::{Asked, Drawing, Named, Number, Spot};
@@ -15,10 +15,10 @@ use std::alloc::{AllocError, Global};
 use std::io;
 use std::io::{BufWriter, Write};
 
-/// A point by its place, and the square of how far it is.
+/// A point by its index, and the square of how far it is.
 #[derive(Clone, Copy)]
 struct NearestPoint {
-    place: u32,
+    index: u32,
     squared: u128,
 }
 
@@ -80,7 +80,7 @@ fn nearer_neighbour<'a, DE, UE, F>(
 /// nearer, from that on which is nearest to the range's nearest point.
 fn nearest_to<DE, UE, F, L: HintGenerator<i32>>(
     plain: &DelaunayTriangulation<Point2<i32>, DE, UE, F, L>,
-    places: &[u32],
+    indexes: &[u32],
     asked: WidePoint,
 ) -> Option<NearestPoint> {
     let point = asked.in_range();
@@ -88,14 +88,14 @@ fn nearest_to<DE, UE, F, L: HintGenerator<i32>>(
         return None;
     }
     let mut vertex = plain.nearest_neighbor(point, &ExactTests)?;
-    for _ in 0..places.len() {
+    for _ in 0..indexes.len() {
         let Some(nearer) = nearer_neighbour(vertex, asked) else {
             break;
         };
         vertex = nearer;
     }
     Some(NearestPoint {
-        place: point_place(places, vertex.fix().index()),
+        index: point_index(indexes, vertex.fix().index()),
         squared: asked.squared_distance(*vertex.data()),
     })
 }
@@ -109,7 +109,7 @@ fn push_nearest(
     let Some(nearest) = nearest else {
         return line.push_str(",,");
     };
-    let number = u64::from(nearest.place) + 1;
+    let number = u64::from(nearest.index) + 1;
     write!(line, "{number},")?;
     let distance = thousandths_of_root(nearest.squared);
     push_wide(line, distance, digits.saturating_add(3))?;
@@ -132,7 +132,7 @@ fn wide_point(asked: Asked) -> Option<WidePoint> {
 /// What an answer names: the nearest point, if there is one.
 fn named(nearest: Option<NearestPoint>) -> Named<'static> {
     match nearest {
-        Some(nearest) => Named::Point(nearest.place),
+        Some(nearest) => Named::Point(nearest.index),
         None => Named::Nothing,
     }
 }
@@ -143,12 +143,12 @@ fn push_answer<DE, UE, F, L: HintGenerator<i32>>(
     line: &mut String,
     scene: &Scene,
     plain: &DelaunayTriangulation<Point2<i32>, DE, UE, F, L>,
-    places: &[u32],
+    indexes: &[u32],
     asked: Asked,
 ) -> Result<(), AllocError> {
     let mut nearest = None;
     if let Some(point) = wide_point(asked) {
-        nearest = nearest_to(plain, places, point);
+        nearest = nearest_to(plain, indexes, point);
         push_nearest(line, scene.scaled.x_scale.digits, nearest)?;
     } else {
         line.push_str("too far,,")?;
@@ -163,7 +163,7 @@ fn write_nearest<W: Write, DE, UE, F, L: HintGenerator<i32>>(
     writer: &mut W,
     scene: &Scene,
     plain: &DelaunayTriangulation<Point2<i32>, DE, UE, F, L>,
-    places: &[u32],
+    indexes: &[u32],
     alloc: Global,
 ) -> io::Result<()> {
     let mut line = String::new(alloc);
@@ -174,7 +174,7 @@ fn write_nearest<W: Write, DE, UE, F, L: HintGenerator<i32>>(
     for (spot, point) in scene.asked.spots.iter().zip(&scene.asked_points) {
         line.clear();
         push_spot(&mut line, &scene.asked, spot)?;
-        push_answer(&mut line, scene, plain, places, *point)?;
+        push_answer(&mut line, scene, plain, indexes, *point)?;
         writer.write_all(line.as_bytes())?;
     }
     writer.flush()
@@ -185,14 +185,19 @@ fn tell_nearest_of<DE, UE, F, L: HintGenerator<i32>>(
     rt: &HostRuntime,
     scene: &Scene,
     plain: &DelaunayTriangulation<Point2<i32>, DE, UE, F, L>,
-    places: &[u32],
+    indexes: &[u32],
 ) -> anyhow::Result<()> {
     let mut writer = BufWriter::new(rt.alloc(), io::writer(rt))?;
-    write_nearest(&mut writer, scene, plain, places, rt.alloc()).context("standard output")
+    write_nearest(&mut writer, scene, plain, indexes, rt.alloc()).context("standard output")
 }
 
 /// Tells which point is nearest to each that is asked about.
 pub fn tell_nearest(rt: &HostRuntime, scene: &Scene) -> anyhow::Result<()> {
-    let placed = place_points(scene.scaled.points.as_slice(), rt.alloc())?;
-    tell_nearest_of(rt, scene, &placed.plain, placed.vertices.as_slice())
+    let triangulated = triangulate_points(scene.scaled.points.as_slice(), rt.alloc())?;
+    tell_nearest_of(
+        rt,
+        scene,
+        &triangulated.plain,
+        triangulated.vertices.as_slice(),
+    )
 }

@@ -51,9 +51,9 @@ impl Search {
     }
 }
 
-/// The point of a place.
-fn point_at(scene: &Scene, place: u32) -> Point2<i32> {
-    match scene.scaled.points.get(place as usize) {
+/// The point at an index.
+fn point_at(scene: &Scene, index: u32) -> Point2<i32> {
+    match scene.scaled.points.get(index as usize) {
         Some(point) => *point,
         None => Point2::new(0, 0),
     }

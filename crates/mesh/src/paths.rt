@@ -61,10 +61,10 @@ fn last_turn(turns: &[Turn], from: u32, to: u32) -> Option<u32> {
         split: usize::MAX,
         by: u32::MAX,
     };
-    let place = match turns.binary_search(&behind) {
-        Ok(place) | Err(place) => place,
+    let index = match turns.binary_search(&behind) {
+        Ok(index) | Err(index) => index,
     };
-    let turn = turns.get(place.checked_sub(1)?)?;
+    let turn = turns.get(index.checked_sub(1)?)?;
     if turn.from == from && turn.to == to {
         Some(turn.by)
     } else {
@@ -81,14 +81,14 @@ struct Passed {
 
 /// The vertices on the straight way from one vertex to another, from the first to the last.
 fn passed_between<T: Triangulation<Vertex = Point2<i32>>>(
-    site: &T,
+    triangulation: &T,
     from: u32,
     to: u32,
     alloc: Global,
 ) -> Result<Vec<Passed>, AllocError> {
-    site.recall_invariant();
+    triangulation.recall_invariant();
     let mut passed = Vec::new(alloc);
-    let count = site.num_vertices();
+    let count = triangulation.num_vertices();
     if from as usize >= count || to as usize >= count {
         return Ok(passed);
     }
@@ -97,7 +97,7 @@ fn passed_between<T: Triangulation<Vertex = Point2<i32>>>(
         FixedVertexHandle::from_index(to),
     );
     let mut is_joined = false;
-    for met in LineIntersectionIterator::new_from_handles(site, from, to, &ExactTests) {
+    for met in LineIntersectionIterator::new_from_handles(triangulation, from, to, &ExactTests) {
         match met {
             Intersection::EdgeOverlap(edge) => {
                 is_joined = T::Constraints::is_constraint_edge(edge.as_undirected().data());
@@ -133,14 +133,14 @@ fn add_parts(passed: &[Passed], due: &mut Vec<[u32; 2]>) -> Result<(), AllocErro
 /// Follows a segment: what constraints join goes to the path, and its parts are to be followed
 /// where it was split. It goes to the path straight where no constraints are known.
 fn follow<T: Triangulation<Vertex = Point2<i32>>>(
-    site: &T,
+    triangulation: &T,
     turns: &[Turn],
     [from, to]: [u32; 2],
     path: &mut Vec<u32>,
     due: &mut Vec<[u32; 2]>,
     alloc: Global,
 ) -> Result<(), AllocError> {
-    let passed = passed_between(site, from, to, alloc)?;
+    let passed = passed_between(triangulation, from, to, alloc)?;
     if are_joined(passed.as_slice()) {
         for one in passed.iter().skip(1) {
             path.push(one.vertex)?;
@@ -158,7 +158,7 @@ fn follow<T: Triangulation<Vertex = Point2<i32>>>(
 
 /// The path of constraints that a segment between two vertices became, by its vertices.
 pub fn path_between<T: Triangulation<Vertex = Point2<i32>>>(
-    site: &T,
+    triangulation: &T,
     turns: &[Turn],
     ends: [u32; 2],
     alloc: Global,
@@ -173,7 +173,7 @@ pub fn path_between<T: Triangulation<Vertex = Point2<i32>>>(
         let Some(part) = due.pop() else {
             break;
         };
-        follow(site, turns, part, &mut path, &mut due, alloc)?;
+        follow(triangulation, turns, part, &mut path, &mut due, alloc)?;
     }
     Ok(path)
 }

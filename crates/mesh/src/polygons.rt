@@ -1,6 +1,6 @@
-//! Which polygons of a drawing each face is in: those that an inner point of it is in, by the parity
-//! of their sides; or which regions, where it has none but regions.
-use crate::building::point_place;
+//! Which polygons of a drawing each face is in, by the even-odd rule; or which regions, where it
+//! has none but regions.
+use crate::building::point_index;
 use crate::paths::{Turn, path_between};
 use crate::splitting::point_vertices;
 use delaunay_core::math::validate_vertex;
@@ -8,8 +8,10 @@ use delaunay_core::point::Point2;
 use delaunay_interface::Triangulation;
 use delaunay_legalization::ConstraintMarker;
 use delaunay_location::PositionInTriangulation;
+use drawing_faces::{Borders, PolygonsOfFaces, polygons_of_faces};
 use exact_predicates::ExactTests;
 use half_edge_dcel::DirectedEdgeHandle;
+use half_edge_links::{FixedUndirectedEdgeHandle, FixedVertexHandle};
 use mesh_files::{Asked, Drawing, FacePolygons, Records, Ring};
 use mesh_io::Scene;
 use std::alloc::{AllocError, Global};
@@ -49,7 +51,7 @@ impl FaceSide {
     }
 }
 
-/// Faces by the places of their corners, and what is next to them.
+/// Faces by the indexes of their corners, and what is next to them.
 #[derive(Drop)]
 struct FaceMap<'a> {
     points: &'a [Point2<i32>],
@@ -61,10 +63,10 @@ struct FaceMap<'a> {
 }
 
 /// The sides of all faces, in order.
-fn sides_of(faces: &[[u32; 3]], alloc: Global) -> Result<Vec<FaceSide>, AllocError> {
+fn face_sides(faces: &[[u32; 3]], alloc: Global) -> Result<Vec<FaceSide>, AllocError> {
     let mut sides = Vec::new(alloc);
-    for (place, [a, b, c]) in faces.iter().enumerate() {
-        let face = u32::try_from(place).unwrap_or(NO_FACE);
+    for (index, [a, b, c]) in faces.iter().enumerate() {
+        let face = u32::try_from(index).unwrap_or(NO_FACE);
         sides.push(FaceSide::new(*a, *b, face, 0))?;
         sides.push(FaceSide::new(*b, *c, face, 1))?;
         sides.push(FaceSide::new(*c, *a, face, 2))?;
@@ -91,7 +93,7 @@ fn across_of(sides: &[FaceSide], alloc: Global) -> Result<Vec<u32>, AllocError> 
 
 /// Of each side of each face the face on its other side.
 pub fn across_faces(faces: &[[u32; 3]], alloc: Global) -> Result<Vec<u32>, AllocError> {
-    let sides = sides_of(faces, alloc)?;
+    let sides = face_sides(faces, alloc)?;
     across_of(sides.as_slice(), alloc)
 }
 
@@ -100,7 +102,7 @@ impl FaceMap<'_> {
     fn beside(&self, [from, to]: [u32; 2]) -> &[FaceSide] {
         let least = FaceSide::new(from, to, 0, 0);
         let start = match self.sides.binary_search(&least) {
-            Ok(place) | Err(place) => place,
+            Ok(index) | Err(index) => index,
         };
         let behind = self.sides.get(start..).unwrap_or(&[]);
         let mut count = 0usize;
@@ -114,8 +116,8 @@ impl FaceMap<'_> {
     }
 
     /// Three times the coordinates of a point.
-    fn tripled(&self, place: u32) -> (i128, i128) {
-        match self.points.get(place as usize) {
+    fn tripled(&self, index: u32) -> (i128, i128) {
+        match self.points.get(index as usize) {
             Some(point) => (
                 i128::from(point.x).wrapping_mul(3),
                 i128::from(point.y).wrapping_mul(3),
@@ -181,13 +183,24 @@ struct Search {
     found: Vec<Found>,
 }
 
-/// A polygon: its number, its order, and its sides, of which those come next to one another that
-/// have the same ends.
+/// A polygon: its number, its order, its sides, and the edges that sides are.
 #[derive(Drop)]
 struct Polygon {
     number: u32,
     order: u32,
     sides: Vec<[u32; 2]>,
+    edges: Vec<FixedUndirectedEdgeHandle>,
+}
+
+impl Polygon {
+    fn new(alloc: Global) -> Self {
+        Polygon {
+            number: 0,
+            order: 0,
+            sides: Vec::new(alloc),
+            edges: Vec::new(alloc),
+        }
+    }
 }
 
 impl Search {
@@ -223,22 +236,15 @@ impl Search {
         Ok(())
     }
 
-    /// Marks the edges that are sides of a polygon an odd number of times, and tells whether all
-    /// sides are edges.
-    fn mark(&mut self, map: &FaceMap<'_>, polygon: &Polygon) -> bool {
-        let mut all = true;
-        for (i, side) in polygon.sides.iter().enumerate() {
-            let beside = map.beside(*side);
-            all = all && !beside.is_empty();
-            let is_first = i == 0 || polygon.sides.get(i.saturating_sub(1)) != Some(side);
-            for one in beside {
+    /// Marks the edges that are sides of a region.
+    fn mark(&mut self, map: &FaceMap<'_>, region: &Polygon) {
+        for side in &region.sides {
+            for one in map.beside(*side) {
                 if let Some(entry) = self.constraints.get_mut(one.entry()) {
-                    let is_marked = !is_first && *entry == polygon.order;
-                    *entry = if is_marked { 0 } else { polygon.order };
+                    *entry = region.order;
                 }
             }
         }
-        all
     }
 
     /// Goes on from faces of a polygon to all that no side of it parts from them.
@@ -261,23 +267,6 @@ impl Search {
         Ok(())
     }
 
-    /// Finds the faces of a polygon all of whose sides are edges: from those at its sides on.
-    fn flood(&mut self, map: &FaceMap<'_>, polygon: &Polygon) -> Result<(), AllocError> {
-        for side in &polygon.sides {
-            let beside = map.beside(*side);
-            if beside.iter().any(|one| self.has(one.face, polygon)) {
-                continue;
-            }
-            for one in beside {
-                if map.is_within(one.face, polygon.sides.as_slice()) {
-                    self.note(one.face, polygon)?;
-                }
-            }
-            self.spread(map, polygon)?;
-        }
-        Ok(())
-    }
-
     /// Finds the faces of a polygon, of whose sides some are no edges: each by itself.
     fn look_at_all(&mut self, map: &FaceMap<'_>, polygon: &Polygon) -> Result<(), AllocError> {
         for face in 0..u32::try_from(map.faces.len()).unwrap_or(NO_FACE) {
@@ -289,71 +278,150 @@ impl Search {
         Ok(())
     }
 
-    /// Finds the faces of a polygon.
-    fn find(&mut self, map: &FaceMap<'_>, polygon: &Polygon) -> Result<(), AllocError> {
-        if self.mark(map, polygon) {
-            self.flood(map, polygon)
-        } else {
-            self.look_at_all(map, polygon)
+    /// Notes that a face is in polygons of these orders, where `numbers` are those of all.
+    fn note_all(&mut self, face: u32, orders: &[u32], numbers: &[u32]) -> Result<(), AllocError> {
+        for order in orders {
+            let before = (*order as usize).saturating_sub(1);
+            self.found.push(Found {
+                face,
+                order: *order,
+                polygon: numbers.get(before).copied().unwrap_or(0),
+            })?;
         }
+        Ok(())
+    }
+
+    /// Notes of each face of a map the polygons that it is in.
+    fn take<T: Triangulation<Vertex = Point2<i32>>>(
+        &mut self,
+        map: &FaceMap<'_>,
+        triangulation: &T,
+        indexes: &[u32],
+        polygons: &PolygonsOfFaces,
+        numbers: &[u32],
+    ) -> Result<(), AllocError> {
+        triangulation.recall_invariant();
+        for (i, face) in triangulation.inner_faces().enumerate() {
+            let orders = polygons.at(face.fix());
+            if orders.is_empty() {
+                continue;
+            }
+            let [a, b, c] = face.vertices();
+            let corners = [
+                point_index(indexes, a.fix().index()),
+                point_index(indexes, b.fix().index()),
+                point_index(indexes, c.fix().index()),
+            ];
+            if let Some(face) = map.find(i, corners) {
+                self.note_all(face, orders, numbers)?;
+            }
+        }
+        Ok(())
     }
 }
 
-/// What rings are made of: the vertices of points, the points of vertices, and the turns of segments
-/// that were split.
+/// What rings are made of: the vertices of points, the points of vertices, and the turns of
+/// segments that were split.
 #[derive(Clone, Copy)]
 struct Outlines<'a> {
     vertices: &'a [u32],
-    places: &'a [u32],
+    indexes: &'a [u32],
     turns: &'a [Turn],
 }
 
-/// Adds the sides of a ring to those of its polygon: along the edges that they became, by the places
-/// of their ends with the lesser first.
+/// The edge between two vertices, if they are joined.
+fn edge_between<T: Triangulation<Vertex = Point2<i32>>>(
+    triangulation: &T,
+    from: u32,
+    to: u32,
+) -> Option<FixedUndirectedEdgeHandle> {
+    triangulation.recall_invariant();
+    let from = triangulation.get_vertex(FixedVertexHandle::from_index(from))?;
+    let to = FixedVertexHandle::from_index(to);
+    let edge = triangulation.get_edge_from_neighbors(from.fix(), to)?;
+    Some(edge.as_undirected().fix())
+}
+
+/// Adds the sides of a ring to those of its polygon: along the edges that they became, by the
+/// indexes of their ends with the lesser first.
 fn add_ring<T: Triangulation<Vertex = Point2<i32>>>(
-    site: &T,
+    triangulation: &T,
     ring: &Ring,
     outlines: Outlines<'_>,
-    sides: &mut Vec<[u32; 2]>,
+    polygon: &mut Polygon,
     alloc: Global,
 ) -> Result<(), AllocError> {
     let mut last = ring.end.saturating_sub(1);
     for next in ring.start..ring.end {
         let ends = [
-            point_place(outlines.vertices, last),
-            point_place(outlines.vertices, next),
+            point_index(outlines.vertices, last),
+            point_index(outlines.vertices, next),
         ];
         last = next;
         let [from, to] = ends;
         if from == to {
             continue;
         }
-        let path = path_between(site, outlines.turns, ends, alloc)?;
+        let path = path_between(triangulation, outlines.turns, ends, alloc)?;
         for (one, other) in path.iter().zip(path.iter().skip(1)) {
-            let one = point_place(outlines.places, *one);
-            let other = point_place(outlines.places, *other);
-            sides.push([one.min(other), one.max(other)])?;
+            if let Some(edge) = edge_between(triangulation, *one, *other) {
+                polygon.edges.push(edge)?;
+            }
+            let one = point_index(outlines.indexes, *one);
+            let other = point_index(outlines.indexes, *other);
+            polygon.sides.push([one.min(other), one.max(other)])?;
         }
     }
     Ok(())
 }
 
-/// Finds the faces of all polygons.
+/// The polygons that are looked for: their numbers, by their orders, and the edges that they have
+/// for sides.
+#[derive(Drop)]
+struct Sought {
+    numbers: Vec<u32>,
+    borders: Borders,
+}
+
+impl Sought {
+    fn new<T: Triangulation<Vertex = Point2<i32>>>(
+        triangulation: &T,
+        alloc: Global,
+    ) -> Result<Self, AllocError> {
+        Ok(Sought {
+            numbers: Vec::new(alloc),
+            borders: Borders::new(triangulation.num_undirected_edges(), alloc)?,
+        })
+    }
+
+    /// Adds a polygon, with its sides if all of them are edges, and tells whether they are.
+    fn add(&mut self, polygon: &Polygon, alloc: Global) -> Result<bool, AllocError> {
+        self.numbers.push(polygon.number)?;
+        if polygon.edges.len() != polygon.sides.len() {
+            return Ok(false);
+        }
+        for edge in &polygon.edges {
+            self.borders.add(*edge, polygon.order, alloc)?;
+        }
+        Ok(true)
+    }
+}
+
+/// Finds the faces of all polygons: where `by_edges` holds by the edges that their sides are, if
+/// all of them are; and else face by face. It tells whether the edges were closed rings.
 fn find_all<T: Triangulation<Vertex = Point2<i32>>>(
     search: &mut Search,
     map: &FaceMap<'_>,
-    site: &T,
+    triangulation: &T,
     drawing: &Drawing,
     outlines: Outlines<'_>,
+    by_edges: bool,
     alloc: Global,
-) -> Result<(), AllocError> {
-    let mut polygon = Polygon {
-        number: 0,
-        order: 0,
-        sides: Vec::new(alloc),
-    };
+) -> Result<bool, AllocError> {
+    let mut sought = Sought::new(triangulation, alloc)?;
+    let mut polygon = Polygon::new(alloc);
     for (i, ring) in drawing.rings.iter().enumerate() {
-        add_ring(site, ring, outlines, &mut polygon.sides, alloc)?;
+        add_ring(triangulation, ring, outlines, &mut polygon, alloc)?;
         polygon.number = ring.polygon;
         if let Some(next) = drawing.rings.get(i.saturating_add(1))
             && next.polygon == ring.polygon
@@ -361,14 +429,29 @@ fn find_all<T: Triangulation<Vertex = Point2<i32>>>(
             continue;
         }
         polygon.order = polygon.order.saturating_add(1);
-        polygon.sides.sort()?;
-        search.find(map, &polygon)?;
+        if !by_edges || !sought.add(&polygon, alloc)? {
+            search.look_at_all(map, &polygon)?;
+        }
         polygon.sides.clear();
+        polygon.edges.clear();
     }
-    Ok(())
+    let Some(found) = polygons_of_faces(triangulation, &sought.borders, alloc)? else {
+        return Ok(false);
+    };
+    let numbers = sought.numbers.as_slice();
+    search.take(map, triangulation, outlines.indexes, &found, numbers)?;
+    Ok(true)
 }
 
 impl FaceMap<'_> {
+    /// The face with these corners, which may be the one of this index.
+    fn find(&self, index: usize, corners: [u32; 3]) -> Option<u32> {
+        if self.faces.get(index) == Some(&corners) {
+            return u32::try_from(index).ok();
+        }
+        self.face_at(corners)
+    }
+
     /// The face with these corners.
     fn face_at(&self, [a, b, c]: [u32; 3]) -> Option<u32> {
         for side in self.beside([a, b]) {
@@ -380,9 +463,9 @@ impl FaceMap<'_> {
     }
 }
 
-/// The corners of a face at an edge, by the places of their points.
+/// The corners of a face at an edge, by the indexes of their points.
 fn corners_beside<DE, UE, F>(
-    places: &[u32],
+    indexes: &[u32],
     edge: DirectedEdgeHandle<'_, Point2<i32>, DE, UE, F>,
 ) -> Option<[u32; 3]> {
     let third = match edge.opposite_vertex() {
@@ -391,46 +474,49 @@ fn corners_beside<DE, UE, F>(
     };
     let [from, to] = edge.vertices();
     Some([
-        point_place(places, from.fix().index()),
-        point_place(places, to.fix().index()),
-        point_place(places, third.fix().index()),
+        point_index(indexes, from.fix().index()),
+        point_index(indexes, to.fix().index()),
+        point_index(indexes, third.fix().index()),
     ])
 }
 
-/// The corners of the face that a point is in, or of one at the edge that it is on, by the places of
-/// their points.
+/// The corners of the face that a point is in, or of one at the edge that it is on, by the indexes
+/// of their points.
 fn corners_round<T: Triangulation<Vertex = Point2<i32>>>(
-    site: &T,
-    places: &[u32],
+    triangulation: &T,
+    indexes: &[u32],
     point: Point2<i32>,
 ) -> Option<[u32; 3]> {
-    site.recall_invariant();
+    triangulation.recall_invariant();
     if validate_vertex(&point).is_err() {
         return None;
     }
-    match site.locate(point, &ExactTests) {
+    match triangulation.locate(point, &ExactTests) {
         PositionInTriangulation::OnFace(face) => {
-            let [edge, _, _] = site.face(face).adjacent_edges();
-            corners_beside(places, edge)
+            let [edge, _, _] = triangulation.face(face).adjacent_edges();
+            corners_beside(indexes, edge)
         }
-        PositionInTriangulation::OnEdge(edge) => corners_beside(places, site.directed_edge(edge)),
+        PositionInTriangulation::OnEdge(edge) => corners_beside(
+            indexes,
+            triangulation.directed_edge(edge),
+        ),
         _ => None,
     }
 }
 
-/// The edges that are constraints, by the places of their ends.
+/// The edges that are constraints, by the indexes of their ends.
 fn constraint_sides<T: Triangulation<Vertex = Point2<i32>>>(
-    site: &T,
-    places: &[u32],
+    triangulation: &T,
+    indexes: &[u32],
     alloc: Global,
 ) -> Result<Vec<[u32; 2]>, AllocError> {
     let mut sides = Vec::new(alloc);
-    for edge in site.undirected_edges() {
+    for edge in triangulation.undirected_edges() {
         if T::Constraints::is_constraint_edge(edge.data()) {
             let [a, b] = edge.vertices();
             sides.push([
-                point_place(places, a.fix().index()),
-                point_place(places, b.fix().index()),
+                point_index(indexes, a.fix().index()),
+                point_index(indexes, b.fix().index()),
             ])?;
         }
     }
@@ -442,23 +528,20 @@ fn constraint_sides<T: Triangulation<Vertex = Point2<i32>>>(
 fn find_regions<T: Triangulation<Vertex = Point2<i32>>>(
     search: &mut Search,
     map: &FaceMap<'_>,
-    site: &T,
-    places: &[u32],
+    triangulation: &T,
+    indexes: &[u32],
     points: &[Asked],
     alloc: Global,
 ) -> Result<(), AllocError> {
-    let mut polygon = Polygon {
-        number: 0,
-        order: 0,
-        sides: constraint_sides(site, places, alloc)?,
-    };
+    let mut polygon = Polygon::new(alloc);
+    polygon.sides = constraint_sides(triangulation, indexes, alloc)?;
     for asked in points {
         polygon.number = polygon.number.saturating_add(1);
         polygon.order = polygon.number;
         let Asked::Near(point) = asked else {
             continue;
         };
-        let Some(corners) = corners_round(site, places, *point) else {
+        let Some(corners) = corners_round(triangulation, indexes, *point) else {
             continue;
         };
         if let Some(face) = map.face_at(corners) {
@@ -543,24 +626,24 @@ fn lists_of(found: &[Found], faces: usize, alloc: Global) -> Result<PolygonLists
     })
 }
 
-/// The polygons or regions that each face is in. Faces are all inner faces, by the places of their
+/// The polygons or regions that each face is in. Faces are all inner faces, by the indexes of their
 /// corners.
 pub fn polygon_lists<T: Triangulation<Vertex = Point2<i32>>>(
     scene: &Scene,
-    site: &T,
-    places: &[u32],
+    triangulation: &T,
+    indexes: &[u32],
     turns: &[Turn],
     faces: &[[u32; 3]],
     alloc: Global,
 ) -> Result<PolygonLists, AllocError> {
     let points = scene.scaled.points.as_slice();
-    let vertices = point_vertices(site, places, points, alloc)?;
+    let vertices = point_vertices(triangulation, indexes, points, alloc)?;
     let outlines = Outlines {
         vertices: vertices.as_slice(),
-        places,
+        indexes,
         turns,
     };
-    let sides = sides_of(faces, alloc)?;
+    let sides = face_sides(faces, alloc)?;
     let across = across_of(sides.as_slice(), alloc)?;
     let map = FaceMap {
         points,
@@ -571,9 +654,29 @@ pub fn polygon_lists<T: Triangulation<Vertex = Point2<i32>>>(
     let mut search = Search::new(faces.len(), alloc)?;
     if scene.drawing.rings.is_empty() {
         let regions = scene.region_points.as_slice();
-        find_regions(&mut search, &map, site, places, regions, alloc)?;
+        find_regions(&mut search, &map, triangulation, indexes, regions, alloc)?;
     } else {
-        find_all(&mut search, &map, site, &scene.drawing, outlines, alloc)?;
+        let drawing = &scene.drawing;
+        if !find_all(
+            &mut search,
+            &map,
+            triangulation,
+            drawing,
+            outlines,
+            true,
+            alloc,
+        )? {
+            search = Search::new(faces.len(), alloc)?;
+            find_all(
+                &mut search,
+                &map,
+                triangulation,
+                drawing,
+                outlines,
+                false,
+                alloc,
+            )?;
+        }
     }
     search.found.sort()?;
     lists_of(search.found.as_slice(), faces.len(), alloc)

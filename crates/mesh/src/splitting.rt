@@ -1,6 +1,6 @@
 //! Segments of a drawing that cross, and are split where they do.
 use crate::areas::scalar_product;
-use crate::building::{drawing_fault, drawn_sides, kept_part, point_place};
+use crate::building::{drawing_fault, drawn_sides, kept_part, point_index};
 use crate::heights::{Weighed, height_at, height_of};
 use crate::paths::{Turn, path_between, thousandths_from, turns_of};
 use anyhow::anyhow;
@@ -26,7 +26,7 @@ pub struct SplitMesh {
     thousandths: u64,
     /// By which vertices segments go since then.
     pub turns: Vec<Turn>,
-    /// The faces that are kept, by the places of their corners.
+    /// The faces that are kept, by the indexes of their corners.
     pub faces: Vec<[u32; 3]>,
 }
 
@@ -45,8 +45,8 @@ impl SplitMesh {
 /// Of each point the vertex of which it is the first point.
 fn first_vertices(names: &[u32], points: usize, alloc: Global) -> Result<Vec<u32>, AllocError> {
     let mut vertices = Vec::from_elem(alloc, u32::MAX, points)?;
-    for (vertex, place) in names.iter().enumerate() {
-        if let Some(entry) = vertices.get_mut(*place as usize) {
+    for (vertex, index) in names.iter().enumerate() {
+        if let Some(entry) = vertices.get_mut(*index as usize) {
             *entry = u32::try_from(vertex).unwrap_or(u32::MAX);
         }
     }
@@ -55,19 +55,24 @@ fn first_vertices(names: &[u32], points: usize, alloc: Global) -> Result<Vec<u32
 
 /// The vertex at the position of a point.
 fn vertex_there<T: Triangulation<Vertex = Point2<i32>>>(
-    site: &T,
+    triangulation: &T,
     point: Point2<i32>,
 ) -> Option<u32> {
-    site.recall_invariant();
+    triangulation.recall_invariant();
     if validate_vertex(&point).is_err() {
         return None;
     }
-    Some(site.locate_vertex(point, &ExactTests)?.fix().index())
+    Some(
+        triangulation
+            .locate_vertex(point, &ExactTests)?
+            .fix()
+            .index(),
+    )
 }
 
 /// Of each point its vertex.
 pub fn point_vertices<T: Triangulation<Vertex = Point2<i32>>>(
-    site: &T,
+    triangulation: &T,
     names: &[u32],
     points: &[Point2<i32>],
     alloc: Global,
@@ -78,28 +83,28 @@ pub fn point_vertices<T: Triangulation<Vertex = Point2<i32>>>(
     }
     for (vertex, point) in vertices.iter_mut().zip(points) {
         if *vertex == u32::MAX {
-            *vertex = vertex_there(site, *point).unwrap_or(u32::MAX);
+            *vertex = vertex_there(triangulation, *point).unwrap_or(u32::MAX);
         }
     }
     Ok(vertices)
 }
 
 /// The vertices at the ends of a segment between points.
-fn ends_of(vertices: &[u32], from: u32, to: u32) -> [u32; 2] {
-    [point_place(vertices, from), point_place(vertices, to)]
+fn segment_vertices(vertices: &[u32], from: u32, to: u32) -> [u32; 2] {
+    [point_index(vertices, from), point_index(vertices, to)]
 }
 
-/// The segments that are still to be taken, the first of them last.
+/// The segments that are still to be added, the first of them last.
 fn left_segments(
     drawing: &Drawing,
-    taken: &[bool],
+    added: &[bool],
     vertices: &[u32],
     alloc: Global,
 ) -> Result<Vec<VertexPair>, AllocError> {
     let mut left = Vec::new(alloc);
-    for (segment, is_taken) in drawing.segments.iter().zip(taken).rev() {
-        if !*is_taken {
-            let [from, to] = ends_of(vertices, segment.from, segment.to);
+    for (segment, is_added) in drawing.segments.iter().zip(added).rev() {
+        if !*is_added {
+            let [from, to] = segment_vertices(vertices, segment.from, segment.to);
             left.push((
                 FixedVertexHandle::from_index(from),
                 FixedVertexHandle::from_index(to),
@@ -134,7 +139,7 @@ fn split_fault(task: &Task<'_>, error: SegmentError) -> anyhow::Error {
     }
 }
 
-/// The height of a point on the way between two others, by the places of these. Heights have so
+/// The height of a point on the way between two others, by the indexes of these. Heights have so
 /// many digits behind the point.
 fn made_height(
     drawing: &Drawing,
@@ -147,11 +152,11 @@ fn made_height(
     let part = scalar_product(start, end, point).max(0).min(whole);
     let parts = [
         Weighed {
-            place: from,
+            index: from,
             weight: whole.wrapping_sub(part),
         },
         Weighed {
-            place: to,
+            index: to,
             weight: part,
         },
     ];
@@ -171,11 +176,11 @@ fn made_digits(drawing: &Drawing) -> u32 {
 }
 
 /// The position of a vertex.
-fn position_of<T: Triangulation<Vertex = Point2<i32>>>(
-    site: &T,
+fn vertex_position<T: Triangulation<Vertex = Point2<i32>>>(
+    triangulation: &T,
     vertex: FixedVertexHandle,
 ) -> Point2<i32> {
-    match site.get_vertex(vertex) {
+    match triangulation.get_vertex(vertex) {
         Some(vertex) => *vertex.data(),
         None => Point2::new(0, 0),
     }
@@ -184,69 +189,75 @@ fn position_of<T: Triangulation<Vertex = Point2<i32>>>(
 /// Adds the point by which a segment goes since it was split.
 fn add_made<T: Triangulation<Vertex = Point2<i32>>>(
     scene: &mut Scene,
-    site: &T,
+    triangulation: &T,
     names: &mut Vec<u32>,
     lead: &Lead,
     digits: u32,
 ) -> anyhow::Result<()> {
-    let point = position_of(site, lead.by);
+    let point = vertex_position(triangulation, lead.by);
     let positions = [
-        position_of(site, lead.ends.0),
-        position_of(site, lead.ends.1),
+        vertex_position(triangulation, lead.ends.0),
+        vertex_position(triangulation, lead.ends.1),
         point,
     ];
-    let from = point_place(names, lead.ends.0.index());
-    let to = point_place(names, lead.ends.1.index());
+    let from = point_index(names, lead.ends.0.index());
+    let to = point_index(names, lead.ends.1.index());
     let height = made_height(&scene.drawing, [from, to], positions, digits);
     let at = match scene.drawing.spots.get(from as usize) {
-        Some(spot) => spot.file_place(),
+        Some(spot) => spot.file_line(),
         None => FileLine::of_line(0),
     };
-    let place = u32::try_from(scene.scaled.points.len()).unwrap_or(u32::MAX);
+    let index = u32::try_from(scene.scaled.points.len()).unwrap_or(u32::MAX);
     scene
         .scaled
         .add_made(&mut scene.drawing, point, height, at)?;
-    names.push(place)?;
+    names.push(index)?;
     Ok(())
 }
 
 /// Adds the points by which segments go since they were split.
 fn add_all_made<T: Triangulation<Vertex = Point2<i32>>>(
     scene: &mut Scene,
-    site: &T,
+    triangulation: &T,
     names: &mut Vec<u32>,
     leads: &[Lead],
 ) -> anyhow::Result<()> {
     let digits = made_digits(&scene.drawing);
     for lead in leads {
         if lead.by.index() as usize == names.len() {
-            add_made(scene, site, names, lead, digits)?;
+            add_made(scene, triangulation, names, lead, digits)?;
         }
     }
     Ok(())
 }
 
 /// The position of a vertex, by its index.
-fn position_at<T: Triangulation<Vertex = Point2<i32>>>(site: &T, vertex: u32) -> Point2<i32> {
-    position_of(site, FixedVertexHandle::from_index(vertex))
+fn position_at<T: Triangulation<Vertex = Point2<i32>>>(
+    triangulation: &T,
+    vertex: u32,
+) -> Point2<i32> {
+    vertex_position(triangulation, FixedVertexHandle::from_index(vertex))
 }
 
 /// How far the path of a segment is from it at most, in thousandths of a unit, rounded up.
-fn path_distance<T: Triangulation<Vertex = Point2<i32>>>(site: &T, path: &[u32]) -> u64 {
+fn path_distance<T: Triangulation<Vertex = Point2<i32>>>(triangulation: &T, path: &[u32]) -> u64 {
     let (Some(from), Some(to)) = (path.first(), path.last()) else {
         return 0;
     };
-    let (from, to) = (position_at(site, *from), position_at(site, *to));
+    let (from, to) = (
+        position_at(triangulation, *from),
+        position_at(triangulation, *to),
+    );
     let mut most = 0;
     for vertex in path {
-        most = most.max(thousandths_from(from, to, position_at(site, *vertex)));
+        most = most.max(thousandths_from(from, to, position_at(triangulation, *vertex)));
     }
     most
 }
 
 /// How far paths are from their segments at most.
 fn largest_distance<T: Triangulation<Vertex = Point2<i32>>>(
-    site: &T,
+    triangulation: &T,
     drawing: &Drawing,
     turns: &[Turn],
     vertices: &[u32],
@@ -254,16 +265,16 @@ fn largest_distance<T: Triangulation<Vertex = Point2<i32>>>(
 ) -> Result<u64, AllocError> {
     let mut most = 0;
     for segment in &drawing.segments {
-        let ends = ends_of(vertices, segment.from, segment.to);
-        let path = path_between(site, turns, ends, alloc)?;
-        most = most.max(path_distance(site, path.as_slice()));
+        let ends = segment_vertices(vertices, segment.from, segment.to);
+        let path = path_between(triangulation, turns, ends, alloc)?;
+        most = most.max(path_distance(triangulation, path.as_slice()));
     }
     Ok(most)
 }
 
 /// The sides of holes along the paths that they became, by vertices.
 fn led_sides<T: Triangulation<Vertex = Point2<i32>>>(
-    site: &T,
+    triangulation: &T,
     sides: &[DrawnSegment],
     turns: &[Turn],
     vertices: &[u32],
@@ -271,8 +282,8 @@ fn led_sides<T: Triangulation<Vertex = Point2<i32>>>(
 ) -> Result<Vec<DrawnSegment>, AllocError> {
     let mut led = Vec::new(alloc);
     for side in sides {
-        let ends = ends_of(vertices, side.from, side.to);
-        let path = path_between(site, turns, ends, alloc)?;
+        let ends = segment_vertices(vertices, side.from, side.to);
+        let path = path_between(triangulation, turns, ends, alloc)?;
         for (from, to) in path.iter().zip(path.iter().skip(1)) {
             led.push(DrawnSegment {
                 from: *from,
@@ -286,25 +297,33 @@ fn led_sides<T: Triangulation<Vertex = Point2<i32>>>(
 /// The handles of so many vertices.
 fn handles_of(count: usize, alloc: Global) -> Result<Vec<FixedVertexHandle>, AllocError> {
     let mut handles = Vec::with_capacity(alloc, count)?;
-    for index in 0..u32::try_from(count).unwrap_or(u32::MAX) {
-        handles.push(FixedVertexHandle::from_index(index))?;
+    for vertex in 0..u32::try_from(count).unwrap_or(u32::MAX) {
+        handles.push(FixedVertexHandle::from_index(vertex))?;
     }
     Ok(handles)
 }
 
-/// The faces that are kept of a triangulation whose segments were split, by the places of their
+/// The faces that are kept of a triangulation whose segments were split, by the indexes of their
 /// corners.
 fn kept_rows<T: Triangulation<Vertex = Point2<i32>>>(
     task: &Task<'_>,
     scene: &Scene,
-    site: &T,
+    triangulation: &T,
     names: &[u32],
     sides: &[DrawnSegment],
     alloc: Global,
 ) -> anyhow::Result<Vec<[u32; 3]>> {
     let handles = handles_of(names.len(), alloc)?;
     let (kept, holes) = kept_part(task, scene);
-    match named_faces(site, names, holes, sides, handles.as_slice(), kept, alloc) {
+    match named_faces(
+        triangulation,
+        names,
+        holes,
+        sides,
+        handles.as_slice(),
+        kept,
+        alloc,
+    ) {
         Ok(rows) => Ok(rows),
         Err(error) => Err(drawing_fault(task, &scene.drawing, error)),
     }
@@ -315,28 +334,28 @@ fn kept_rows<T: Triangulation<Vertex = Point2<i32>>>(
 pub fn split_scene<T: Replayable<Vertex = Point2<i32>>>(
     task: &Task<'_>,
     scene: &mut Scene,
-    site: &mut T,
+    triangulation: &mut T,
     names: &mut Vec<u32>,
-    taken: &[bool],
+    added: &[bool],
     alloc: Global,
 ) -> anyhow::Result<SplitMesh> {
-    site.recall_invariant();
+    triangulation.recall_invariant();
     let sides = drawn_sides(task, scene, alloc)?;
-    let vertices = point_vertices(site, names, scene.scaled.points.as_slice(), alloc)?;
-    let mut left = left_segments(&scene.drawing, taken, vertices.as_slice(), alloc)?;
+    let vertices = point_vertices(triangulation, names, scene.scaled.points.as_slice(), alloc)?;
+    let mut left = left_segments(&scene.drawing, added, vertices.as_slice(), alloc)?;
     let steps = most_steps(scene.drawing.segments.len());
-    let leads = match split_segments(site, &mut left, steps, alloc) {
+    let leads = match split_segments(triangulation, &mut left, steps, alloc) {
         Ok(leads) => leads,
         Err(error) => return Err(split_fault(task, error)),
     };
-    add_all_made(scene, site, names, leads.as_slice())?;
+    add_all_made(scene, triangulation, names, leads.as_slice())?;
     let turns = turns_of(leads.as_slice(), alloc)?;
     let (ways, ends) = (turns.as_slice(), vertices.as_slice());
-    let sides = led_sides(site, sides.as_slice(), ways, ends, alloc)?;
+    let sides = led_sides(triangulation, sides.as_slice(), ways, ends, alloc)?;
     Ok(SplitMesh {
         count: leads.len(),
-        thousandths: largest_distance(site, &scene.drawing, ways, ends, alloc)?,
-        faces: kept_rows(task, scene, site, names, sides.as_slice(), alloc)?,
+        thousandths: largest_distance(triangulation, &scene.drawing, ways, ends, alloc)?,
+        faces: kept_rows(task, scene, triangulation, names, sides.as_slice(), alloc)?,
         turns,
     })
 }

@@ -1,5 +1,5 @@
 //! What the way from one point to another meets.
-use crate::building::point_place;
+use crate::building::point_index;
 use crate::kept::KeptFaces;
 use anyhow::{Context, bail};
 use delaunay_core::math::validate_vertex;
@@ -16,21 +16,21 @@ use std::io;
 use std::io::{BufWriter, Write};
 
 /// The number of the point of a vertex, from 1.
-fn vertex_number(places: &[u32], vertex: FixedVertexHandle) -> u64 {
-    u64::from(point_place(places, vertex.index())).saturating_add(1)
+fn vertex_number(indexes: &[u32], vertex: FixedVertexHandle) -> u64 {
+    u64::from(point_index(indexes, vertex.index())).saturating_add(1)
 }
 
 /// Puts an edge behind a line, by the numbers of its ends.
 fn push_edge<V, DE, UE, F>(
     line: &mut String,
     kind: &str,
-    places: &[u32],
+    indexes: &[u32],
     edge: DirectedEdgeHandle<'_, V, DE, UE, F>,
 ) -> Result<(), AllocError> {
     let [from, to] = edge.vertices();
     let (from, to) = (
-        vertex_number(places, from.fix()),
-        vertex_number(places, to.fix()),
+        vertex_number(indexes, from.fix()),
+        vertex_number(indexes, to.fix()),
     );
     writeln!(line, "{kind},{from},{to}")
 }
@@ -43,15 +43,15 @@ fn push_vertex(line: &mut String, number: u64) -> Result<(), AllocError> {
 /// Puts what a way meets behind a line: a vertex, or an edge that it crosses or runs along.
 fn push_met<V, DE, UE, F>(
     line: &mut String,
-    places: &[u32],
+    indexes: &[u32],
     met: &Intersection<'_, V, DE, UE, F>,
 ) -> Result<(), AllocError> {
     match met {
         Intersection::VertexIntersection(vertex) => {
-            push_vertex(line, vertex_number(places, vertex.fix()))
+            push_vertex(line, vertex_number(indexes, vertex.fix()))
         }
-        Intersection::EdgeIntersection(edge) => push_edge(line, "crosses", places, *edge),
-        Intersection::EdgeOverlap(edge) => push_edge(line, "along", places, *edge),
+        Intersection::EdgeIntersection(edge) => push_edge(line, "crosses", indexes, *edge),
+        Intersection::EdgeOverlap(edge) => push_edge(line, "along", indexes, *edge),
     }
 }
 
@@ -73,23 +73,23 @@ fn is_kept<V, DE, UE, F>(
 /// Writes what the way between two points in range meets at faces that are kept.
 fn write_way<W: Write, T: Triangulation<Vertex = Point2<i32>>>(
     writer: &mut W,
-    site: &T,
+    triangulation: &T,
     kept: &KeptFaces<'_>,
     from: Point2<i32>,
     to: Point2<i32>,
     alloc: Global,
 ) -> io::Result<()> {
-    site.recall_invariant();
+    triangulation.recall_invariant();
     if validate_vertex(&from).is_err() || validate_vertex(&to).is_err() {
         return Ok(());
     }
     writer.write_all(b"meets,a,b\n")?;
     let mut line = String::new(alloc);
     let mut numbers = Vec::new(alloc);
-    for met in LineIntersectionIterator::new(site, from, to, &ExactTests) {
+    for met in LineIntersectionIterator::new(triangulation, from, to, &ExactTests) {
         line.clear();
         if is_kept(kept, &met, &mut numbers)? {
-            push_met(&mut line, kept.drawn.places, &met)?;
+            push_met(&mut line, kept.drawn.indexes, &met)?;
             writer.write_all(line.as_bytes())?;
         }
     }
@@ -101,7 +101,7 @@ fn write_way<W: Write, T: Triangulation<Vertex = Point2<i32>>>(
 pub fn tell_way<T: Triangulation<Vertex = Point2<i32>>>(
     rt: &HostRuntime,
     scene: &Scene,
-    site: &T,
+    triangulation: &T,
     kept: &KeptFaces<'_>,
 ) -> anyhow::Result<()> {
     let [Asked::Near(from), Asked::Near(to)] = scene.asked_points.as_slice() else {
@@ -110,5 +110,5 @@ pub fn tell_way<T: Triangulation<Vertex = Point2<i32>>>(
         );
     };
     let mut writer = BufWriter::new(rt.alloc(), io::writer(rt))?;
-    write_way(&mut writer, site, kept, *from, *to, rt.alloc()).context("standard output")
+    write_way(&mut writer, triangulation, kept, *from, *to, rt.alloc()).context("standard output")
 }

@@ -1,5 +1,5 @@
 //! Ways through the faces that are kept.
-use crate::building::{DrawnLists, point_place};
+use crate::building::{DrawnLists, point_index};
 use anyhow::{Context, bail};
 use delaunay_core::math::validate_vertex;
 use delaunay_core::point::Point2;
@@ -35,33 +35,33 @@ impl FreeFaces for KeptFlags {
     }
 }
 
-/// The places of the points at the corners of a face, of an inner one.
-fn corner_places<V, DE, UE, F>(
+/// The indexes of the points at the corners of a face, of an inner one.
+fn corner_indexes<V, DE, UE, F>(
     face: FaceHandle<'_, V, DE, UE, F>,
-    places: &[u32],
+    indexes: &[u32],
 ) -> Option<[u32; 3]> {
     if face.is_outer() {
         return None;
     }
     let [first, second, third] = face.vertices();
     Some([
-        point_place(places, first.fix().index()),
-        point_place(places, second.fix().index()),
-        point_place(places, third.fix().index()),
+        point_index(indexes, first.fix().index()),
+        point_index(indexes, second.fix().index()),
+        point_index(indexes, third.fix().index()),
     ])
 }
 
 /// Which faces are kept. Those are listed as the faces of the triangulation are.
 fn kept_faces<T: Triangulation<Vertex = Point2<i32>>>(
-    site: &T,
+    triangulation: &T,
     drawn: &DrawnLists<'_>,
     alloc: Global,
 ) -> Result<KeptFlags, AllocError> {
-    let mut flags = Vec::with_capacity(alloc, site.num_all_faces())?;
+    let mut flags = Vec::with_capacity(alloc, triangulation.num_all_faces())?;
     flags.push(false)?;
     let mut next = 0usize;
-    for face in site.inner_faces() {
-        let is_kept = match (corner_places(face, drawn.places), drawn.faces.get(next)) {
+    for face in triangulation.inner_faces() {
+        let is_kept = match (corner_indexes(face, drawn.indexes), drawn.faces.get(next)) {
             (Some(corners), Some(kept)) => *kept == corners,
             _ => false,
         };
@@ -75,16 +75,19 @@ fn kept_faces<T: Triangulation<Vertex = Point2<i32>>>(
 fn push_point<T: Triangulation<Vertex = Point2<i32>>>(
     line: &mut String,
     scene: &Scene,
-    site: &T,
-    places: &[u32],
+    triangulation: &T,
+    indexes: &[u32],
     point: Point2<i32>,
 ) -> Result<(), AllocError> {
     let [x, y] = scene.scaled.numbers_at(point);
     write!(line, "{x},{y},")?;
     if validate_vertex(&point).is_ok()
-        && let PositionInTriangulation::OnVertex(vertex) = site.locate(point, &ExactTests)
+        && let PositionInTriangulation::OnVertex(vertex) = triangulation.locate(
+            point,
+            &ExactTests,
+        )
     {
-        let number = u64::from(point_place(places, vertex.index())).saturating_add(1);
+        let number = u64::from(point_index(indexes, vertex.index())).saturating_add(1);
         write!(line, "{number}")?;
     }
     line.push('\n')
@@ -94,8 +97,8 @@ fn push_point<T: Triangulation<Vertex = Point2<i32>>>(
 fn write_table<W: Write, T: Triangulation<Vertex = Point2<i32>>>(
     writer: &mut W,
     scene: &Scene,
-    site: &T,
-    places: &[u32],
+    triangulation: &T,
+    indexes: &[u32],
     way: &[Point2<i32>],
     alloc: Global,
 ) -> io::Result<()> {
@@ -103,7 +106,7 @@ fn write_table<W: Write, T: Triangulation<Vertex = Point2<i32>>>(
     let mut line = String::new(alloc);
     for point in way {
         line.clear();
-        push_point(&mut line, scene, site, places, *point)?;
+        push_point(&mut line, scene, triangulation, indexes, *point)?;
         writer.write_all(line.as_bytes())?;
     }
     writer.flush()
@@ -131,18 +134,18 @@ fn write_line<W: Write>(
 
 /// The points of a way through the faces that are kept, or none.
 fn way_between<T: Triangulation<Vertex = Point2<i32>>>(
-    site: &T,
+    triangulation: &T,
     drawn: &DrawnLists<'_>,
     from: Point2<i32>,
     to: Point2<i32>,
     alloc: Global,
 ) -> Result<Vec<Point2<i32>>, AllocError> {
-    let kept = kept_faces(site, drawn, alloc)?;
-    site.recall_invariant();
+    let kept = kept_faces(triangulation, drawn, alloc)?;
+    triangulation.recall_invariant();
     if validate_vertex(&from).is_err() || validate_vertex(&to).is_err() {
         return Ok(Vec::new(alloc));
     }
-    match find_way(site, from, to, &kept, &ExactTests, alloc)? {
+    match find_way(triangulation, from, to, &kept, &ExactTests, alloc)? {
         Some(way) => Ok(way),
         None => Ok(Vec::new(alloc)),
     }
@@ -153,14 +156,14 @@ pub fn tell_way_between<T: Triangulation<Vertex = Point2<i32>>>(
     rt: &HostRuntime,
     task: &Task<'_>,
     scene: &Scene,
-    site: &T,
+    triangulation: &T,
     drawn: &DrawnLists<'_>,
 ) -> anyhow::Result<()> {
     let alloc = rt.alloc();
     let [Asked::Near(from), Asked::Near(to)] = scene.asked_points.as_slice() else {
         bail!("--way: an end is more than 2^29 units from the middle of the input: move it nearer");
     };
-    let way = way_between(site, drawn, *from, *to, alloc)?;
+    let way = way_between(triangulation, drawn, *from, *to, alloc)?;
     if way.is_empty() && !task.is_quiet {
         let _ = eprintln!(rt; "mesh: there is no way from the one point to the other");
     }
@@ -171,8 +174,8 @@ pub fn tell_way_between<T: Triangulation<Vertex = Point2<i32>>>(
         write_table(
             &mut writer,
             scene,
-            site,
-            drawn.places,
+            triangulation,
+            drawn.indexes,
             way.as_slice(),
             alloc,
         )

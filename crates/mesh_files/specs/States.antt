@@ -12,7 +12,7 @@ use Rattle.mesh_files.specs.declared.geojson.Wanted.TheVariants as wanted
 
 -- the numbers of a position that is begun are a run, which goes on in these tokens
 abbrev pub IsWanted : List Token → List Token → Wanted → Type 0
-IsWanted tokens rest (wanted.SecondNumber x place) = IsFirstNumber tokens rest x
+IsWanted tokens rest (wanted.SecondNumber x file_line) = IsFirstNumber tokens rest x
 IsWanted tokens rest (wanted.MoreNumbers p) = IsOpenPosition tokens rest p
 IsWanted tokens rest wanted.Whole = ⊤
 IsWanted tokens rest wanted.Inner = ⊤

@@ -34,7 +34,7 @@ fn in_range(moved: i64) -> Option<i32> {
 }
 
 /// Where a point is on the scale of a drawing.
-fn place_of(spot: &Spot, scaled: &Scaled) -> Asked {
+fn asked_point(spot: &Spot, scaled: &Scaled) -> Asked {
     let x = moved(&spot.x.decimal, &scaled.x_scale);
     let y = moved(&spot.y.decimal, &scaled.y_scale);
     let (Some(x), Some(y)) = (x, y) else {
@@ -55,7 +55,7 @@ fn fine_fault(spot: &Spot, digits: u32) -> Option<FileFault> {
     } else {
         return None;
     };
-    Some(FileFault::in_place(spot.file_place(), Reason::TooFine(name, digits)))
+    Some(FileFault::at_line(spot.file_line(), Reason::TooFine(name, digits)))
 }
 
 /// Where points that are asked about are on the scale of a drawing. Numbers with more digits behind
@@ -69,14 +69,14 @@ pub fn asked_points(
 ) -> Result<Vec<Asked>, FileFault> {
     let digits = scaled.x_scale.digits;
     let finest = asked.texts.finest;
-    let mut places = Vec::with_capacity(alloc, asked.spots.len())?;
+    let mut points = Vec::with_capacity(alloc, asked.spots.len())?;
     for spot in &asked.spots {
         if is_exact && let Some(fault) = fine_fault(spot, digits) {
             return Err(fault);
         }
         moves.note(&spot.x.decimal, digits, finest);
         moves.note(&spot.y.decimal, digits, finest);
-        places.push(place_of(spot, scaled))?;
+        points.push(asked_point(spot, scaled))?;
     }
-    Ok(places)
+    Ok(points)
 }

@@ -72,7 +72,7 @@ impl Run {
     fn row(
         &mut self,
         word: &[u8],
-        place: u32,
+        index: u32,
         line: u32,
         drawing: &mut Drawing,
     ) -> Result<(), FileFault>
@@ -81,11 +81,11 @@ impl Run {
         if self.word.as_slice() != word {
             self.end(drawing)?;
             self.word.extend_from_slice(word)?;
-            self.first = place;
+            self.first = index;
         } else if !word.is_empty() {
-            drawing.join(self.last, place, FileLine::of_line(line))?;
+            drawing.join(self.last, index, FileLine::of_line(line))?;
         }
-        self.last = place;
+        self.last = index;
         self.line = line;
         Ok(())
     }
@@ -104,7 +104,7 @@ impl Runs {
         &mut self,
         record: &ByteRecord,
         columns: &Columns,
-        place: u32,
+        index: u32,
         line: u32,
         drawing: &mut Drawing,
     ) -> Result<(), FileFault>
@@ -114,11 +114,11 @@ impl Runs {
         take_point_row(drawing, record, columns, line)?;
         if let Some(column) = columns.ring {
             self.ring
-                .row(word_of(record, column), place, line, drawing)?;
+                .row(word_of(record, column), index, line, drawing)?;
         }
         if let Some(column) = columns.path {
             self.path
-                .row(word_of(record, column), place, line, drawing)?;
+                .row(word_of(record, column), index, line, drawing)?;
         }
         Ok(())
     }
@@ -199,12 +199,12 @@ fn read_point_rows<R: Read>(
         → DrawsTable text header columns.now drawing.new) }
 {
     let mut line = 1;
-    for place in 0..u32::MAX {
+    for index in 0..u32::MAX {
         let Some(next) = next_row(reader, record, line)? else {
             return runs.ring.end(drawing);
         };
         line = next;
-        runs.row(record, columns, place, line, drawing)?;
+        runs.row(record, columns, index, line, drawing)?;
     }
     Err(FileFault::at(line, Reason::TooMany))
 }
@@ -328,7 +328,7 @@ pub fn read_csv<R: Read + Drop>(
     Ok(drawing)
 }
 
-/// The place of a point that is named by its number, from 1.
+/// The index of a point that is named by its number, from 1.
 fn point_named(
     record: &ByteRecord,
     column: usize,

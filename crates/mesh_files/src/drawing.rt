@@ -49,7 +49,7 @@ impl Spot {
     }
 
     /// Where the point stands in the file.
-    pub fn file_place(&self) -> FileLine {
+    pub fn file_line(&self) -> FileLine {
         FileLine {
             line: self.line,
             feature: self.feature,
@@ -57,7 +57,7 @@ impl Spot {
     }
 }
 
-/// A segment between two points, by their places in the list, its line in the file, and its
+/// A segment between two points, by their indexes in the list, its line in the file, and its
 /// feature, from 1, if it is in one, else 0.
 #[derive(Clone, Copy)]
 pub struct Segment {
@@ -69,7 +69,7 @@ pub struct Segment {
 
 impl Segment {
     /// Where the segment stands in the file.
-    pub fn file_place(&self) -> FileLine {
+    pub fn file_line(&self) -> FileLine {
         FileLine {
             line: self.line,
             feature: self.feature,
@@ -109,7 +109,7 @@ impl NumberTexts {
         let end = self.bytes.len();
         let most = u32::MAX as usize;
         if start > most || end > most {
-            return Err(FileFault::in_place(at, Reason::TooMany));
+            return Err(FileFault::at_line(at, Reason::TooMany));
         }
         Ok(Number {
             decimal,
@@ -164,8 +164,8 @@ impl NumberTexts {
             return self.keep(decimal, word, at);
         }
         for (i, byte) in (start..end).zip(word) {
-            if let Some(place) = self.bytes.get_mut(i) {
-                *place = *byte;
+            if let Some(slot) = self.bytes.get_mut(i) {
+                *slot = *byte;
             }
         }
         Ok(Number {
@@ -230,14 +230,14 @@ impl Drawing {
         ensures same { OnOk result (SameNumbers self.old self.new) }
     {
         let Ok(long) = Decimal::parse_long(word) else {
-            return Err(FileFault::in_place(at, Reason::TooLong(name)));
+            return Err(FileFault::at_line(at, Reason::TooLong(name)));
         };
         let LongDecimal { decimal, is_exact } = long;
         if is_exact {
             return self.texts.keep(decimal.shortened(), word, at);
         }
         if decimal.digits == 0 {
-            return Err(FileFault::in_place(at, Reason::TooLong(name)));
+            return Err(FileFault::at_line(at, Reason::TooLong(name)));
         }
         let number = self.texts.keep(decimal, word, at)?;
         self.texts.note_cut(decimal, name);
@@ -259,10 +259,10 @@ impl Drawing {
             Err(DecimalError::Malformed) => Reason::NotNumber(name),
             Err(DecimalError::TooLong) => return self.long_number(word, name, at),
         };
-        Err(FileFault::in_place(at, reason))
+        Err(FileFault::at_line(at, reason))
     }
 
-    /// Gives each point a place for its height.
+    /// Gives each point an index for its height.
     fn fill_heights(&mut self) -> Result<(), AllocError>
         ensures { OnOk result (FillsHeights self.old self.new) }
     {
@@ -305,14 +305,14 @@ impl Drawing {
         self.add_spot(spot, height)
     }
 
-    /// Asks for a point by its place in the list.
+    /// Asks for a point by its index in the list.
     fn check_point(&self, point: u32, at: FileLine) -> Result<(), FileFault>
         ensures { OnOk result (point < length self.now.spots.items) }
     {
         if (point as usize) < self.spots.len() {
             return Ok(());
         }
-        Err(FileFault::in_place(at, Reason::NoPoint(u64::from(point))))
+        Err(FileFault::at_line(at, Reason::NoPoint(u64::from(point))))
     }
 
     /// Takes a segment in whose ends are points.
@@ -331,7 +331,7 @@ impl Drawing {
         Ok(())
     }
 
-    /// Takes a ring of points in, from one place up to another.
+    /// Takes a ring of points in, from one index up to another.
     pub(crate) fn add_ring(&mut self, start: u32, end: u32, is_hole: bool) -> Result<(), AllocError>
         ensures { OnOk result (SameNumbers self.old self.new) }
     {
@@ -357,11 +357,11 @@ impl Drawing {
         Ok(())
     }
 
-    /// The place that the next point has in the list.
-    pub(crate) fn next_place(&self, at: FileLine) -> Result<u32, FileFault> {
+    /// The index that the next point has in the list.
+    pub(crate) fn next_index(&self, at: FileLine) -> Result<u32, FileFault> {
         match u32::try_from(self.spots.len()) {
             Ok(next) => Ok(next),
-            Err(_) => Err(FileFault::in_place(at, Reason::TooMany)),
+            Err(_) => Err(FileFault::at_line(at, Reason::TooMany)),
         }
     }
 
@@ -391,7 +391,7 @@ impl Drawing {
         if self.open_rings == 0 {
             return None;
         }
-        let fault = FileFault::in_place(self.first_open, Reason::OpenRing);
+        let fault = FileFault::at_line(self.first_open, Reason::OpenRing);
         Some((self.open_rings, fault))
     }
 
@@ -404,9 +404,9 @@ impl Drawing {
         }
     }
 
-    /// The height of the point at a place, if it has one.
-    pub fn height(&self, place: usize) -> Option<Number> {
-        self.heights.get(place).copied().flatten()
+    /// The height of the point at an index, if it has one.
+    pub fn height(&self, index: usize) -> Option<Number> {
+        self.heights.get(index).copied().flatten()
     }
 
     /// How many points have no height where others have one, and the fault that the first of them
@@ -417,11 +417,11 @@ impl Drawing {
             if height.is_none() {
                 count = count.saturating_add(1);
                 if first.is_none() {
-                    first = Some(spot.file_place());
+                    first = Some(spot.file_line());
                 }
             }
         }
-        Some((count, FileFault::in_place(first?, Reason::NoHeight)))
+        Some((count, FileFault::at_line(first?, Reason::NoHeight)))
     }
 
     /// How many heights have more digits than fit.

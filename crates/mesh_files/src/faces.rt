@@ -55,7 +55,7 @@ impl MeshText<'_> {
         &self,
         form: Form,
         line: &mut String,
-        place: usize,
+        index: usize,
         face: &[u32; 3],
     ) -> Result<(), AllocError> {
         let [a, b, c] = face.map(|corner| self.number_of(form, corner));
@@ -65,11 +65,11 @@ impl MeshText<'_> {
             Form::Csv => {
                 let area = self.area(face);
                 write!(line, "{a},{b},{c},{area}")?;
-                self.push_polygon_fields(line, place)?;
+                self.push_polygon_fields(line, index)?;
                 line.push('\n')
             }
             _ => {
-                let number = place.saturating_add(1);
+                let number = index.saturating_add(1);
                 writeln!(line, "{number} {a} {b} {c}")
             }
         }
@@ -143,12 +143,12 @@ impl MeshText<'_> {
     }
 
     /// Puts the numbers of a point behind a line, as JSON spells numbers.
-    fn push_position(&self, line: &mut String, place: usize) -> Result<(), AllocError> {
-        if let Some(spot) = self.drawing.spots.get(place) {
+    fn push_position(&self, line: &mut String, index: usize) -> Result<(), AllocError> {
+        if let Some(spot) = self.drawing.spots.get(index) {
             let (x, y) = (spot.x.decimal, spot.y.decimal);
             write!(line, "{x},{y}")?;
         }
-        if let Some(height) = self.drawing.height(place) {
+        if let Some(height) = self.drawing.height(index) {
             let z = height.decimal;
             write!(line, ",{z}")?;
         }
@@ -159,11 +159,11 @@ impl MeshText<'_> {
     fn push_polygon(
         &self,
         line: &mut String,
-        place: usize,
+        index: usize,
         [a, b, c]: &[u32; 3],
     ) -> Result<(), AllocError> {
         line.push_str("{\"type\":\"Feature\",\"properties\":")?;
-        self.push_properties(line, place)?;
+        self.push_properties(line, index)?;
         line.push_str(",\"geometry\":")?;
         line.push_str("{\"type\":\"Polygon\",\"coordinates\":[[[")?;
         for corner in [a, b, c] {
@@ -193,19 +193,19 @@ impl MeshText<'_> {
         &self,
         form: Form,
         line: &mut String,
-        place: usize,
+        index: usize,
     ) -> Result<(), AllocError> {
-        let Some(face) = self.faces.get(place) else {
+        let Some(face) = self.faces.get(index) else {
             return Ok(());
         };
         match form {
             Form::GeoJson => {
-                line.push_str(if place == 0 { "\n" } else { ",\n" })?;
-                self.push_polygon(line, place, face)
+                line.push_str(if index == 0 { "\n" } else { ",\n" })?;
+                self.push_polygon(line, index, face)
             }
             Form::Svg => self.push_svg_face(line, face),
             Form::Stl => self.push_facet(line, face),
-            _ => self.push_corners(form, line, place, face),
+            _ => self.push_corners(form, line, index, face),
         }
     }
 }

@@ -240,15 +240,15 @@ impl fmt::Display for FileLine {
 /// What is wrong with a file, and where: line 0 stands for all of the file.
 #[derive(Clone, Copy, Debug, Drop)]
 pub struct FileFault {
-    pub place: FileLine,
+    pub file_line: FileLine,
     pub reason: Reason,
 }
 
 impl fmt::Display for FileFault {
     fn fmt<W: fmt::Write>(&self, f: &mut fmt::Formatter<W>) -> fmt::Result {
-        let FileFault { place, reason } = *self;
-        if place.line > 0 {
-            write!(f, "{place}: ")?;
+        let FileFault { file_line, reason } = *self;
+        if file_line.line > 0 {
+            write!(f, "{file_line}: ")?;
         }
         write!(f, "{reason}")
     }
@@ -259,11 +259,11 @@ impl std::error::Error for FileFault {}
 impl FileFault {
     /// A fault of a line.
     pub fn at(line: u32, reason: Reason) -> Self {
-        FileFault::in_place(FileLine::of_line(line), reason)
+        FileFault::at_line(FileLine::of_line(line), reason)
     }
 
-    pub(crate) fn in_place(place: FileLine, reason: Reason) -> Self {
-        FileFault { place, reason }
+    pub(crate) fn at_line(file_line: FileLine, reason: Reason) -> Self {
+        FileFault { file_line, reason }
     }
 }
 

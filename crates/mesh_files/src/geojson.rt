@@ -317,7 +317,7 @@ impl GeoState {
     {
         self.outer.push(self.object)?;
         if self.outer.len() >= MAX_DEPTH {
-            return Err(FileFault::in_place(at, Reason::NotJson(MAX_DEPTH)));
+            return Err(FileFault::at_line(at, Reason::NotJson(MAX_DEPTH)));
         }
         self.object = GeoObject::new();
         self.wanted = Wanted::Inner;
@@ -354,7 +354,7 @@ impl GeoState {
     {
         if let Some(other) = self.object.member {
             let reason = Reason::Both(other.name(), member.name());
-            return Err(FileFault::in_place(at, reason));
+            return Err(FileFault::at_line(at, reason));
         }
         self.object.member = Some(member);
         self.wanted = match member {
@@ -391,7 +391,7 @@ impl GeoState {
             return Ok(());
         };
         if self.object.nesting != 0 && self.object.nesting != nesting {
-            return Err(FileFault::in_place(at, Reason::OtherNesting));
+            return Err(FileFault::at_line(at, Reason::OtherNesting));
         }
         self.shape.draw(kind, drawing)
     }
@@ -408,7 +408,7 @@ impl GeoState {
         };
         match self.object.whole_type(member) {
             Ok(kind) => self.draw(kind, at, drawing)?,
-            Err(reason) => return Err(FileFault::in_place(at, reason)),
+            Err(reason) => return Err(FileFault::at_line(at, reason)),
         }
         match outer {
             Some(outer) => self.object = outer,
@@ -438,7 +438,7 @@ impl GeoState {
                 self.object.is_in_list = false;
                 Ok(())
             }
-            _ => Err(FileFault::in_place(at, Reason::Expected(INNER))),
+            _ => Err(FileFault::at_line(at, Reason::Expected(INNER))),
         }
     }
 
@@ -458,7 +458,7 @@ impl GeoState {
         match token {
             Token::Key(name) => self.begin_member(name, at),
             Token::EndObject => self.close(at, drawing),
-            _ => Err(FileFault::in_place(at, Reason::Expected(INNER))),
+            _ => Err(FileFault::at_line(at, Reason::Expected(INNER))),
         }
     }
 
@@ -494,7 +494,7 @@ impl GeoState {
             drawing.new) }
     {
         if self.nesting.passed().is_none() {
-            return Err(FileFault::in_place(at, Reason::Expected(COORDINATES)));
+            return Err(FileFault::at_line(at, Reason::Expected(COORDINATES)));
         }
         let x = drawing.number(word.as_bytes(), "x", at)?;
         self.wanted = Wanted::SecondNumber(x, at);
@@ -519,7 +519,7 @@ impl GeoState {
         };
         match next {
             Some(next) => self.end_parts(next, drawing),
-            None => Err(FileFault::in_place(at, Reason::Expected(COORDINATES))),
+            None => Err(FileFault::at_line(at, Reason::Expected(COORDINATES))),
         }
     }
 
@@ -527,21 +527,21 @@ impl GeoState {
     fn take_second(
         &mut self,
         x: Number,
-        place: FileLine,
+        file_line: FileLine,
         token: Token<'_>,
         at: FileLine,
         drawing: &mut Drawing,
     ) -> Result<(), FileFault>
-        requires { self.old.wanted ≡ Wanted.SecondNumber x place }
+        requires { self.old.wanted ≡ Wanted.SecondNumber x file_line }
         ensures { OnOk result (ReadsToken (token_of token.entry) self.old self.new drawing.old
             drawing.new) }
     {
         let Token::Number(word) = token else {
-            return Err(FileFault::in_place(at, Reason::Missing("y")));
+            return Err(FileFault::at_line(at, Reason::Missing("y")));
         };
         let y = drawing.number(word.as_bytes(), "y", at)?;
         self.wanted = Wanted::MoreNumbers(GeoPosition {
-            spot: Spot::new(x, y, place),
+            spot: Spot::new(x, y, file_line),
             height: None,
         });
         Ok(())
@@ -603,7 +603,7 @@ impl GeoState {
         match token {
             Token::Number(word) => self.take_height(position, word, at, drawing),
             Token::EndArray => self.end_position(position, drawing),
-            _ => Err(FileFault::in_place(at, Reason::Expected("a number"))),
+            _ => Err(FileFault::at_line(at, Reason::Expected("a number"))),
         }
     }
 
@@ -620,11 +620,13 @@ impl GeoState {
         match self.wanted {
             Wanted::Inner => self.take_inner(token, at, drawing),
             Wanted::Coordinates => self.take_coordinate(token, at, drawing),
-            Wanted::SecondNumber(x, place) => self.take_second(x, place, token, at, drawing),
+            Wanted::SecondNumber(x, file_line) => self.take_second(
+                x, file_line, token, at, drawing,
+            ),
             Wanted::MoreNumbers(position) => self.take_more(position, token, at, drawing),
             wanted => match wanted.step(token) {
                 Ok(step) => self.take_step(step, at),
-                Err(wanted) => Err(FileFault::in_place(at, Reason::Expected(wanted))),
+                Err(wanted) => Err(FileFault::at_line(at, Reason::Expected(wanted))),
             },
         }
     }

@@ -42,7 +42,7 @@ impl<'a> JsonText<'a> {
 
     /// A fault of the last token.
     pub(crate) fn fault(&self, reason: Reason) -> FileFault {
-        FileFault::in_place(self.at, reason)
+        FileFault::at_line(self.at, reason)
     }
 
     /// Counts lines up to where the reader stands.

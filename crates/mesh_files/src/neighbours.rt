@@ -29,21 +29,21 @@ fn put(neighbours: &mut [[u32; 3]], side: &FaceSide, other: u32) {
     let Some(row) = neighbours.get_mut(side.face as usize) else {
         return;
     };
-    if let Some(place) = row.get_mut(side.across as usize) {
-        *place = other;
+    if let Some(slot) = row.get_mut(side.across as usize) {
+        *slot = other;
     }
 }
 
-/// Of each face the faces across its corners, by their places, or `NO_FACE`.
+/// Of each face the faces across its corners, by their indexes, or `NO_FACE`.
 pub(crate) fn neighbours_of(
     faces: &[[u32; 3]],
     alloc: Global,
 ) -> Result<Vec<[u32; 3]>, AllocError> {
     let mut sides = Vec::new(alloc);
     let mut neighbours = Vec::with_capacity(alloc, faces.len())?;
-    for (place, face) in faces.iter().enumerate() {
+    for (index, face) in faces.iter().enumerate() {
         neighbours.push([NO_FACE; 3])?;
-        for side in sides_of(u32::try_from(place).unwrap_or(NO_FACE), *face) {
+        for side in sides_of(u32::try_from(index).unwrap_or(NO_FACE), *face) {
             sides.push(side)?;
         }
     }

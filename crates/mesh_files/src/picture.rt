@@ -50,8 +50,8 @@ impl MeshText<'_> {
         }
     }
 
-    fn push_corner(&self, line: &mut String, place: u32) -> Result<(), AllocError> {
-        if let Some(point) = self.scaled.points.get(place as usize) {
+    fn push_corner(&self, line: &mut String, index: u32) -> Result<(), AllocError> {
+        if let Some(point) = self.scaled.points.get(index as usize) {
             let (x, y) = (point.x, i64::from(point.y).wrapping_neg());
             write!(line, "{x},{y} ")?;
         }
@@ -74,9 +74,9 @@ impl MeshText<'_> {
     pub(crate) fn push_constraint(
         &self,
         line: &mut String,
-        place: usize,
+        index: usize,
     ) -> Result<(), AllocError> {
-        let Some([a, b]) = self.constraints.get(place) else {
+        let Some([a, b]) = self.constraints.get(index) else {
             return Ok(());
         };
         line.push_str("<polyline points=\"")?;

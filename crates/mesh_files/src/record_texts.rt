@@ -43,34 +43,34 @@ fn add_columns(
     columns: &Columns,
     alloc: Global,
 ) -> Result<Vec<usize>, AllocError> {
-    let mut places = Vec::new(alloc);
-    for place in 0..header.len() {
-        if columns.is_number(place) {
+    let mut indexes = Vec::new(alloc);
+    for index in 0..header.len() {
+        if columns.is_number(index) {
             continue;
         }
-        places.push(place)?;
-        if let Some(name) = shown_name(header, place) {
+        indexes.push(index)?;
+        if let Some(name) = shown_name(header, index) {
             records.add_column(name)?;
             continue;
         }
-        let number = place.saturating_add(1);
+        let number = index.saturating_add(1);
         let mut name = String::new(alloc);
         write!(name, "column {number}")?;
         records.add_column(name.as_str())?;
     }
-    Ok(places)
+    Ok(indexes)
 }
 
 /// Takes a row in.
 fn add_row(
     records: &mut Records,
     row: &ByteRecord,
-    places: &[usize],
+    indexes: &[usize],
     alloc: Global,
 ) -> Result<(), AllocError> {
-    for (column, place) in places.iter().enumerate() {
+    for (column, index) in indexes.iter().enumerate() {
         let column = u32::try_from(column).unwrap_or(u32::MAX);
-        add_field(records, column, word_of(row, *place), alloc)?;
+        add_field(records, column, word_of(row, *index), alloc)?;
     }
     records.end_record()
 }
@@ -79,13 +79,13 @@ fn add_row(
 fn add_rows(
     reader: &mut TableReader<&[u8]>,
     records: &mut Records,
-    places: &[usize],
+    indexes: &[usize],
     alloc: Global,
 ) -> Result<(), FileFault> {
     let mut row = ByteRecord::new(alloc);
     for _ in 0..u64::MAX {
         match reader.read_byte_record(&mut row) {
-            Ok(true) => add_row(records, &row, places, alloc)?,
+            Ok(true) => add_row(records, &row, indexes, alloc)?,
             Ok(false) => break,
             Err(error) => return Err(fault_of(&error, 1)),
         }
@@ -104,8 +104,8 @@ pub fn table_records(
     let mut reader = open_table(text, alloc);
     let header = header_of(&mut reader, alloc)?;
     let columns = Columns::of(&header, names)?;
-    let places = add_columns(&mut records, &header, &columns, alloc)?;
-    add_rows(&mut reader, &mut records, places.as_slice(), alloc)?;
+    let indexes = add_columns(&mut records, &header, &columns, alloc)?;
+    add_rows(&mut reader, &mut records, indexes.as_slice(), alloc)?;
     Ok(records)
 }
 

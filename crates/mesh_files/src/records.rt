@@ -32,7 +32,7 @@ pub struct Records {
     of: RecordsOf,
 }
 
-/// What is named in an answer: a point by its place, or polygons by their numbers.
+/// What is named in an answer: a point by its index, or polygons by their numbers.
 #[derive(Clone, Copy)]
 pub enum Named<'a> {
     Nothing,
@@ -169,9 +169,9 @@ impl Records {
     }
 
     /// The record of a point.
-    fn point_record(&self, drawing: &Drawing, place: u32) -> usize {
-        match (self.of, drawing.spots.get(place as usize)) {
-            (RecordsOf::Rows, _) => place as usize,
+    fn point_record(&self, drawing: &Drawing, index: u32) -> usize {
+        match (self.of, drawing.spots.get(index as usize)) {
+            (RecordsOf::Rows, _) => index as usize,
             (RecordsOf::Features, Some(spot)) => (spot.feature as usize).saturating_sub(1),
             _ => usize::MAX,
         }
@@ -193,7 +193,7 @@ impl Records {
     fn record_of(&self, drawing: &Drawing, named: Named<'_>, i: usize) -> usize {
         match named {
             Named::Nothing => usize::MAX,
-            Named::Point(place) => self.point_record(drawing, place),
+            Named::Point(index) => self.point_record(drawing, index),
             Named::Polygons(numbers) => match numbers.get(i) {
                 Some(number) => self.polygon_record(drawing, *number),
                 None => usize::MAX,

@@ -4,16 +4,16 @@ use delaunay_core::point::Point2;
 use std::alloc::{AllocError, Global};
 
 /// A side of a ring, or a part of one: the direction of its line in least numbers, how far the line
-/// is from 0, and of both ends how far on the line they are, and the places of their points.
+/// is from 0, and of both ends how far on the line they are, and the indexes of their points.
 #[derive(Clone, Copy, PartialEq, Eq, PartialOrd, Ord)]
 struct RingSide {
     dx: i64,
     dy: i64,
     offset: i64,
     from: i64,
-    from_place: u32,
+    from_index: u32,
     to: i64,
-    to_place: u32,
+    to_index: u32,
 }
 
 impl RingSide {
@@ -32,9 +32,9 @@ fn common_divisor(first: u64, second: u64) -> u64 {
 }
 
 /// The side between two points; none where they are at one position.
-fn side_between(points: &[Point2<i32>], from_place: u32, to_place: u32) -> Option<RingSide> {
-    let start = points.get(from_place as usize)?;
-    let end = points.get(to_place as usize)?;
+fn side_between(points: &[Point2<i32>], from_index: u32, to_index: u32) -> Option<RingSide> {
+    let start = points.get(from_index as usize)?;
+    let end = points.get(to_index as usize)?;
     let (x, y) = (i64::from(start.x), i64::from(start.y));
     let (end_x, end_y) = (i64::from(end.x), i64::from(end.y));
     let (dx, dy) = (end_x.wrapping_sub(x), end_y.wrapping_sub(y));
@@ -46,9 +46,9 @@ fn side_between(points: &[Point2<i32>], from_place: u32, to_place: u32) -> Optio
         dy,
         offset: dx.wrapping_mul(y).wrapping_sub(dy.wrapping_mul(x)),
         from: dx.wrapping_mul(x).wrapping_add(dy.wrapping_mul(y)),
-        from_place,
+        from_index,
         to: dx.wrapping_mul(end_x).wrapping_add(dy.wrapping_mul(end_y)),
-        to_place,
+        to_index,
     })
 }
 
@@ -111,46 +111,46 @@ fn polygon_sides(
     Ok(sides)
 }
 
-/// The first place in a list in order at which a side on this one's line may stand.
+/// The first index in a list in order at which a side on this one's line may stand.
 fn first_on(side: &RingSide, sides: &[RingSide]) -> usize {
     let mut least = *side;
     least.from = i64::MIN;
-    least.from_place = 0;
+    least.from_index = 0;
     least.to = i64::MIN;
-    least.to_place = 0;
+    least.to_index = 0;
     match sides.binary_search(&least) {
         Ok(first) | Err(first) => first,
     }
 }
 
-/// Adds the parts of a side along which no side of a list in order goes, by the places of their
+/// Adds the parts of a side along which no side of a list in order goes, by the indexes of their
 /// ends.
 fn add_open(
     side: &RingSide,
     sides: &[RingSide],
     open: &mut Vec<[u32; 2]>,
 ) -> Result<(), AllocError> {
-    let (mut from, mut place) = (side.from, side.from_place);
+    let (mut from, mut index) = (side.from, side.from_index);
     let others = sides.get(first_on(side, sides)..).unwrap_or(&[]);
     for other in others {
         if !other.is_along(side) || other.from >= side.to {
             break;
         }
         if from < other.from {
-            open.push([place, other.from_place])?;
+            open.push([index, other.from_index])?;
         }
         if from < other.to {
             from = other.to;
-            place = other.to_place;
+            index = other.to_index;
         }
     }
     if from < side.to {
-        open.push([place, side.to_place])?;
+        open.push([index, side.to_index])?;
     }
     Ok(())
 }
 
-/// The sides of rings round holes, by the places of their ends, with the hole on the left. Parts
+/// The sides of rings round holes, by the indexes of their ends, with the hole on the left. Parts
 /// are left out that have another polygon there: it fills the hole.
 pub fn hole_sides(
     drawing: &Drawing,

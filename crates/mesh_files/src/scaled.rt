@@ -134,7 +134,7 @@ impl Ends {
 }
 
 /// The ends of a coordinate of all points of a drawing.
-fn ends_of(axis: Axis, drawing: &Drawing, digits: u32) -> Option<Ends> {
+fn axis_ends(axis: Axis, drawing: &Drawing, digits: u32) -> Option<Ends> {
     let ends = Ends::of(axis, drawing.spots.as_slice(), digits, None)?;
     let ends = Ends::of(axis, drawing.holes.as_slice(), digits, ends)?;
     Some(ends.unwrap_or(Ends { least: 0, most: 0 }))
@@ -142,8 +142,8 @@ fn ends_of(axis: Axis, drawing: &Drawing, digits: u32) -> Option<Ends> {
 
 /// How far apart the points of a drawing are, if they fit with so many digits.
 fn fitting_span(drawing: &Drawing, digits: u32) -> Option<i64> {
-    let x = ends_of(Axis::X, drawing, digits)?;
-    let y = ends_of(Axis::Y, drawing, digits)?;
+    let x = axis_ends(Axis::X, drawing, digits)?;
+    let y = axis_ends(Axis::Y, drawing, digits)?;
     let span = x.span().max(y.span());
     if span <= RANGE { Some(span) } else { None }
 }
@@ -188,7 +188,7 @@ fn round_spot(
     digits: u32,
     moves: &mut Moves,
 ) -> Result<(), FileFault> {
-    let at = spot.file_place();
+    let at = spot.file_line();
     moves.note(&spot.x.decimal, digits, texts.finest);
     moves.note(&spot.y.decimal, digits, texts.finest);
     spot.x = texts.rounded(spot.x, digits, at)?;
@@ -269,7 +269,7 @@ fn coordinate_of(
         Err(ScaleError::TooFine) => Reason::TooFine(axis.name(), fitting.unwrap_or(0)),
         Err(ScaleError::TooFar) => Reason::TooFar(axis.name(), scale.digits, fitting),
     };
-    Err(FileFault::in_place(spot.file_place(), reason))
+    Err(FileFault::at_line(spot.file_line(), reason))
 }
 
 /// A coordinate of the first point, in units of the last of so many digits, if it has not too many.
@@ -280,7 +280,7 @@ fn first_units(axis: Axis, drawing: &Drawing, digits: u32) -> Option<i64> {
 /// The scale of one coordinate of a drawing. Where the points are too far apart, it has its 0 at
 /// the first of them.
 fn scale_of(axis: Axis, drawing: &Drawing, digits: u32) -> Scale {
-    match ends_of(axis, drawing, digits) {
+    match axis_ends(axis, drawing, digits) {
         Some(ends) if ends.span() <= RANGE => Scale::between(digits, ends.least, ends.most),
         _ => Scale {
             origin: first_units(axis, drawing, digits).unwrap_or(0),
@@ -300,7 +300,7 @@ fn finer_fault(drawing: &Drawing, digits: u32) -> Option<FileFault> {
             continue;
         };
         let reason = Reason::TooFine(axis.name(), digits);
-        return Some(FileFault::in_place(spot.file_place(), reason));
+        return Some(FileFault::at_line(spot.file_line(), reason));
     }
     None
 }

@@ -89,14 +89,14 @@ impl WholeLine {
         let mut last = self.start;
         for next in self.start.saturating_add(1)..self.end {
             let at = match drawing.spots.get(next as usize) {
-                Some(spot) => spot.file_place(),
+                Some(spot) => spot.file_line(),
                 None => self.at,
             };
             drawing.join(last, next, at)?;
             last = next;
         }
         let at = match &self.closing {
-            Some(position) => position.spot.file_place(),
+            Some(position) => position.spot.file_line(),
             None if closes => {
                 drawing.note_open_ring(self.at);
                 self.at
@@ -112,7 +112,7 @@ impl WholeLine {
     /// Asks for a ring's three corners.
     fn check_ring(&self) -> Result<(), FileFault> {
         if self.end.saturating_sub(self.start) < 3 {
-            return Err(FileFault::in_place(self.at, Reason::SmallRing));
+            return Err(FileFault::at_line(self.at, Reason::SmallRing));
         }
         Ok(())
     }
@@ -183,7 +183,7 @@ impl Shape {
             → HasPositions tokens self.new × DrawsRuns tokens drawing.new) }
     {
         let Some(mut line) = self.open else {
-            let start = drawing.next_place(position.spot.file_place())?;
+            let start = drawing.next_index(position.spot.file_line())?;
             position.draw(drawing)?;
             self.open = Some(OpenLine {
                 start,
@@ -208,9 +208,9 @@ impl Shape {
             return Ok(());
         };
         self.open = None;
-        let at = line.first.spot.file_place();
+        let at = line.first.spot.file_line();
         let closing = line.end(drawing)?;
-        let end = drawing.next_place(at)?;
+        let end = drawing.next_index(at)?;
         self.lines.push(WholeLine {
             at,
             start: line.start,

@@ -120,7 +120,7 @@ fn leave_out_values(head: PointHead, drawing: &mut Drawing) -> Result<(), FileFa
 /// the first.
 fn point_number(
     source: &mut WordLines<'_>,
-    place: u32,
+    index: u32,
     first: Option<u32>,
 ) -> Result<u32, FileFault>
     ensures { OnOk result ((number : List ℕ) × BeginsRow (number ∷ []) source.old source.new) }
@@ -128,7 +128,7 @@ fn point_number(
     source.needed_line("a point")?;
     let number = source.count("the point's number")?;
     let first = first.unwrap_or(number);
-    if first > 1 || number.wrapping_sub(first) != place {
+    if first > 1 || number.wrapping_sub(first) != index {
         return Err(source.fault(Reason::NotNext));
     }
     Ok(first)
@@ -176,21 +176,21 @@ fn read_point_part(source: &mut WordLines<'_>, drawing: &mut Drawing) -> Result<
     leave_out_values(head, drawing)?;
     let has_heights = head.attributes > 0;
     let mut first = None;
-    for place in 0..head.count {
-        first = Some(point_number(source, place, first)?);
+    for index in 0..head.count {
+        first = Some(point_number(source, index, first)?);
         take_point(source, has_heights, drawing)?;
     }
     Ok(first.unwrap_or(0))
 }
 
-/// The place of a point that is named by its number.
+/// The index of a point that is named by its number.
 fn numbered_point(source: &mut WordLines<'_>, first: u32, count: usize) -> Result<u32, FileFault>
     ensures { OnOk result (source.new.rest.now ≡ source.old.rest.now) }
 {
     let number = source.count("a segment's end")?;
-    let place = number.wrapping_sub(first);
-    if (place as usize) < count {
-        Ok(place)
+    let index = number.wrapping_sub(first);
+    if (index as usize) < count {
+        Ok(index)
     } else {
         Err(source.fault(Reason::NoPoint(u64::from(number))))
     }

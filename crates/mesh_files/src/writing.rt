@@ -63,8 +63,8 @@ const PARTS: [Part; 6] = [
 /// The points that are written where not all are.
 #[derive(Clone, Copy)]
 pub struct WrittenPoints<'a> {
-    /// Their places, in order.
-    pub places: &'a [u32],
+    /// Their indexes, in order.
+    pub indexes: &'a [u32],
     /// Of each point of the drawing how many of these stand before it.
     pub ranks: &'a [u32],
 }
@@ -97,7 +97,7 @@ impl<'a> FacePolygons<'a> {
     }
 }
 
-/// A mesh that is to be written: a drawing, faces by the places of their corners in its list of
+/// A mesh that is to be written: a drawing, faces by the indexes of their corners in its list of
 /// points, and in the same way the edges that are constraints. A picture has this width, in pixels.
 #[derive(Drop)]
 pub struct MeshText<'a> {
@@ -125,26 +125,26 @@ impl MeshText<'_> {
     /// How many points are written.
     fn point_count(&self) -> usize {
         match self.points {
-            Some(points) => points.places.len(),
+            Some(points) => points.indexes.len(),
             None => self.drawing.spots.len(),
         }
     }
 
-    /// The place in the drawing of a point that is written.
-    fn place_at(&self, place: usize) -> usize {
+    /// The index in the drawing of a point that is written.
+    fn index_at(&self, index: usize) -> usize {
         match self.points {
-            Some(points) => points.places.get(place).copied().unwrap_or(u32::MAX) as usize,
-            None => place,
+            Some(points) => points.indexes.get(index).copied().unwrap_or(u32::MAX) as usize,
+            None => index,
         }
     }
 
     /// The number that a point has in this form: from 0 in `ply`, else from 1.
-    pub(crate) fn number_of(&self, form: Form, place: u32) -> u64 {
-        let place = match self.points {
-            Some(points) => points.ranks.get(place as usize).copied().unwrap_or(place),
-            None => place,
+    pub(crate) fn number_of(&self, form: Form, index: u32) -> u64 {
+        let index = match self.points {
+            Some(points) => points.ranks.get(index as usize).copied().unwrap_or(index),
+            None => index,
         };
-        u64::from(place).saturating_add(u64::from(form != Form::Ply))
+        u64::from(index).saturating_add(u64::from(form != Form::Ply))
     }
 
     /// Puts a number behind a line, as it came.
@@ -160,15 +160,15 @@ impl MeshText<'_> {
     fn push_point(
         &self,
         line: &mut String,
-        place: usize,
+        index: usize,
         needs_height: bool,
     ) -> Result<(), AllocError> {
-        if let Some(spot) = self.drawing.spots.get(place).copied() {
+        if let Some(spot) = self.drawing.spots.get(index).copied() {
             self.push_number(line, spot.x)?;
             line.push(' ')?;
             self.push_number(line, spot.y)?;
         }
-        match self.drawing.height(place) {
+        match self.drawing.height(index) {
             Some(height) => {
                 line.push(' ')?;
                 self.push_number(line, height)
@@ -183,29 +183,29 @@ impl MeshText<'_> {
         &self,
         form: Form,
         line: &mut String,
-        place: usize,
+        index: usize,
     ) -> Result<(), AllocError> {
         match form {
             Form::Obj => line.push_str("v ")?,
             Form::Node | Form::Poly => {
-                let number = place.saturating_add(1);
+                let number = index.saturating_add(1);
                 write!(line, "{number} ")?;
             }
             _ => {}
         }
-        let place = if form == Form::Stl {
-            place
+        let index = if form == Form::Stl {
+            index
         } else {
-            self.place_at(place)
+            self.index_at(index)
         };
         let is_list = matches!(form, Form::Node | Form::Poly);
-        self.push_point(line, place, !is_list || !self.drawing.heights.is_empty())?;
+        self.push_point(line, index, !is_list || !self.drawing.heights.is_empty())?;
         line.push('\n')
     }
 
     /// Puts a constraint behind a line, by the numbers of its ends or, in GeoJSON, as a line.
-    fn push_segment(&self, form: Form, line: &mut String, place: usize) -> Result<(), AllocError> {
-        let Some([from, to]) = self.constraints.get(place) else {
+    fn push_segment(&self, form: Form, line: &mut String, index: usize) -> Result<(), AllocError> {
+        let Some([from, to]) = self.constraints.get(index) else {
             return Ok(());
         };
         let (a, b) = (self.number_of(form, *from), self.number_of(form, *to));
@@ -213,12 +213,12 @@ impl MeshText<'_> {
             Form::Obj => writeln!(line, "l {a} {b}"),
             Form::Ply => writeln!(line, "{a} {b}"),
             Form::GeoJson => {
-                let is_first = place == 0 && self.faces.is_empty();
+                let is_first = index == 0 && self.faces.is_empty();
                 line.push_str(if is_first { "\n" } else { ",\n" })?;
                 self.push_line_string(line, [*from, *to])
             }
             _ => {
-                let number = place.saturating_add(1);
+                let number = index.saturating_add(1);
                 writeln!(line, "{number} {a} {b}")
             }
         }
@@ -239,8 +239,8 @@ impl MeshText<'_> {
         let mut line = String::new(alloc);
         self.push_ele_head(&mut line)?;
         let neighbours = neighbours_of(self.faces, alloc)?;
-        for (place, row) in neighbours.iter().enumerate() {
-            let number = place.saturating_add(1);
+        for (index, row) in neighbours.iter().enumerate() {
+            let number = index.saturating_add(1);
             write!(line, "{number}")?;
             for face in row {
                 push_neighbour(&mut line, *face)?;
@@ -326,20 +326,20 @@ impl MeshText<'_> {
         &self,
         form: Form,
         part: Part,
-        place: usize,
+        index: usize,
         line: &mut String,
     ) -> Result<(), AllocError> {
         match part {
             Part::Head => self.push_head(form, line),
-            Part::Points => self.push_point_line(form, line, place),
-            Part::Faces => self.push_face_line(form, line, place),
+            Part::Points => self.push_point_line(form, line, index),
+            Part::Faces => self.push_face_line(form, line, index),
             Part::ConstraintHead if form == Form::Poly => {
                 let count = self.constraints.len();
                 writeln!(line, "{count} 0")
             }
             Part::ConstraintHead => self.push_constraint_head(line),
-            Part::Constraints if form == Form::Svg => self.push_constraint(line, place),
-            Part::Constraints => self.push_segment(form, line, place),
+            Part::Constraints if form == Form::Svg => self.push_constraint(line, index),
+            Part::Constraints => self.push_segment(form, line, index),
             Part::Tail => line.push_str(match form {
                 Form::Svg => "</g>\n</svg>\n",
                 Form::Stl => "endsolid mesh\n",
@@ -356,9 +356,9 @@ impl MeshText<'_> {
         }
         let mut line = String::new(alloc);
         for part in PARTS {
-            for place in 0..self.count(form, part) {
+            for index in 0..self.count(form, part) {
                 line.clear();
-                self.push_line(form, part, place, &mut line)?;
+                self.push_line(form, part, index, &mut line)?;
                 writer.write_all(line.as_bytes())?;
             }
         }

@@ -17,4 +17,4 @@ mod wkt;
 pub use output::write_mesh;
 pub use progress::tell_step;
 pub use reading::{Scene, input_name, read_scene, refine_scene};
-pub use tasks::{CrossingRule, KeepRule, Question, Source, Task, Way, command, task_of};
+pub use tasks::{CrossingRule, KeepRule, Question, Source, Task, TypedEnds, command, task_of};

@@ -11,7 +11,7 @@ use crate::sniffing::{
 };
 use crate::tasks::suffix;
 use crate::wkt::has_geometries;
-use crate::{KeepRule, Question, Source, Task, Way};
+use crate::{KeepRule, Question, Source, Task, TypedEnds};
 use anyhow::{Context, anyhow, bail};
 use decimal_numbers::Decimal;
 use mesh_files::{
@@ -483,13 +483,16 @@ fn read_asked(rt: &HostRuntime, task: &Task<'_>, file: &str) -> anyhow::Result<D
 
 /// A fault of the ends of a way, which are words of the command line.
 fn way_fault(option: &str, fault: FileFault) -> anyhow::Error {
-    let FileFault { place: _, reason } = fault;
+    let FileFault {
+        file_line: _,
+        reason,
+    } = fault;
     anyhow!("{option}: {reason}")
 }
 
 /// Reads the ends of a way.
-fn read_way(rt: &HostRuntime, option: &str, way: Way<'_>) -> anyhow::Result<Drawing> {
-    let Way { x1, y1, x2, y2 } = way;
+fn read_ends(rt: &HostRuntime, option: &str, ends: TypedEnds<'_>) -> anyhow::Result<Drawing> {
+    let TypedEnds { x1, y1, x2, y2 } = ends;
     let table = format!(in rt.alloc(); "x,y\n{x1},{y1}\n{x2},{y2}\n")?;
     match read_csv(table.as_bytes(), ColumnNames::new(), rt.alloc()) {
         Ok(way) => Ok(way),
@@ -531,8 +534,8 @@ fn tell_without_height(rt: &impl Eprint, task: &Task<'_>, drawing: &Drawing) {
 fn read_question(rt: &HostRuntime, task: &Task<'_>) -> anyhow::Result<Drawing> {
     match task.question {
         Some(Question::Nearest(file) | Question::Locate(file)) => { read_asked(rt, task, file) }
-        Some(Question::Line(way)) => read_way(rt, "--line", way),
-        Some(Question::Way(way)) => read_way(rt, "--way", way),
+        Some(Question::Line(way)) => read_ends(rt, "--line", way),
+        Some(Question::Way(way)) => read_ends(rt, "--way", way),
         Some(Question::Overlaps) | None => Ok(Drawing::new(rt.alloc())),
     }
 }

@@ -35,7 +35,7 @@ fn words_of<'a>(
 }
 
 /// The line that a ring begins in.
-fn line_of(drawing: &Drawing, ring: usize) -> u32 {
+fn ring_line(drawing: &Drawing, ring: usize) -> u32 {
     let Some(points) = drawing.rings.get(ring) else {
         return 0;
     };
@@ -70,7 +70,7 @@ pub fn returned_ring<'a>(
         if is_first {
             first = Some(Returned {
                 word: next.word,
-                line: line_of(drawing, next.ring),
+                line: ring_line(drawing, next.ring),
                 count: 0,
                 ring: next.ring,
             });

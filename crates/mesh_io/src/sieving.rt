@@ -145,14 +145,14 @@ impl Rows<'_> {
 
 /// Where a row begins and ends in its text, and its line.
 #[derive(Clone, Copy)]
-struct RowPlace {
+struct RowSpan {
     start: usize,
     end: usize,
     line: u32,
 }
 
-/// A count as a place in memory.
-fn as_place(count: u64) -> usize {
+/// A count as an index in memory.
+fn as_index(count: u64) -> usize {
     usize::try_from(count).unwrap_or(usize::MAX)
 }
 
@@ -160,8 +160,8 @@ fn as_place(count: u64) -> usize {
 fn next_row(
     reader: &mut TableReader<&[u8]>,
     row: &mut ByteRecord,
-) -> Result<Option<RowPlace>, FileFault> {
-    let start = as_place(reader.position().byte());
+) -> Result<Option<RowSpan>, FileFault> {
+    let start = as_index(reader.position().byte());
     match reader.read_byte_record(row) {
         Ok(true) => {}
         Ok(false) => return Ok(None),
@@ -172,9 +172,9 @@ fn next_row(
         Some(position) => position.line(),
         None => 0,
     };
-    Ok(Some(RowPlace {
+    Ok(Some(RowSpan {
         start,
-        end: as_place(reader.position().byte()),
+        end: as_index(reader.position().byte()),
         line: u32::try_from(line).unwrap_or(u32::MAX),
     }))
 }
@@ -188,11 +188,11 @@ fn take_next(
     sieve: &Sieve,
     alloc: Global,
 ) -> Result<bool, FileFault> {
-    let Some(place) = next_row(reader, row)? else {
+    let Some(span) = next_row(reader, row)? else {
         return Ok(false);
     };
-    let bytes = rows.text.get(place.start..place.end).unwrap_or(&[]);
-    rows.take(bytes, place.line, names, sieve, alloc)?;
+    let bytes = rows.text.get(span.start..span.end).unwrap_or(&[]);
+    rows.take(bytes, span.line, names, sieve, alloc)?;
     Ok(true)
 }
 
@@ -235,7 +235,7 @@ pub fn sieve_rows(
         .from_reader(alloc, text);
     let mut row = ByteRecord::new(alloc);
     let end = match next_row(&mut reader, &mut row)? {
-        Some(place) => place.end,
+        Some(span) => span.end,
         None => text.len(),
     };
     let header = text.get(..end).unwrap_or(&[]);
@@ -279,7 +279,7 @@ struct Features<'a> {
 }
 
 impl Features<'_> {
-    /// Copies the text up to a place.
+    /// Copies the text up to an index.
     fn copy_to(&mut self, end: usize) -> Result<(), AllocError> {
         let part = self.text.get(self.copied..end).unwrap_or(&[]);
         self.sieved.text.extend_from_slice(part)?;
@@ -287,7 +287,7 @@ impl Features<'_> {
         Ok(())
     }
 
-    /// Passes the text up to a place.
+    /// Passes the text up to an index.
     fn pass_to(&mut self, end: usize) {
         let part = self.text.get(self.copied..end).unwrap_or(&[]);
         self.lines = self.lines.saturating_add(line_ends(part));
@@ -297,12 +297,12 @@ impl Features<'_> {
     /// Leaves the feature out that ends at a place, with what is wrong with it.
     fn leave_out(&mut self, end: usize, fault: FileFault) -> Result<(), AllocError> {
         let before = u32::try_from(self.lines).unwrap_or(u32::MAX);
-        let place = FileLine {
-            line: before.saturating_add(fault.place.line.max(1)),
+        let file_line = FileLine {
+            line: before.saturating_add(fault.file_line.line.max(1)),
             feature: self.count,
         };
         self.sieved.skipped.faults.push(FileFault {
-            place,
+            file_line,
             reason: fault.reason,
         })?;
         let feature = self.text.get(self.copied..end).unwrap_or(&[]);

@@ -31,9 +31,9 @@ pub enum KeepRule {
     Layers,
 }
 
-/// The coordinates of the ends of a way, as words.
+/// The coordinates of two ends, as they are typed.
 #[derive(Clone, Copy)]
-pub struct Way<'a> {
+pub struct TypedEnds<'a> {
     pub x1: &'a str,
     pub y1: &'a str,
     pub x2: &'a str,
@@ -46,9 +46,9 @@ pub struct Way<'a> {
 pub enum Question<'a> {
     Nearest(&'a str),
     Locate(&'a str),
-    Line(Way<'a>),
+    Line(TypedEnds<'a>),
     Overlaps,
-    Way(Way<'a>),
+    Way(TypedEnds<'a>),
 }
 
 /// What is asked for.
@@ -382,9 +382,9 @@ fn form_of(matches: &ArgMatches<'_>, output: Option<&str>) -> Option<Form> {
 }
 
 /// The ends that an option has, if it is given.
-fn ends_of<'a>(matches: &ArgMatches<'a>, option: &str) -> Option<Way<'a>> {
+fn typed_ends<'a>(matches: &ArgMatches<'a>, option: &str) -> Option<TypedEnds<'a>> {
     match matches.get_strs(option) {
-        Some([x1, y1, x2, y2]) => Some(Way {
+        Some([x1, y1, x2, y2]) => Some(TypedEnds {
             x1: *x1,
             y1: *y1,
             x2: *x2,
@@ -405,10 +405,10 @@ fn question_of<'a>(matches: &ArgMatches<'a>) -> Option<Question<'a>> {
     if matches.get_flag("overlaps") {
         return Some(Question::Overlaps);
     }
-    if let Some(ends) = ends_of(matches, "line") {
+    if let Some(ends) = typed_ends(matches, "line") {
         return Some(Question::Line(ends));
     }
-    Some(Question::Way(ends_of(matches, "way")?))
+    Some(Question::Way(typed_ends(matches, "way")?))
 }
 
 /// How numbers are rounded.
@@ -421,7 +421,7 @@ fn rounding_of(matches: &ArgMatches<'_>) -> Rounding {
 }
 
 /// What becomes of segments that cross.
-fn crossing_of(matches: &ArgMatches<'_>) -> CrossingRule {
+fn crossing_rule(matches: &ArgMatches<'_>) -> CrossingRule {
     match matches.get_str("crossing") {
         Some("refuse") => CrossingRule::Refuse,
         Some("skip") => CrossingRule::Skip,
@@ -457,7 +457,7 @@ pub fn task_of<'a>(matches: &ArgMatches<'a>) -> Task<'a> {
         nodata: matches.get_str("nodata"),
         skips_bad: matches.get_flag("skip-bad"),
         rounding: rounding_of(matches),
-        crossing: crossing_of(matches),
+        crossing: crossing_rule(matches),
         keep: keep_of(matches),
         is_quiet: matches.get_flag("quiet"),
         is_compact: matches.get_flag("compact"),

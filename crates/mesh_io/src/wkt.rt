@@ -235,7 +235,7 @@ fn push_field(text: &mut String, field: &[u8], alloc: Global) -> Result<(), Allo
 }
 
 /// The line that a row begins in.
-fn line_of(row: &ByteRecord) -> u64 {
+fn row_line(row: &ByteRecord) -> u64 {
     match row.position() {
         Some(position) => position.line(),
         None => 1,
@@ -296,7 +296,7 @@ impl Rewriting {
             self.text.push(',')?;
         }
         self.has_feature = true;
-        self.go_to(line_of(row))?;
+        self.go_to(row_line(row))?;
         self.text
             .push_str("{\"type\":\"Feature\",\"properties\":{")?;
         self.push_properties(row, alloc)?;
@@ -311,7 +311,7 @@ const GEOMETRY: &str = "a point, a line or a polygon of WKT";
 
 /// What is wrong with a row.
 fn fault_of_row(row: &ByteRecord, reason: Reason) -> FileFault {
-    FileFault::at(u32::try_from(line_of(row)).unwrap_or(u32::MAX), reason)
+    FileFault::at(u32::try_from(row_line(row)).unwrap_or(u32::MAX), reason)
 }
 
 /// Whether a text is JSON.

@@ -49,9 +49,9 @@ pub use Rattle.delaunay_edit.specs.Storage
 pub use Rattle.delaunay_interface.specs.Views
 pub use Rattle.delaunay_location.specs.Walk
 pub use Rattle.delaunay_edit.specs.Writing
-pub use Rattle.delaunay_queries.specs.Layers
-pub use Rattle.delaunay_queries.specs.Distances
-pub use Rattle.delaunay_queries.specs.Found
+pub use Rattle.delaunay_extensions.specs.Layers
+pub use Rattle.delaunay_extensions.specs.Distances
+pub use Rattle.delaunay_extensions.specs.Found
 pub use Rattle.delaunay_ways.specs.Ways
 pub use Rattle.delaunay_ways.specs.Parts
 pub use Rattle.delaunay_ways.specs.Widths

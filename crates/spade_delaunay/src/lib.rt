@@ -17,10 +17,9 @@
 pub mod handles;
 pub mod iterators;
 
-pub use delaunay_bulk::{BulkInsertion, BulkInsertionError, InsertAll};
-pub use delaunay_queries::{
-    CircleMetric, DistanceMetric, EdgesInShapeIterator, FloatTriangulation, RectangleMetric,
-    VerticesInShapeIterator, face_layers,
+pub use delaunay_extensions::{
+    BulkInsertion, BulkInsertionError, CircleMetric, DistanceMetric, EdgesInShapeIterator,
+    FloatTriangulation, RectangleMetric, VerticesInShapeIterator, face_layers,
 };
 pub use delaunay_shapes::{FreeFaces, is_in_sight};
 pub use delaunay_ways::{WideFaces, find_way, reachable};

@@ -7,7 +7,7 @@ use crate::counting::counting_rectangle;
 use crate::shapes::edge_indexes;
 use crate::vertices::{TaggedVertex, both_in_range};
 use delaunay_core::point::Point2;
-use delaunay_queries::FloatTriangulation;
+use delaunay_extensions::FloatTriangulation;
 use delaunay_shapes::edges_in_shape;
 use exact_predicates::ExactTests;
 use half_edge_dcel::Dcel;

@@ -1,8 +1,8 @@
 //! Lines that insert the vertices of a list at once or step by step.
 
 use crate::vertices::TaggedVertex;
-use delaunay_bulk::{BulkInsertion, BulkInsertionError, InsertAll};
 use delaunay_core::math::InsertionError;
+use delaunay_extensions::{BulkInsertion, BulkInsertionError, InsertAll};
 use delaunay_interface::Triangulation;
 use exact_predicates::ExactTests;
 use std::io;

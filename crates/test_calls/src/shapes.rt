@@ -3,7 +3,7 @@
 use crate::asks::asks_fewer;
 use crate::vertices::{TaggedVertex, both_in_range, circle_in_range};
 use delaunay_core::point::Point2;
-use delaunay_queries::FloatTriangulation;
+use delaunay_extensions::FloatTriangulation;
 use delaunay_shapes::{EdgesInShapeIterator, VerticesInShapeIterator};
 use exact_predicates::ExactTests;
 use std::alloc::{AllocError, Global};

@@ -59,7 +59,7 @@ one_more_named names i old now g within so_far read =
 
 -- all have them, of the faces that were listed
 all_named : (m : DrawnMesh) (count : ℕ) (before mid after : List RawFace)
-    → Answered (IsFaceEntry (drawing_of m) (constraints_of m.site)) count before mid
+    → Answered (IsFaceEntry (drawing_of m) (constraints_of m.triangulation)) count before mid
     → Answered (IsNamedOf m.vertices.items mid) count mid after
     → Answered (IsNamedFaceAt m) count before after
 all_named m count before mid after faces named = record {
@@ -76,40 +76,42 @@ all_named m count before mid after faces named = record {
 }
 
 module _ (m : DrawnMesh) (status told : ℕ) (old mid : List RawFace)
-    (lists : ListsRawFaces (drawing_of m) (constraints_of m.site) status told old mid) where
-  -- there was no room
-  pub unlisted_named : status ≢ WELL → ListsNamedFaces m status told old mid
-  unlisted_named ill = go lists
-    where
-      go : ListsRawFaces (drawing_of m) (constraints_of m.site) status told old mid
-          → ListsNamedFaces m status told old mid
-      go (listed is t answers) = absurd (ill is)
-      go (too_long is t less same) = too_long is t less same
-
-  module _ (well : status ≡ WELL) where
-    -- as many faces are there
-    pub listed_within : told ≤ length mid
-    listed_within = go lists
+    (lists : ListsRawFaces (drawing_of m) (constraints_of m.triangulation) status told old mid)
+  where
+    -- there was no room
+    pub unlisted_named : status ≢ WELL → ListsNamedFaces m status told old mid
+    unlisted_named ill = go lists
       where
-        go : ListsRawFaces (drawing_of m) (constraints_of m.site) status told old mid
-            → told ≤ length mid
-        go (listed is t answers) = subst (λ (n : ℕ). n ≤ length mid) (sym t)
-            (answered_within (IsFaceEntry (drawing_of m) (constraints_of m.site)) _ old mid answers)
-        go (too_long is t less same) =
-            let differ : TOO_SHORT ≡ WELL = sym is ∙ well in absurd (omega (arith, differ))
+        go : ListsRawFaces (drawing_of m) (constraints_of m.triangulation) status told old mid
+            → ListsNamedFaces m status told old mid
+        go (listed is t answers) = absurd (ill is)
+        go (too_long is t less same) = too_long is t less same
 
-    -- and each has the names of its corners then
-    pub listed_named : (new : List RawFace)
-        → Answered (IsNamedOf m.vertices.items mid) told mid new
-        → ListsNamedFaces m WELL told old new
-    listed_named new named = go lists
-      where
-        go : ListsRawFaces (drawing_of m) (constraints_of m.site) status told old mid
-            → ListsNamedFaces m WELL told old new
-        go (listed is t answers) = listed refl t (all_named m _ old mid new answers
-            (subst (λ (n : ℕ). Answered (IsNamedOf m.vertices.items mid) n mid new) t named))
-        go (too_long is t less same) =
-            let differ : TOO_SHORT ≡ WELL = sym is ∙ well in absurd (omega (arith, differ))
+    module _ (well : status ≡ WELL) where
+      -- as many faces are there
+      pub listed_within : told ≤ length mid
+      listed_within = go lists
+        where
+          go : ListsRawFaces (drawing_of m) (constraints_of m.triangulation) status told old mid
+              → told ≤ length mid
+          go (listed is t answers) = subst (λ (n : ℕ). n ≤ length mid) (sym t)
+              (answered_within (IsFaceEntry (drawing_of m) (constraints_of m.triangulation)) _ old
+              mid answers)
+          go (too_long is t less same) =
+              let differ : TOO_SHORT ≡ WELL = sym is ∙ well in absurd (omega (arith, differ))
+
+      -- and each has the names of its corners then
+      pub listed_named : (new : List RawFace)
+          → Answered (IsNamedOf m.vertices.items mid) told mid new
+          → ListsNamedFaces m WELL told old new
+      listed_named new named = go lists
+        where
+          go : ListsRawFaces (drawing_of m) (constraints_of m.triangulation) status told old mid
+              → ListsNamedFaces m WELL told old new
+          go (listed is t answers) = listed refl t (all_named m _ old mid new answers
+              (subst (λ (n : ℕ). Answered (IsNamedOf m.vertices.items mid) n mid new) t named))
+          go (too_long is t less same) =
+              let differ : TOO_SHORT ≡ WELL = sym is ∙ well in absurd (omega (arith, differ))
 
 -- ---- the call
 -- the drawing has all segments where none is left behind those that were known
@@ -118,9 +120,9 @@ pub whole_is_drawn : (points : List RawPoint) (segments : List RawSegment) (know
     → length segments ≤ known → DrawsFirst points segments known m → AllTaken m
     → ListsNamedFaces m status told old new
     → DrawsFaces points segments status at was told old new
-whole_is_drawn points segments known m status at was told old new within all first taken lists =
+whole_is_drawn points segments known m status at was told old new within all first added lists =
     let same : known ≡ length segments = omega (arith, within, all) in
-    faces_drawn m (subst (λ (n : ℕ). DrawsFirst points segments n m) same first) taken lists
+    faces_drawn m (subst (λ (n : ℕ). DrawsFirst points segments n m) same first) added lists
 
 -- ---- what may be refused
 -- all of a list are so, of which the first so many are
@@ -128,7 +130,7 @@ all_first : {A : Type 0} (P : A → Type 0) (xs : List A) → FirstAre P xs (len
 all_first P xs first = λ k d within. subst (λ (o : Option _). IsSomeAnd o P)
     (slice_get-get_or xs k d within) (first k within)
 
--- the first so many are all that are taken of a list
+-- the first so many are all that are added of a list
 pub first_of_fewer : {A : Type 0} (P : A → Type 0) (xs : List A) (n : ℕ) → n ≤ length xs
     → FirstAre P xs n → FirstAre P (take n xs) (length (take n xs))
 first_of_fewer P xs n within first = λ k below.
@@ -167,7 +169,7 @@ module _ (points : List RawPoint) (segments : List RawSegment) (may : MayDraw po
       → RefusesDrawing (map drawn_point points) (map drawn_segment segments) [] [] why
       → why ≡ error.OutOfMemory
   memory_alone why (points_refused refused) = of_points why refused
-  memory_alone why (segment_of_none is taken lacks) = absurd (lacks have_ends)
+  memory_alone why (segment_of_none is added lacks) = absurd (lacks have_ends)
   memory_alone why (hole_refused d refuses) = let there = refuses.there in absurd (cc)
   memory_alone why (side_of_none is d in_holes are lacks) =
       absurd (lacks (All-nil (HasEndsIn (length (map drawn_point points)))))

@@ -14,7 +14,7 @@ use Rattle.c_calls.specs.declared.statuses.TheConstants.{CROSSING, NO_SUCH_POINT
 abbrev pub FirstAre : {A : Type 0} → (A → Type 0) → List A → ℕ → Type 0
 FirstAre IsSo xs n = (k : ℕ) → k < n → IsSomeAnd (slice_get xs k) IsSo
 
--- the one at this place is not, and each before it is
+-- the one at this index is not, and each before it is
 pub record IsFirstNot {A : Type 0} (IsSo : A → Type 0) (xs : List A) (at : ℕ) : Type 0 where
   pub there : IsSomeAnd (slice_get xs at) (λ x. ¬ IsSo x)
   pub before : FirstAre IsSo xs at
@@ -37,7 +37,7 @@ AreDrawn points segments m =
 
 -- what it draws
 abbrev pub drawing_of : DrawnMesh → Triangulation
-drawing_of m = triangulation_of position m.site
+drawing_of m = triangulation_of position m.triangulation
 
 -- ---- its faces
 -- a face with the names of its corners in place of these
@@ -48,14 +48,14 @@ named_face names f = record f {
   corner_2 = slice_index names f.corner_2;
 }
 
--- the face at a place of a list, with such names
+-- the face at an index of a list, with such names
 abbrev pub IsNamedOf : List ℕ → List RawFace → ℕ → RawFace → Type 0
 IsNamedOf names faces k f = IsSomeAnd (slice_get faces k) (λ g. f ≡ named_face names g)
 
--- the face at a place, with its corners by the first points that are there
+-- the face at an index, with its corners by the first points that are there
 pub record IsNamedFaceAt (m : DrawnMesh) (k : ℕ) (f : RawFace) : Type 0 where
   pub face : RawFace
-  pub is_face : IsFaceEntry (drawing_of m) (constraints_of m.site) k face
+  pub is_face : IsFaceEntry (drawing_of m) (constraints_of m.triangulation) k face
   pub is_named : f ≡ named_face m.vertices.items face
 
 -- each face is listed
@@ -69,9 +69,9 @@ pub record MayDraw (points : List RawPoint) : Type 0 where
   pub in_range : FirstAre IsRawInRange points (length points)
   pub few : ¬ (MAX_ELEMENTS < 6 * length points)
 
--- each segment of a drawing was taken
+-- each segment of a drawing was added
 abbrev pub AllTaken : DrawnMesh → Type 0
-AllTaken m = FirstAre IsTrue m.taken.items (length m.taken.items)
+AllTaken m = FirstAre IsTrue m.added.items (length m.added.items)
 
 -- these segments are the first so many, which have their ends, and this is their drawing
 pub record DrawsFirst (points : List RawPoint) (segments : List RawSegment) (n : ℕ)
@@ -87,7 +87,7 @@ pub data DrawsFaces (points : List RawPoint) (segments : List RawSegment)
       → ListsNamedFaces m status told old new
       → DrawsFaces points segments status at was told old new
   segment_crossing : (m : DrawnMesh) (n : ℕ) → status ≡ CROSSING
-      → DrawsFirst points segments n m → IsFirstNot IsTrue m.taken.items at → told ≡ was
+      → DrawsFirst points segments n m → IsFirstNot IsTrue m.added.items at → told ≡ was
       → new ≡ old → DrawsFaces points segments status at was told old new
   segment_of_none : (m : DrawnMesh) → status ≡ NO_SUCH_POINT → DrawsFirst points segments at m
       → AllTaken m → IsFirstNot (EndsAtPoints (length points)) segments at → told ≡ was

@@ -3,7 +3,7 @@ ghost use Rattle.std.specs.Prelude.{◌≡◌, None};
 ghost use Rattle.c_calls.specs.Calls.{CopiesOpen, OpensClosed, TellsBeyond, TellsCounts};
 ghost use Rattle.c_calls.specs.Calls.{TellsCrossed, TellsEdges, TellsEdgesIn, TellsFaces};
 ghost use Rattle.c_calls.specs.Calls.{TellsInSight, TellsLabels, TellsLayers, TellsLine};
-ghost use Rattle.c_calls.specs.Calls.{TellsNearest, TellsNumbers, TellsPlaces, TellsPositions};
+ghost use Rattle.c_calls.specs.Calls.{TellsLocations, TellsNearest, TellsNumbers, TellsPositions};
 ghost use Rattle.c_calls.specs.Calls.{TellsVerticesIn, TellsWay, TellsWide};
 ghost use Rattle.{c_calls.specs.Words.TellsWords, tevasulim_c.specs.Whole.Triangulates};
 
@@ -11,7 +11,7 @@ use crate::whole::triangulate;
 use c_calls::{
     Edges, FindWay, Handle, InShape, ListBeyond, ListConflicts, ListEdges, ListFaces, ListLabels,
     ListLayers, ListNumbers, ListPositions, ListWide, Locate, LookAlong, RawBox, RawCounts,
-    RawEdge, RawFace, RawMeeting, RawPlace, RawPoint, RawSegment, RawShape, Vertices, WalkLine,
+    RawEdge, RawFace, RawLocation, RawMeeting, RawPoint, RawSegment, RawShape, Vertices, WalkLine,
 };
 use std::alloc::Global;
 
@@ -123,7 +123,8 @@ pub extern "C" fn tevasulim_face_layers(
     length: &mut usize,
 ) -> u32
     ensures kept { handle.new.kept ≡ handle.old.kept }
-    ensures layers { TellsLayers handle.old.kept result length.old length.new layers.old layers.new }
+    ensures layers { TellsLayers handle.old.kept result length.old length.new layers.old
+        layers.new }
 {
     handle.ask(alloc, &ListLayers, layers, length)
 }
@@ -148,12 +149,13 @@ pub extern "C" fn tevasulim_locate(
     alloc: Global,
     handle: &mut Handle,
     queries: &[RawPoint],
-    places: &mut [RawPlace],
+    locations: &mut [RawLocation],
 ) -> u32
     ensures kept { handle.new.kept ≡ handle.old.kept }
-    ensures places { TellsPlaces handle.old.kept queries.now result places.old places.new }
+    ensures locations { TellsLocations handle.old.kept queries.now result locations.old
+        locations.new }
 {
-    handle.ask(alloc, &Locate { queries }, places, &mut ())
+    handle.ask(alloc, &Locate { queries }, locations, &mut ())
 }
 
 #[unsafe(no_mangle)]

@@ -14,14 +14,14 @@ use drawing_faces::{DrawingError, DrawnMesh, DrawnSegment, Kept, triangulate_dra
 use half_edge_links::MAX_ELEMENTS;
 use std::alloc::{AllocError, Global};
 
-// The place of the first point that is out of range, if there is one.
+// The index of the first point that is out of range, if there is one.
 fn first_outside(points: &[RawPoint]) -> Option<usize>
     ensures { MatchOption result (FirstAre IsRawInRange points.now (length points.now))
         (IsFirstNot IsRawInRange points.now) }
 {
-    for place in 0..points.len() {
-        if !is_in_range(&points[place]) {
-            return Some(place);
+    for index in 0..points.len() {
+        if !is_in_range(&points[index]) {
+            return Some(index);
         }
     }
     None
@@ -42,22 +42,22 @@ fn known_segments(segments: &[RawSegment], count: usize) -> usize
     ensures next { result < length segments.now
         → IsFirstNot (EndsAtPoints count) segments.now result }
 {
-    for place in 0..segments.len() {
-        if !ends_at_points(&segments[place], count) {
-            return place;
+    for index in 0..segments.len() {
+        if !ends_at_points(&segments[index], count) {
+            return index;
         }
     }
     segments.len()
 }
 
-// The place of the first segment that was not taken, if there is one.
-fn first_untaken(taken: &[bool]) -> Option<usize>
-    ensures { MatchOption result (FirstAre IsTrue taken.now (length taken.now))
-        (IsFirstNot IsTrue taken.now) }
+// The index of the first segment that was not added, if there is one.
+fn first_left_out(added: &[bool]) -> Option<usize>
+    ensures { MatchOption result (FirstAre IsTrue added.now (length added.now))
+        (IsFirstNot IsTrue added.now) }
 {
-    for place in 0..taken.len() {
-        if !taken[place] {
-            return Some(place);
+    for index in 0..added.len() {
+        if !added[index] {
+            return Some(index);
         }
     }
     None
@@ -137,8 +137,8 @@ fn name_corners_of(faces: &mut [RawFace], count: usize, names: &[u32])
     requires { count ≤ length faces.old }
     ensures { Answered (IsNamedOf names.now faces.old) count faces.old faces.new }
 {
-    for place in 0..count {
-        faces[place] = named_face(names, faces[place]);
+    for index in 0..count {
+        faces[index] = named_face(names, faces[index]);
     }
 }
 
@@ -146,7 +146,7 @@ fn name_corners_of(faces: &mut [RawFace], count: usize, names: &[u32])
 fn write_drawn(drawn: &DrawnMesh, faces: &mut [RawFace], length: &mut usize) -> u32
     ensures { ListsNamedFaces drawn.now result length.new faces.old faces.new }
 {
-    let status = write_faces(&drawn.site, faces, length);
+    let status = write_faces(&drawn.triangulation, faces, length);
     if status != WELL {
         return status;
     }
@@ -178,8 +178,8 @@ fn draw(
     let Ok(drawn) = drawn_mesh(points, &segments[..known], alloc) else {
         return OUT_OF_MEMORY;
     };
-    if let Some(place) = first_untaken(drawn.taken.as_slice()) {
-        *at = place;
+    if let Some(index) = first_left_out(drawn.added.as_slice()) {
+        *at = index;
         return CROSSING;
     }
     if known < segments.len() {
@@ -201,8 +201,8 @@ pub fn triangulate(
     ensures { Triangulates points.now segments.now result at.new length.old length.new faces.old
         faces.new }
 {
-    if let Some(place) = first_outside(points) {
-        *at = place;
+    if let Some(index) = first_outside(points) {
+        *at = index;
         return TOO_LARGE;
     }
     if are_too_many(points.len()) {

@@ -1,5 +1,5 @@
 -- The edges of a path, as a reply names them, and what becomes of the stage.
--- Notions: edge_piece; leads, can_add, no_edges, some_edges, same_piece, pieces_text,
+-- Notions: edge_text_at; leads, can_add, no_edges, some_edges, same_edge_text, path_texts,
 -- joins_none, edges_within, joins_some, joins_refused.
 use Rattle.std.proofs.Common.{◌≡◌, ◌≢◌, ◌<◌, [], ◌∷◌, ◌++◌}
 use Rattle.std.proofs.Common.{ℕ, Bool, true, false, List, length, map, refl, inl, inr, ap}
@@ -18,7 +18,7 @@ use Rattle.delaunay_legalization.specs.{declared.cdt_edge.CdtEdge.CdtEdge, State
 use Rattle.delaunay_edit.specs.{AddsPathIfFree, constrained, constraint_edges, LeadAlong}
 use Rattle.triangulate_run.specs.{ends_in, position, Refused, stage_by}
 use Rattle.triangulate_run.specs.Answer.{ConstrainsPath, LeadsTo, MayRefuse}
-use Rattle.triangulate_run.specs.{declared.reply.Reply.TheVariants.NoPath, Reply.piece_text}
+use Rattle.triangulate_run.specs.{declared.reply.Reply.TheVariants.NoPath, Reply.pair_text}
 
 -- neighbours on a segment, in the words of plain states
 neighbours : (points : List Point) (i j a b : ℕ) → AreNextOn points i j a b
@@ -67,18 +67,18 @@ pub some_edges : (edges : List ℕ) (n : ℕ) (b : Bool) → length edges ≡ n 
 some_edges edges n b is e f none = eqb-false n 0 (sym e ∙ f) (sym is ∙ ap length none)
 
 -- the text of the ends of an edge
-abbrev pub edge_piece : Mesh → ℕ → List ℕ
-edge_piece m h = piece_text (origin m h, origin m (rev h))
+abbrev pub edge_text_at : Mesh → ℕ → List ℕ
+edge_text_at m h = pair_text (origin m h, origin m (rev h))
 
 -- an edge of the same mesh with the same index has the same text
-pub same_piece : (m n : Mesh) (h k : ℕ) → n ≡ m → k ≡ h → edge_piece n k ≡ edge_piece m h
-same_piece m n h k e f = ap (λ l. edge_piece l k) e ∙ ap (edge_piece m) f
+pub same_edge_text : (m n : Mesh) (h k : ℕ) → n ≡ m → k ≡ h → edge_text_at n k ≡ edge_text_at m h
+same_edge_text m n h k e f = ap (λ l. edge_text_at l k) e ∙ ap (edge_text_at m) f
 
 -- the texts of the edges, by the mesh, are those of the pairs of their ends
-pub pieces_text : (m : Mesh) (edges : List ℕ)
-    → flat_map (edge_piece m) edges ≡ flat_map piece_text (ends_in m edges)
-pieces_text m [] = refl
-pieces_text m (e ∷ es) = ap (λ ys. edge_piece m e ++ ys) (pieces_text m es)
+pub path_texts : (m : Mesh) (edges : List ℕ)
+    → flat_map (edge_text_at m) edges ≡ flat_map pair_text (ends_in m edges)
+path_texts m [] = refl
+path_texts m (e ∷ es) = ap (λ ys. edge_text_at m e ++ ys) (path_texts m es)
 
 -- ---- what became of the path from i to j
 module _ {D U F : Type 0} (old new : State (Point2 ℤ) D (CdtEdge U) F) (i j : ℕ) where

@@ -11,7 +11,7 @@ pub mod Reply
 pub mod Answer
 pub mod Line
 pub mod Output
-pub mod Piece
+pub mod Fragment
 pub mod Run
 pub mod Fault
 pub mod MeshFaces

@@ -46,12 +46,12 @@ abbrev pub edge_text : List ℕ → List ℕ → ℕ → ℕ → List ℕ
 edge_text name between i j = name ++ decimal i ++ between ++ decimal j
 
 -- an edge of a path, by its ends
-abbrev pub piece_text : ℕ × ℕ → List ℕ
-piece_text p = edge_text (codes " ") (codes "-") p.0 p.1
+abbrev pub pair_text : ℕ × ℕ → List ℕ
+pair_text p = edge_text (codes " ") (codes "-") p.0 p.1
 
 -- the text of a path: a word, the ends of each of its edges, and a line's end
 abbrev pub path_text : List (ℕ × ℕ) → List ℕ
-path_text path = codes "edges" ++ flat_map piece_text path ++ codes "\n"
+path_text path = codes "edges" ++ flat_map pair_text path ++ codes "\n"
 
 -- what a line meets
 abbrev pub item_text : Item → List ℕ

@@ -4,7 +4,7 @@ use Rattle.std.specs.Prelude.{ℕ, true, false, List, codes, Option, Result, Ok,
 use Rattle.std.specs.List.{flat_map}
 use Rattle.std.specs.Io.KnownBytes.{Consumes, Appends, IsAtEnd}
 use Rattle.triangulate_run.specs.{Answer.MayAnswer, declared.points.SheetPoint.SheetPoint}
-use Rattle.triangulate_run.specs.Grammar.{Spells, SpellsNone}
+use Rattle.triangulate_run.specs.Grammar.{Spells, SpellsAtMostOne, SpellsNone}
 use Rattle.triangulate_run.specs.{Output.AppendsPart, Stage.first_stage, Stage.Fits, Stage.Stage}
 use Rattle.triangulate_run.specs.Watched.{has_failed, inner_of}
 use Rattle.triangulate_run.specs.declared.command.Command.{Command}
@@ -30,6 +30,11 @@ pub record Cut (input : List ℕ) (lines : List (List ℕ)) (rest : List ℕ) : 
 abbrev pub IsCutInOneWay : Type 0
 IsCutInOneWay = (input : List ℕ) (lines others : List (List ℕ)) (rest end : List ℕ)
     → Cut input lines rest → Cut input others end → (lines ≡ others) × (rest ≡ end)
+
+-- the laws of what a run reads
+pub record HasOneReading : Type 0 where
+  pub one_cut : IsCutInOneWay
+  pub one_command : SpellsAtMostOne
 
 -- what is written at the end of the input, with what stands behind the last newline
 abbrev pub end_text : List ℕ → List ℕ

@@ -7,8 +7,8 @@ ghost use Rattle.triangulate_run.specs.{Output.Puts, Output.PutsSome, Reply.path
 
 use crate::engine::{Constrained, Plain};
 use crate::line::put_ends;
-use crate::output::Piece::Text;
-use crate::output::{Held, Written, put_pieces};
+use crate::output::Fragment::Text;
+use crate::output::{Held, Written, put_fragments};
 use crate::reply::{Reply, put_reply};
 use crate::watched::Watched;
 use delaunay_core::HintGenerator;
@@ -59,12 +59,12 @@ fn put_path<L: HintGenerator<i64>, W: Write>(
     ensures { Puts W.contents writer.old writer.new held.old.items held.new.items result
         (path_text (ends_in triangulation.now.mesh path.now)) }
 {
-    put_pieces(writer, held, &[Text("edges")])?;
+    put_fragments(writer, held, &[Text("edges")])?;
     for edge in path {
         let edge = triangulation.directed_edge(*edge);
         put_ends(writer, held, "", " ", "-", edge)?;
     }
-    put_pieces(writer, held, &[Text("\n")])
+    put_fragments(writer, held, &[Text("\n")])
 }
 
 /// Releases the constraint between two vertices.

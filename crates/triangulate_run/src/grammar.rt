@@ -4,7 +4,7 @@
 //! 18 digits, and a line has at most [`MAX_LINE`] bytes.
 
 ghost use Rattle.std.specs.Prelude.{IfSome, IfNone};
-ghost use Rattle.triangulate_run.specs.Grammar.{Spells, SpellsAtMostOne, SpellsNone};
+ghost use Rattle.triangulate_run.specs.Grammar.{Spells, SpellsNone};
 
 use crate::command::Command;
 use crate::words::Words;
@@ -42,8 +42,3 @@ pub fn parse(line: &[u8]) -> Option<Command>
     };
     words.next_word().is_none().then_some(command)
 }
-
-/// A law: no line spells two commands.
-pub fn one_command()
-    ensures { SpellsAtMostOne }
-{}

@@ -1,7 +1,7 @@
 //! What the definitions of a run imply.
-ghost use Rattle.triangulate_run.specs.Run.{IsCutInOneWay};
+ghost use Rattle.triangulate_run.specs.Run.{HasOneReading};
 
-/// An input is cut into lines in one way.
-pub fn one_cut()
-    ensures { IsCutInOneWay }
+/// Laws: an input is cut into lines in one way, and no line spells two commands.
+pub fn one_reading()
+    ensures { HasOneReading }
 {}

@@ -9,8 +9,8 @@ ghost use Rattle.triangulate_run.specs.{Engine.IsStageReady, Engine.stage_by, Wa
 ghost use Rattle.triangulate_run.specs.Reply.{edge_text, item_text, next_text};
 ghost use Rattle.triangulate_run.specs.Stage.{position};
 
-use crate::output::Piece::{Index, Text};
-use crate::output::{Held, Written, put_pieces};
+use crate::output::Fragment::{Index, Text};
+use crate::output::{Held, Written, put_fragments};
 use crate::points::{SheetPoint, index_of};
 use crate::reply::{Reply, put_reply};
 use crate::watched::Watched;
@@ -45,11 +45,11 @@ pub(crate) fn put_line<L: HintGenerator<i64>, UE, M: EdgeData<UE>, P: PlaneTests
     }
     let mut line = LineIntersectionIterator::new(triangulation, from, to, tests);
     let Some(first) = line.next() else {
-        return put_pieces(writer, held, &[Text("nothing\n")]);
+        return put_fragments(writer, held, &[Text("nothing\n")]);
     };
     put_item(writer, held, "", &first)?;
     put_items(writer, held, &mut line)?;
-    put_pieces(writer, held, &[Text("\n")])
+    put_fragments(writer, held, &[Text("\n")])
 }
 
 /// Puts the items of a line, with a space before each.
@@ -84,7 +84,7 @@ fn put_item<DE, UE, F, W: Write>(
     match item {
         Intersection::VertexIntersection(vertex) => {
             let met = [Text(before), Text("v "), Index(u64::from(vertex.index()))];
-            put_pieces(writer, held, &met)
+            put_fragments(writer, held, &met)
         }
         Intersection::EdgeIntersection(edge) => put_ends(writer, held, before, "e ", ">", *edge),
         Intersection::EdgeOverlap(edge) => put_ends(writer, held, before, "o ", ">", *edge),
@@ -108,5 +108,5 @@ pub(crate) fn put_ends<'x, DE, UE, F, W: Write>(
 {
     let (i, j) = (u64::from(edge.from().index()), u64::from(edge.to().index()));
     let text = [Text(before), Text(name), Index(i), Text(between), Index(j)];
-    put_pieces(writer, held, &text)
+    put_fragments(writer, held, &text)
 }

@@ -1,17 +1,17 @@
 //! Writing text to a watched writer.
 ghost use Rattle.std.specs.Prelude.{◌≡◌, false};
 ghost use Rattle.std.specs.List.{flat_map};
+ghost use Rattle.triangulate_run.specs.Fragment.{text_of};
 ghost use Rattle.triangulate_run.specs.{Output.Puts, Output.Writes, Watched.has_failed};
-ghost use Rattle.triangulate_run.specs.Piece.{text_of};
 
 use crate::watched::{Failed, Watched};
 use arrayvec::ArrayVec;
 use itoa::Buffer;
 use std::io::Write;
 
-/// A piece of a reply.
+/// A fragment of a reply.
 #[derive(Clone, Copy)]
-pub(crate) enum Piece<'a> {
+pub(crate) enum Fragment<'a> {
     Text(&'a str),
     Index(u64),
     Signed(i64),
@@ -36,22 +36,22 @@ pub(crate) fn write_all<W: Write>(writer: &mut Watched<W>, bytes: &[u8]) -> Writ
     Ok(())
 }
 
-/// Puts the pieces in a row behind what is held.
-pub(crate) fn put_pieces<W: Write>(
+/// Puts the fragments in a row behind what is held.
+pub(crate) fn put_fragments<W: Write>(
     writer: &mut Watched<W>,
     held: &mut Held,
-    pieces: &[Piece<'_>],
+    fragments: &[Fragment<'_>],
 ) -> Written
     requires works { has_failed writer.old ≡ false }
     ensures { Puts W.contents writer.old writer.new held.old.items held.new.items
-        result (flat_map text_of pieces.now) }
+        result (flat_map text_of fragments.now) }
 {
-    for piece in pieces {
+    for fragment in fragments {
         let mut buffer = Buffer::new();
-        let text = match *piece {
-            Piece::Text(text) => text,
-            Piece::Index(index) => buffer.format(index),
-            Piece::Signed(number) => buffer.format(number),
+        let text = match *fragment {
+            Fragment::Text(text) => text,
+            Fragment::Index(index) => buffer.format(index),
+            Fragment::Signed(number) => buffer.format(number),
         };
         if held.try_extend_from_slice(text.as_bytes()).is_err() {
             write_all(writer, held.as_slice())?;

@@ -5,8 +5,8 @@ ghost use Rattle.triangulate_run.specs.{declared.reply.Reply.TheVariants.Refused
 ghost use Rattle.triangulate_run.specs.{Reply.corners_text, Reply.reply_text, Watched.has_failed};
 
 use crate::corners::Corners;
-use crate::output::Piece::{Index, Signed, Text};
-use crate::output::{Held, Written, put_pieces};
+use crate::output::Fragment::{Index, Signed, Text};
+use crate::output::{Held, Written, put_fragments};
 use crate::watched::Watched;
 use delaunay_core::math::InsertionError;
 use std::io::Write;
@@ -64,31 +64,31 @@ pub(crate) fn put_reply<W: Write>(
 {
     let (space, end) = (Text(" "), Text("\n"));
     match reply {
-        Reply::BadLine => put_pieces(writer, held, &[Text("bad line\n")]),
-        Reply::UnknownPoint => put_pieces(writer, held, &[Text("unknown point\n")]),
+        Reply::BadLine => put_fragments(writer, held, &[Text("bad line\n")]),
+        Reply::UnknownPoint => put_fragments(writer, held, &[Text("unknown point\n")]),
         Reply::Refused(error) => put_refusal(writer, held, *error),
-        Reply::Vertex(i) => put_pieces(writer, held, &[Text("vertex "), Index(*i), end]),
+        Reply::Vertex(i) => put_fragments(writer, held, &[Text("vertex "), Index(*i), end]),
         Reply::Edge(i, j) => {
             let line = [Text("edge "), Index(*i), Text("-"), Index(*j), end];
-            put_pieces(writer, held, &line)
+            put_fragments(writer, held, &line)
         }
         Reply::Face(corners) => put_face(writer, held, "face ", *corners),
-        Reply::Outside => put_pieces(writer, held, &[Text("outside\n")]),
-        Reply::NoTriangulation => put_pieces(writer, held, &[Text("no triangulation\n")]),
-        Reply::Distance(d) => put_pieces(writer, held, &[Text("distance "), Signed(*d), end]),
-        Reply::NoNeighbor => put_pieces(writer, held, &[Text("none\n")]),
+        Reply::Outside => put_fragments(writer, held, &[Text("outside\n")]),
+        Reply::NoTriangulation => put_fragments(writer, held, &[Text("no triangulation\n")]),
+        Reply::Distance(d) => put_fragments(writer, held, &[Text("distance "), Signed(*d), end]),
+        Reply::NoNeighbor => put_fragments(writer, held, &[Text("none\n")]),
         Reply::Removed(x, y) => {
             let line = [Text("removed "), Signed(*x), space, Signed(*y), end];
-            put_pieces(writer, held, &line)
+            put_fragments(writer, held, &line)
         }
-        Reply::NoVertex => put_pieces(writer, held, &[Text("no vertex\n")]),
-        Reply::Released => put_pieces(writer, held, &[Text("released\n")]),
-        Reply::NotConstrained => put_pieces(writer, held, &[Text("not constrained\n")]),
-        Reply::NoEdge => put_pieces(writer, held, &[Text("no edge\n")]),
-        Reply::NoPath => put_pieces(writer, held, &[Text("none\n")]),
+        Reply::NoVertex => put_fragments(writer, held, &[Text("no vertex\n")]),
+        Reply::Released => put_fragments(writer, held, &[Text("released\n")]),
+        Reply::NotConstrained => put_fragments(writer, held, &[Text("not constrained\n")]),
+        Reply::NoEdge => put_fragments(writer, held, &[Text("no edge\n")]),
+        Reply::NoPath => put_fragments(writer, held, &[Text("none\n")]),
         Reply::Counts(v, e, f, c) => {
             let (v, e, f, c) = (Index(*v), Index(*e), Index(*f), Index(*c));
-            put_pieces(writer, held, &[v, space, e, space, f, space, c, end])
+            put_fragments(writer, held, &[v, space, e, space, f, space, c, end])
         }
         Reply::Faces(faces) => put_faces(writer, held, faces.as_slice()),
     }
@@ -104,7 +104,7 @@ fn put_refusal<W: Write>(writer: &mut Watched<W>, held: &mut Held, error: Insert
         InsertionError::OutOfMemory => "OutOfMemory",
         InsertionError::OutOfIndexes => "OutOfIndexes",
     };
-    put_pieces(writer, held, &[Text("refused "), Text(name), Text("\n")])
+    put_fragments(writer, held, &[Text("refused "), Text(name), Text("\n")])
 }
 
 /// Puts a text, and behind it the corners of a face and the end of the line.
@@ -124,7 +124,7 @@ fn put_face<W: Write>(
         Index(corners.third),
     );
     let space = Text(" ");
-    put_pieces(
+    put_fragments(
         writer,
         held,
         &[Text(before), a, space, b, space, c, Text("\n")],
@@ -139,5 +139,5 @@ fn put_faces<W: Write>(writer: &mut Watched<W>, held: &mut Held, faces: &[Corner
     for corners in faces {
         put_face(writer, held, "", *corners)?;
     }
-    put_pieces(writer, held, &[Text("end\n")])
+    put_fragments(writer, held, &[Text("end\n")])
 }

@@ -1,5 +1,5 @@
 use Rattle.std.proofs.Common.{◌≡◌, ◌++◌, ℕ, List, length, drop, refl, subst}
-use Rattle.delaunay_bulk.specs.{InsertsAll, StopsAt}
+use Rattle.delaunay_extensions.specs.{InsertsAll, StopsAt}
 use Rattle.c_calls.specs.{kept_place, Lists.insertion_refused, NumberedPoint, unnumbered_points}
 use Rattle.c_calls.proofs.Listed.{is_all_inserted, is_stopped}
 use Rattle.c_calls.proofs.list_edits.insert_in_range.Goals as goal

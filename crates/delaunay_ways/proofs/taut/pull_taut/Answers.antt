@@ -13,8 +13,8 @@ position_of-next-requires g c =
     let i = c.loop-vertex.vertex-index in
     let within : i < length c.args.path.now =
     omega (arith, c.loop-vertex-test.true, c.loop-vertex.auto.vertex-index-end) in
-    let is : c.from_index.result ≡ get_or c.args.path.now i 0 =
-    let f = c.from_index.ensures in cc in
+    let is : c.from_index-near.result ≡ get_or c.args.path.now i 0 =
+    let f = c.from_index-near.ensures in cc in
     let there = c.requires.exist i 0 within in
     let size = ap (λ s. length (map g.V.HasPosition.place s.vertices)) c.mesh-dcel.ensures.state in
     let same = length-map c.mesh-dcel.result.now.vertices g.V.HasPosition.place in
@@ -36,10 +36,10 @@ go_on-requires-clause-seen g c =
     let within : i < length c.args.path.now =
     omega (arith, c.loop-vertex-test.true, c.loop-vertex.auto.vertex-index-end) in
     let v = get_or c.args.path.now i 0 in
-    let is : c.from_index.result ≡ get_or c.args.path.now i 0 =
-    let f = c.from_index.ensures in cc in
+    let is : c.from_index-near.result ≡ get_or c.args.path.now i 0 =
+    let f = c.from_index-near.ensures in cc in
     let here = c.position_of-next.ensures.place
-    ∙ ap (λ s. point_at (map at s.vertices) c.from_index.result) c.mesh-dcel.ensures.state
+    ∙ ap (λ s. point_at (map at s.vertices) c.from_index-near.result) c.mesh-dcel.ensures.state
     ∙ ap (point_at (map at (g.T.HasMesh.mesh_state c.args.triangulation.now).vertices)) is in
     next_is_seen (triangulation_of at (g.T.HasMesh.mesh_state c.args.triangulation.now))
     (by_place (g.G.FreeFaces.free c.args.free.now)) (place_of g.V.Scalar.SpadeNum.whole c.args.from)
@@ -55,10 +55,10 @@ loop-vertex-preserved g c =
     let within : i < length c.args.path.now =
     omega (arith, c.loop-vertex-test.true, c.loop-vertex.auto.vertex-index-end) in
     let v = get_or c.args.path.now i 0 in
-    let is : c.from_index.result ≡ get_or c.args.path.now i 0 =
-    let f = c.from_index.ensures in cc in
+    let is : c.from_index-near.result ≡ get_or c.args.path.now i 0 =
+    let f = c.from_index-near.ensures in cc in
     let here = c.position_of-next.ensures.place
-    ∙ ap (λ s. point_at (map at s.vertices) c.from_index.result) c.mesh-dcel.ensures.state
+    ∙ ap (λ s. point_at (map at s.vertices) c.from_index-near.result) c.mesh-dcel.ensures.state
     ∙ ap (point_at (map at (g.T.HasMesh.mesh_state c.args.triangulation.now).vertices)) is in (
       c.in_ok-go_on.ensures.covered,
       pull_goes_on (triangulation_of at (g.T.HasMesh.mesh_state c.args.triangulation.now))

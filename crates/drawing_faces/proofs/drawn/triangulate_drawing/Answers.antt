@@ -1,7 +1,7 @@
 use Rattle.std.proofs.Common.{ℕ, List, ◌≤◌, ◌∙◌, length, map, ap, refl, sym, subst}
 use Rattle.std.specs.Prelude.{All}
-use Rattle.{delaunay_edit.specs.constraint_edges, delaunay_legalization.specs.triangulation_of}
-use Rattle.delaunay_bulk.specs.{HaveHandles}
+use Rattle.delaunay_edit.specs.{constraint_edges}
+use Rattle.{delaunay_extensions.specs.HaveHandles, delaunay_legalization.specs.triangulation_of}
 use Rattle.drawing_faces.specs.{AreKept, ends_of, face_of, HasEnds, IsLeftOut, memory_refused}
 use Rattle.drawing_faces.specs.{places_of, position, RefusesDrawing}
 use Rattle.drawing_faces.specs.{Drawing.hole_refused, Drawing.points_refused, Sides.AreBeside}
@@ -10,79 +10,84 @@ use Rattle.drawing_faces.proofs.Refusing.{all_end_at_points, refused_by}
 use Rattle.drawing_faces.proofs.Together.{drawing_of, segments_refused, sides_refused}
 use Rattle.drawing_faces.proofs.drawn.triangulate_drawing.Goals as goal
 
-pub returns-in_err-placed-clause-refuses : goal.returns-in_err-placed-clause-refuses
-returns-in_err-placed-clause-refuses c =
+pub returns-in_err-triangulated-clause-refuses : goal.returns-in_err-triangulated-clause-refuses
+returns-in_err-triangulated-clause-refuses c =
     refused_by c.from_residual.result _ (RefusesDrawing c.args.points.now c.args.segments.now
     c.args.holes.now c.args.sides.now) c.from_residual.ensures.1
-    (points_refused c.in_err-placed.ensures.refuses)
+    (points_refused c.in_err-triangulated.ensures.refuses)
 
-pub returns-in_err-site-clause-refuses : goal.returns-in_err-site-clause-refuses
-returns-in_err-site-clause-refuses c =
-    refused_by c.from_residual-in_err-site.result _ (RefusesDrawing c.args.points.now
-    c.args.segments.now c.args.holes.now c.args.sides.now) c.from_residual-in_err-site.ensures.1
-    (memory_refused c.in_err-site.ensures.memory)
+pub returns-in_err-triangulation-clause-refuses : goal.returns-in_err-triangulation-clause-refuses
+returns-in_err-triangulation-clause-refuses c =
+    refused_by c.from_residual-in_err-triangulation.result _ (RefusesDrawing c.args.points.now
+    c.args.segments.now c.args.holes.now c.args.sides.now)
+    c.from_residual-in_err-triangulation.ensures.1
+    (memory_refused c.in_err-triangulation.ensures.memory)
 
-pub returns-in_err-taken-clause-refuses : goal.returns-in_err-taken-clause-refuses
-returns-in_err-taken-clause-refuses c =
+pub returns-in_err-added-clause-refuses : goal.returns-in_err-added-clause-refuses
+returns-in_err-added-clause-refuses c =
     let points = c.args.points.now in
     let handles = c.as_slice.result.now in
-    let old = c.in_ok-site.site in
-    refused_by c.from_residual-in_err-taken.result _ (RefusesDrawing points c.args.segments.now
-    c.args.holes.now c.args.sides.now) c.from_residual-in_err-taken.ensures.1
+    let old = c.in_ok-triangulation.triangulation in
+    refused_by c.from_residual-in_err-added.result _ (RefusesDrawing points c.args.segments.now
+    c.args.holes.now c.args.sides.now) c.from_residual-in_err-added.ensures.1
     (segments_refused points handles c.args.segments.now c.args.holes.now c.args.sides.now
-    old.vertices c.in_ok-placed.ensures.may_take (subst (HaveHandles position points handles)
-    (sym c.in_ok-site.ensures.vertices) (subst (λ hs. HaveHandles position points hs
-    c.in_ok-placed.placed.plain.vertices) (sym c.as_slice.ensures.value)
-    c.in_ok-placed.ensures.handles)) _ c.in_err-taken.ensures.refuses)
+    old.vertices c.in_ok-triangulated.ensures.may_take (subst (HaveHandles position points handles)
+    (sym c.in_ok-triangulation.ensures.vertices) (subst (λ hs. HaveHandles position points hs
+    c.in_ok-triangulated.triangulated.plain.vertices) (sym c.as_slice.ensures.value)
+    c.in_ok-triangulated.ensures.handles)) _ c.in_err-added.ensures.refuses)
 
 pub returns-in_err-in_holes-clause-refuses : goal.returns-in_err-in_holes-clause-refuses
 returns-in_err-in_holes-clause-refuses c =
     let points = c.args.points.now in
     let handles = c.as_slice.result.now in
-    let plain = c.in_ok-placed.placed.plain.vertices in
+    let plain = c.in_ok-triangulated.triangulated.plain.vertices in
     refused_by c.from_residual-in_err-in_holes.result _ (RefusesDrawing points
     c.args.segments.now c.args.holes.now c.args.sides.now)
     c.from_residual-in_err-in_holes.ensures.1 (hole_refused (record {
       handles = handles;
-      names = c.in_ok-placed.placed.vertices.items;
-      taken = c.in_ok-taken.taken.items;
-      state = c.add_segments.new.site;
-      drawing = drawing_of points handles c.in_ok-placed.placed.vertices.items
-          c.args.segments.now c.in_ok-taken.taken.items plain c.in_ok-site.site
-          c.add_segments.new.site c.in_ok-placed.ensures.may_take
+      names = c.in_ok-triangulated.triangulated.vertices.items;
+      added = c.in_ok-added.added.items;
+      state = c.add_segments.new.triangulation;
+      drawing = drawing_of points handles c.in_ok-triangulated.triangulated.vertices.items
+          c.args.segments.now c.in_ok-added.added.items plain c.in_ok-triangulation.triangulation
+          c.add_segments.new.triangulation c.in_ok-triangulated.ensures.may_take
           (subst (λ hs. HaveHandles position points hs plain) (sym c.as_slice.ensures.value)
-          c.in_ok-placed.ensures.handles) c.in_ok-placed.ensures.vertices
-          c.in_ok-site.ensures.vertices c.in_ok-site.ensures.none c.in_ok-taken.ensures.adds
-          c.in_ok-taken.ensures.ends c.add_segments.ensures.headline;
+          c.in_ok-triangulated.ensures.handles) c.in_ok-triangulated.ensures.vertices
+          c.in_ok-triangulation.ensures.vertices c.in_ok-triangulation.ensures.none
+          c.in_ok-added.ensures.adds
+          c.in_ok-added.ensures.ends c.add_segments.ensures.headline;
     }) c.in_err-in_holes.ensures.refuses)
 
 pub returns-in_err-add_side_faces-clause-refuses : goal.returns-in_err-add_side_faces-clause-refuses
 returns-in_err-add_side_faces-clause-refuses c =
     let points = c.args.points.now in
     let handles = c.as_slice.result.now in
-    let plain = c.in_ok-placed.placed.plain.vertices in
+    let plain = c.in_ok-triangulated.triangulated.plain.vertices in
     refused_by c.from_residual-in_err-add_side_faces.result _ (RefusesDrawing points
     c.args.segments.now c.args.holes.now c.args.sides.now)
     c.from_residual-in_err-add_side_faces.ensures.1 (sides_refused points c.args.segments.now
     c.args.holes.now c.args.sides.now c.as_slice-2.result.now (record {
       handles = handles;
-      names = c.in_ok-placed.placed.vertices.items;
-      taken = c.in_ok-taken.taken.items;
-      state = c.add_segments.new.site;
-      drawing = drawing_of points handles c.in_ok-placed.placed.vertices.items
-          c.args.segments.now c.in_ok-taken.taken.items plain c.in_ok-site.site
-          c.add_segments.new.site c.in_ok-placed.ensures.may_take
+      names = c.in_ok-triangulated.triangulated.vertices.items;
+      added = c.in_ok-added.added.items;
+      state = c.add_segments.new.triangulation;
+      drawing = drawing_of points handles c.in_ok-triangulated.triangulated.vertices.items
+          c.args.segments.now c.in_ok-added.added.items plain c.in_ok-triangulation.triangulation
+          c.add_segments.new.triangulation c.in_ok-triangulated.ensures.may_take
           (subst (λ hs. HaveHandles position points hs plain) (sym c.as_slice.ensures.value)
-          c.in_ok-placed.ensures.handles) c.in_ok-placed.ensures.vertices
-          c.in_ok-site.ensures.vertices c.in_ok-site.ensures.none c.in_ok-taken.ensures.adds
-          c.in_ok-taken.ensures.ends c.add_segments.ensures.headline;
+          c.in_ok-triangulated.ensures.handles) c.in_ok-triangulated.ensures.vertices
+          c.in_ok-triangulation.ensures.vertices c.in_ok-triangulation.ensures.none
+          c.in_ok-added.ensures.adds
+          c.in_ok-added.ensures.ends c.add_segments.ensures.headline;
     }) c.in_ok-in_holes.in_holes.items (c.as_slice-2.ensures.value ∙ sym c.as_slice.ensures.value)
     c.in_ok-in_holes.ensures.faces _ c.in_err-add_side_faces.ensures.refuses)
 
 pub kept_faces-requires : goal.kept_faces-requires
 kept_faces-requires c =
-    subst (All (λ f. f ≤ length c.add_segments.new.site.faces)) (sym c.as_slice-3.ensures.value)
-    (beside_within c.add_segments.new.site (map (ends_of c.as_slice-2.result.now) c.args.sides.now)
+    subst (All (λ f. f ≤ length c.add_segments.new.triangulation.faces))
+    (sym c.as_slice-3.ensures.value)
+    (beside_within c.add_segments.new.triangulation
+    (map (ends_of c.as_slice-2.result.now) c.args.sides.now)
     c.in_ok-in_holes.in_holes.items c.add_side_faces.new.faces.items
     c.in_ok-add_side_faces.ensures.adds c.in_ok-in_holes.ensures.within)
 
@@ -102,17 +107,18 @@ pub returns-clause-draws : goal.returns-clause-draws
 returns-clause-draws c =
     let points = c.args.points.now in
     let handles = c.as_slice.result.now in
-    let names = c.in_ok-placed.placed.vertices.items in
-    let plain = c.in_ok-placed.placed.plain.vertices in
-    let new = c.add_segments.new.site in
+    let names = c.in_ok-triangulated.triangulated.vertices.items in
+    let plain = c.in_ok-triangulated.triangulated.plain.vertices in
+    let new = c.add_segments.new.triangulation in
     let corners = c.in_ok-corners.corners.items in
     let sides = c.in_ok-add_side_faces.ensures in
     let same = c.as_slice-2.ensures.value ∙ sym c.as_slice.ensures.value in
-    let drawing = drawing_of points handles names c.args.segments.now c.in_ok-taken.taken.items
-    plain c.in_ok-site.site new c.in_ok-placed.ensures.may_take
+    let drawing = drawing_of points handles names c.args.segments.now c.in_ok-added.added.items
+    plain c.in_ok-triangulation.triangulation new c.in_ok-triangulated.ensures.may_take
     (subst (λ hs. HaveHandles position points hs plain) (sym c.as_slice.ensures.value)
-    c.in_ok-placed.ensures.handles) c.in_ok-placed.ensures.vertices c.in_ok-site.ensures.vertices
-    c.in_ok-site.ensures.none c.in_ok-taken.ensures.adds c.in_ok-taken.ensures.ends
+    c.in_ok-triangulated.ensures.handles) c.in_ok-triangulated.ensures.vertices
+    c.in_ok-triangulation.ensures.vertices
+    c.in_ok-triangulation.ensures.none c.in_ok-added.ensures.adds c.in_ok-added.ensures.ends
     c.add_segments.ensures.headline in
     record {
       handles = handles;

@@ -7,7 +7,7 @@ use Rattle.drawing_faces.proofs.faces.closed_faces.Goals as goal
 
 pub returns : goal.returns
 returns g c =
-    let s = g.T.Triangulation.state c.args.site.now in
+    let s = g.T.Triangulation.state c.args.triangulation.now in
     let constraints = g.T.Constraints.ConstraintMarker.constraints s.undirected in
     let holes = c.args.holes.now in
     let cs = c.in_ok-faces.faces.items in

@@ -15,11 +15,11 @@ loop-face-init g c =
     record {
       mesh = it.mesh;
       same = it.state;
-      rest = range_with_len 1 (length (g.T.Triangulation.state c.args.site.now).faces);
+      rest = range_with_len 1 (length (g.T.Triangulation.state c.args.triangulation.now).faces);
       left = sym it.elements
           ∙ ap inner_faces_left (sym c.into_iter-face-iterator.ensures.into_iter_gives);
       so_far = ap (λ ys. ys ++ map (indexes_at it.mesh.now.mesh)
-          (range_with_len 1 (length (g.T.Triangulation.state c.args.site.now).faces)))
+          (range_with_len 1 (length (g.T.Triangulation.state c.args.triangulation.now).faces)))
           c.in_ok-faces.ensures.items;
     }
 
@@ -48,23 +48,23 @@ loop-face-preserved g c =
 pub returns : goal.returns
 returns g c =
     let i = c.loop-face.invariant in
-    let s = g.T.Triangulation.state c.args.site.now in
+    let s = g.T.Triangulation.state c.args.triangulation.now in
     let mesh_is = ap (λ s. s.mesh) i.same in
-    let many : length (g.T.Triangulation.state c.args.site.now).faces
-    ≡ length (g.T.Triangulation.state c.args.site.now).mesh.face_edges =
+    let many : length (g.T.Triangulation.state c.args.triangulation.now).faces
+    ≡ length (g.T.Triangulation.state c.args.triangulation.now).mesh.face_edges =
     omega (
       arith,
       c.num_inner_faces.ensures.values,
       c.num_inner_faces.ensures.value,
-      length-map (triangles (g.T.Triangulation.state c.args.site.now).mesh) corners_of,
-      length-map (g.T.Triangulation.state c.args.site.now).mesh.face_edges
-          (triangle_at (g.T.Triangulation.state c.args.site.now).mesh),
+      length-map (triangles (g.T.Triangulation.state c.args.triangulation.now).mesh) corners_of,
+      length-map (g.T.Triangulation.state c.args.triangulation.now).mesh.face_edges
+          (triangle_at (g.T.Triangulation.state c.args.triangulation.now).mesh),
     ) in
     let done = rows_end (indexes_at i.mesh.now.mesh) c.loop-face.faces.items i.rest _
     (none_left i.mesh i.rest (i.left ∙ c.in-None.ensures.steps.0.0)) i.so_far in
     let all = done ∙ ap (λ m. map (indexes_at m)
-    (range_with_len 1 (length (g.T.Triangulation.state c.args.site.now).faces))) mesh_is
-    ∙ rows_by_index (g.T.Triangulation.state c.args.site.now).mesh
-    (length (g.T.Triangulation.state c.args.site.now).faces) many in
+    (range_with_len 1 (length (g.T.Triangulation.state c.args.triangulation.now).faces))) mesh_is
+    ∙ rows_by_index (g.T.Triangulation.state c.args.triangulation.now).mesh
+    (length (g.T.Triangulation.state c.args.triangulation.now).faces) many in
     ap (map face_of) all
-    ∙ as_faces (triangles (g.T.Triangulation.state c.args.site.now).mesh)
+    ∙ as_faces (triangles (g.T.Triangulation.state c.args.triangulation.now).mesh)

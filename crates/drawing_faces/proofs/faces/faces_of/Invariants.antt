@@ -9,9 +9,9 @@ use Rattle.drawing_faces.proofs.faces.faces_of.Given as goal
 abbrev pub invariant-loop-face : goal.invariant-loop-face
 invariant-loop-face g l = record {
   mesh : Bor (Contents _ _ _ _);
-  same : state_of mesh.now ≡ (g.T.Triangulation.state l.site);
+  same : state_of mesh.now ≡ (g.T.Triangulation.state l.triangulation);
   rest : List ℕ;
   left : each_in mesh rest ≡ inner_faces_left l.face-iterator;
   so_far : l.faces.items ++ map (indexes_at mesh.now.mesh) rest ≡ map (indexes_at mesh.now.mesh)
-      (range_with_len 1 (length (g.T.Triangulation.state l.site).faces));
+      (range_with_len 1 (length (g.T.Triangulation.state l.triangulation).faces));
 }

@@ -6,7 +6,7 @@ use Rattle.drawing_faces.proofs.faces.kept_faces.Goals as goal
 
 pub returns-in-All : goal.returns-in-All
 returns-in-All g c =
-    let s = g.T.Triangulation.state c.args.site.now in
+    let s = g.T.Triangulation.state c.args.triangulation.now in
     let constraints = g.T.Constraints.ConstraintMarker.constraints s.undirected in
     rw c.in-All.is (IfOk-weaker c.faces_of.result
     (λ v. map face_of v.items ≡ (triangulation_of position s).faces)

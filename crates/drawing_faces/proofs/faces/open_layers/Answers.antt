@@ -1,6 +1,6 @@
 use Rattle.std.proofs.Common.{◌≤◌, length, sym, subst}
 use Rattle.std.specs.Prelude.{All, IfOk}
-use Rattle.{delaunay_queries.specs.AreLayers, drawing_faces.specs.MarkOpenFaces}
+use Rattle.{delaunay_extensions.specs.AreLayers, drawing_faces.specs.MarkOpenFaces}
 use Rattle.drawing_faces.proofs.faces.open_layers.Goals as goal
 
 pub reach_faces-requires-clause-layers : goal.reach_faces-requires-clause-layers

@@ -10,7 +10,8 @@ use Rattle.drawing_faces.proofs.holes.add_faces.Goals as goal
 
 pub returns-in_ok-push-in-OnFace-clause-adds : goal.returns-in_ok-push-in-OnFace-clause-adds
 returns-in_ok-push-in-OnFace-clause-adds g c =
-    let few : ℕ → Type 0 = λ f. f ≤ length (g.T.Triangulation.state c.args.site.now).faces in
+    let few : ℕ → Type 0 = λ f. f ≤ length
+    (g.T.Triangulation.state c.args.triangulation.now).faces in
     record {
       here = c.in-OnFace.face ∷ [];
       is_in = record {
@@ -35,12 +36,12 @@ returns-in-OutsideOfConvexHull-clause-adds g c = record {
     holds = record { free = λ h. h; beside = λ h. h; faces_are = refl };
   };
   faces = sym (append-nil c.args.faces.now.items);
-  within = All-nil (λ f. f ≤ length (g.T.Triangulation.state c.args.site.now).faces);
+  within = All-nil (λ f. f ≤ length (g.T.Triangulation.state c.args.triangulation.now).faces);
 }
 
 pub returns-in_ok-push-in-OnEdge-2-clause-adds : goal.returns-in_ok-push-in-OnEdge-2-clause-adds
 returns-in_ok-push-in-OnEdge-2-clause-adds g c =
-    let s = g.T.Triangulation.state c.args.site.now in
+    let s = g.T.Triangulation.state c.args.triangulation.now in
     let constraints = g.T.Constraints.ConstraintMarker.constraints in
     let whole = c.fix-whole.ensures.value ∙ c.as_undirected.ensures.index
     ∙ ap (λ i. i / 2) c.directed_edge-edge.ensures.index in

@@ -8,7 +8,7 @@ use Rattle.drawing_faces.proofs.sides.add_side_faces.Goals as goal
 
 pub loop-side-init : goal.loop-side-init
 loop-side-init g c =
-    let s = g.T.HasMesh.mesh_state c.args.site.now in
+    let s = g.T.HasMesh.mesh_state c.args.triangulation.now in
     record {
       adds = beside_none s c.args.faces.now.items;
       ends = All-nil (HasEnds c.args.vertices.now (length s.vertices));
@@ -16,7 +16,7 @@ loop-side-init g c =
 
 pub loop-side-preserved : goal.loop-side-preserved
 loop-side-preserved g c =
-    let s = g.T.HasMesh.mesh_state c.args.site.now in
+    let s = g.T.HasMesh.mesh_state c.args.triangulation.now in
     let vertices = c.args.vertices.now in
     let sides = c.args.sides.now in
     let i = c.loop-side.side-index in
@@ -35,6 +35,6 @@ loop-side-preserved g c =
 pub returns-clause-ends : goal.returns-clause-ends
 returns-clause-ends g c =
     subst (All (HasEnds c.args.vertices.now
-    (length (g.T.HasMesh.mesh_state c.args.site.now).vertices)))
+    (length (g.T.HasMesh.mesh_state c.args.triangulation.now).vertices)))
     (take_all c.loop-side.side-index c.args.sides.now c.loop-side-test.false)
     c.loop-side.invariant.ends

@@ -9,7 +9,7 @@ use Rattle.drawing_faces.proofs.splits.lead_all.Goals as goal
 pub loop-init : goal.loop-init
 loop-init g c =
     let constraints = g.T.Constraints.ConstraintMarker.constraints in
-    let old = g.T.Triangulation.state c.args.site.now in
+    let old = g.T.Triangulation.state c.args.triangulation.now in
     record {
       splits = splits_none position IsAnyPoint (points_and_constraints_by constraints old)
           c.args.segments.now.items;

@@ -7,11 +7,11 @@ abbrev pub invariant-loop : goal.invariant-loop
 invariant-loop g l = record {
   splits : Splits IsAnyPoint
       (points_and_constraints_by g.T.Constraints.ConstraintMarker.constraints
-      (g.T.Triangulation.state l.fn.site))
+      (g.T.Triangulation.state l.fn.triangulation))
       (points_and_constraints_by g.T.Constraints.ConstraintMarker.constraints
-      (g.T.Triangulation.state l.site)) l.fn.segments.items l.segments.items;
+      (g.T.Triangulation.state l.triangulation)) l.fn.segments.items l.segments.items;
   leads : AreLed (constraints_by g.T.Constraints.ConstraintMarker.constraints
-      (g.T.Triangulation.state l.site)) l.segments.items l.leads.items;
+      (g.T.Triangulation.state l.triangulation)) l.segments.items l.leads.items;
   headline : IsDelaunay position g.T.Constraints.ConstraintMarker.constraints
-      (g.T.Triangulation.state l.site);
+      (g.T.Triangulation.state l.triangulation);
 }

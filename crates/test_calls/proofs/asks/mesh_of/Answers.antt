@@ -1,4 +1,4 @@
-use Rattle.{delaunay_queries.proofs.Calls.kept_in_mesh, test_calls.specs.Vertices.position_of}
+use Rattle.{delaunay_extensions.proofs.Calls.kept_in_mesh, test_calls.specs.Vertices.position_of}
 use Rattle.test_calls.proofs.asks.mesh_of.Goals as goal
 
 pub returns-clause-kept : goal.returns-clause-kept

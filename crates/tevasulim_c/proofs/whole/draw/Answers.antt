@@ -16,7 +16,7 @@ returns-in-Some c =
     let known = c.known_segments-known in
     segment_crossing c.in-Ok.drawn known.result refl
     (record { ends = known.ensures.known; drawn = c.in-Ok.ensures.draws })
-    (subst (λ (ts : List Bool). IsFirstNot IsTrue ts c.in-Some.place)
+    (subst (λ (ts : List Bool). IsFirstNot IsTrue ts c.in-Some.index)
     c.as_slice.ensures.value c.in-Some.ensures) refl refl
 
 pub returns-then-known-segments : goal.returns-then-known-segments
@@ -25,7 +25,7 @@ returns-then-known-segments c =
     segment_of_none c.in-Ok.drawn refl
     (record { ends = known.ensures.known; drawn = c.in-Ok.ensures.draws })
     (subst (λ (ts : List Bool). FirstAre IsTrue ts (length ts)) c.as_slice.ensures.value
-    c.in_default-first_untaken.ensures) (known.ensures.next c.if-known-segments.true) refl refl
+    c.in_default-first_left_out.ensures) (known.ensures.next c.if-known-segments.true) refl refl
 
 pub returns : goal.returns
 returns c =
@@ -37,4 +37,4 @@ returns c =
     known.ensures.within (omega (arith, none_left))
     (record { ends = known.ensures.known; drawn = c.in-Ok.ensures.draws })
     (subst (λ (ts : List Bool). FirstAre IsTrue ts (length ts)) c.as_slice.ensures.value
-    c.in_default-first_untaken.ensures) write.ensures
+    c.in_default-first_left_out.ensures) write.ensures

@@ -1,5 +1,5 @@
 use Rattle.{c_calls.specs.IsRawInRange, tevasulim_c.specs.FirstAre}
 use Rattle.tevasulim_c.proofs.whole.first_outside.Given as goal
 
-abbrev pub invariant-loop-place : goal.invariant-loop-place
-invariant-loop-place l = FirstAre IsRawInRange l.points l.place
+abbrev pub invariant-loop-index : goal.invariant-loop-index
+invariant-loop-index l = FirstAre IsRawInRange l.points l.index

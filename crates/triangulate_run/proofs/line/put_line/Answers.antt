@@ -11,9 +11,9 @@ returns-in_default g c =
     c.if-is_none.ensures c.index_of.ensures c.if-is_none-2.ensures
     c.index_of-else-is_none.ensures line.items line.line_list in
     let none = line_none
-    (λ t. Puts g.W.Write.contents c.args.writer.now c.put_pieces.new.writer c.args.held.now.items
-    c.put_pieces.new.held.items c.put_pieces.result t)
-    c.in_default.ensures.steps c.put_pieces.ensures line.items line.are_left in
+    (λ t. Puts g.W.Write.contents c.args.writer.now c.put_fragments.new.writer c.args.held.now.items
+    c.put_fragments.new.held.items c.put_fragments.result t)
+    c.in_default.ensures.steps c.put_fragments.ensures line.items line.are_left in
     (line_text line.items, walk, none)
 
 pub returns-in_err-put_item : goal.returns-in_err-put_item
@@ -41,8 +41,8 @@ returns-in_err-put_items g c =
     c.from_residual-in_err-put_items.ensures.1 in
     rw failed.1 (line_text line.items, walk, (part, (put ready.items ready.are_left).1))
 
-pub put_pieces-requires-2 : goal.put_pieces-requires-2
-put_pieces-requires-2 g c = let ready = c.in-Some.ensures.goes.keeps in
+pub put_fragments-requires-2 : goal.put_fragments-requires-2
+put_fragments-requires-2 g c = let ready = c.in-Some.ensures.goes.keeps in
     record { works = (c.in_ok-put_items.ensures ready.items ready.are_left).1 }
 
 pub returns : goal.returns
@@ -53,6 +53,6 @@ returns g c =
     c.index_of.ensures c.if-is_none-2.ensures c.index_of-else-is_none.ensures line.items
     line.line_list in
     let put = line_put c.in-Some.ensures.steps c.in_ok-put_item.ensures.0
-    (λ others rest. (c.in_ok-put_items.ensures others rest).0) _ _ _ c.put_pieces-2.result
-    _ c.put_pieces-2.ensures line.items line.are_left in
+    (λ others rest. (c.in_ok-put_items.ensures others rest).0) _ _ _ c.put_fragments-2.result
+    _ c.put_fragments-2.ensures line.items line.are_left in
     (line_text line.items, walk, put)

@@ -23,5 +23,5 @@ returns-in_err-put_face g c =
 pub returns : goal.returns
 returns g c =
     let all = take_all _ _ c.loop-corners-test.false in
-    puts_behind _ _ _ _ _ c.put_pieces.result _ _ (rw all at c.loop-corners.invariant.so_far)
-    c.put_pieces.ensures
+    puts_behind _ _ _ _ _ c.put_fragments.result _ _ (rw all at c.loop-corners.invariant.so_far)
+    c.put_fragments.ensures

@@ -1,7 +1,7 @@
 use Rattle.std.proofs.Common.{◌≡◌, ◌∙◌, ◌<◌, ◌+◌, ℕ, List, length, get_or, sym, subst, arith}
 use Rattle.std.proofs.lemmas.List.{get_or_default}
 use Rattle.{c_calls.specs.Layers.IsLayerAt, half_edge_links.specs.Mesh}
-use Rattle.{c_calls.proofs.Writing.one_more, delaunay_queries.specs.AreLayers}
+use Rattle.{c_calls.proofs.Writing.one_more, delaunay_extensions.specs.AreLayers}
 use Rattle.c_calls.proofs.layers.ListLayersQuery.ask.Goals as goal
 
 -- the layer at a place that leaves out the outer face

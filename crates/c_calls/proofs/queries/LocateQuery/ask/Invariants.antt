@@ -1,7 +1,7 @@
-use Rattle.c_calls.specs.{Answered, IsAnswerAt, kept_place, Queries.IsPlaceIn}
+use Rattle.c_calls.specs.{Answered, IsAnswerAt, kept_place, Queries.IsLocationIn}
 use Rattle.c_calls.proofs.queries.LocateQuery.ask.Given as goal
 
 abbrev pub invariant-loop-index : goal.invariant-loop-index
 invariant-loop-index g l = Answered
-    (IsAnswerAt l.queries (IsPlaceIn kept_place (g.T.Triangulation.state l.points))) l.index
-    l.fn.places l.places
+    (IsAnswerAt l.queries (IsLocationIn kept_place (g.T.Triangulation.state l.points))) l.index
+    l.fn.locations l.locations

@@ -1,5 +1,5 @@
 use Rattle.std.proofs.Common.{ℕ, ◌/◌, ◌∙◌, ap}
-use Rattle.delaunay_queries.proofs.Searching.{counted, not_counted}
+use Rattle.delaunay_extensions.proofs.Searching.{counted, not_counted}
 use Rattle.drawing_faces.proofs.Listing.{free_none, free_one}
 use Rattle.drawing_faces.proofs.flood.Flood.list.Goals as goal
 

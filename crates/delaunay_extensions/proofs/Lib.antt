@@ -1,0 +1,10 @@
+pub mod Ways
+pub mod Searching
+pub mod Reached
+pub mod Calls
+pub mod Orders
+pub mod Placing
+pub mod Handled
+pub mod Refusals
+pub mod Turns
+pub mod Written

@@ -1,4 +1,0 @@
-pub mod Ways
-pub mod Searching
-pub mod Reached
-pub mod Calls

@@ -1,0 +1,10 @@
+use Rattle.std.proofs.Common.{◌≡◌, ◌++◌}
+use Rattle.std.specs.Prelude.{reverse, vec_len}
+use Rattle.delaunay_ways.proofs.short.put_before.Given as goal
+
+abbrev pub invariant-loop-vertex : goal.invariant-loop-vertex
+invariant-loop-vertex l =
+    l.chain.items ++ reverse l.left.items ≡ l.fn.chain.items ++ reverse l.fn.left.items
+
+abbrev pub decreases-loop-vertex : goal.decreases-loop-vertex
+decreases-loop-vertex l = vec_len l.chain
