@@ -301,7 +301,10 @@ impl Search {
         numbers: &[u32],
     ) -> Result<(), AllocError> {
         triangulation.recall_invariant();
-        for (i, face) in triangulation.inner_faces().enumerate() {
+        let mut next = 0usize;
+        for face in triangulation.inner_faces() {
+            let index = next;
+            next = index.saturating_add(1);
             let orders = polygons.at(face.fix());
             if orders.is_empty() {
                 continue;
@@ -312,7 +315,7 @@ impl Search {
                 point_index(indexes, b.fix().index()),
                 point_index(indexes, c.fix().index()),
             ];
-            if let Some(face) = map.find(i, corners) {
+            if let Some(face) = map.find(index, corners) {
                 self.note_all(face, orders, numbers)?;
             }
         }
@@ -336,9 +339,14 @@ fn edge_between<T: Triangulation<Vertex = Point2<i32>>>(
     to: u32,
 ) -> Option<FixedUndirectedEdgeHandle> {
     triangulation.recall_invariant();
-    let from = triangulation.get_vertex(FixedVertexHandle::from_index(from))?;
-    let to = FixedVertexHandle::from_index(to);
-    let edge = triangulation.get_edge_from_neighbors(from.fix(), to)?;
+    if from as usize >= triangulation.num_vertices() {
+        return None;
+    }
+    let (from, to) = (
+        FixedVertexHandle::from_index(from),
+        FixedVertexHandle::from_index(to),
+    );
+    let edge = triangulation.get_edge_from_neighbors(from, to)?;
     Some(edge.as_undirected().fix())
 }
 
