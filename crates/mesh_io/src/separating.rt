@@ -102,7 +102,7 @@ pub struct Separated<R> {
 impl<R: Read + Drop> Separated<R> {
     pub fn new(reader: R, form: TableForm, alloc: Global) -> Result<Self, AllocError> {
         let mut text = Vec::new(alloc);
-        text.extend_from_slice(form.header)?;
+        text.extend_from_slice(form.header())?;
         let mut chunk = Vec::new(alloc);
         chunk.resize(CHUNK, 0)?;
         Ok(Separated {

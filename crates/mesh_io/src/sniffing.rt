@@ -1,13 +1,23 @@
 //! What a text is, by the bytes that it begins with.
 use crate::Source;
 
+/// The header that a table lacks: none, that of positions with or without heights, or that of
+/// segments.
+#[derive(Clone, Copy, PartialEq, Eq)]
+pub enum LackedHeader {
+    Nothing,
+    Positions,
+    Heights,
+    Segments,
+}
+
 /// How a table is written.
 #[derive(Clone, Copy, PartialEq, Eq)]
 pub struct TableForm {
     /// What stands between fields: a comma, a semicolon, a tab, or blanks, by the space.
     pub separator: u8,
-    /// The header that the table lacks, behind which its first row comes; empty where it has one.
-    pub header: &'static [u8],
+    /// The header that the table lacks.
+    pub lacking: LackedHeader,
     /// How many separators stand at the end of the header.
     pub trailing: usize,
 }
@@ -159,16 +169,16 @@ pub fn table_form(bytes: &[u8]) -> TableForm {
     let separator = separator_of(line.trim_ascii());
     let is_blank = separator == b' ' || separator == b'\t';
     let words = if is_blank { line.trim_ascii() } else { line };
-    let header: &'static [u8] = if !begins_number(words.trim_ascii_start()) {
-        &[]
+    let lacking = if !begins_number(words.trim_ascii_start()) {
+        LackedHeader::Nothing
     } else if fields_of(words, separator) > 2 {
-        b"x,y,z\r"
+        LackedHeader::Heights
     } else {
-        b"x,y\r"
+        LackedHeader::Positions
     };
     TableForm {
         separator,
-        header,
+        lacking,
         trailing: if is_blank {
             0
         } else {
@@ -185,12 +195,26 @@ impl TableForm {
 
     /// Whether the table has a header.
     pub fn has_header(&self) -> bool {
-        self.header.is_empty()
+        matches!(self.lacking, LackedHeader::Nothing)
+    }
+
+    /// The header that the table lacks, behind which its first row comes; empty where it has one.
+    pub fn header(&self) -> &[u8] {
+        match self.lacking {
+            LackedHeader::Nothing => &[],
+            LackedHeader::Positions => b"x,y\r",
+            LackedHeader::Heights => b"x,y,z\r",
+            LackedHeader::Segments => b"from,to\r",
+        }
     }
 
     /// The form of a table of segments that is written so.
     pub fn of_segments(self) -> Self {
-        let header: &'static [u8] = if self.has_header() { &[] } else { b"from,to\r" };
-        TableForm { header, ..self }
+        let lacking = if self.has_header() {
+            LackedHeader::Nothing
+        } else {
+            LackedHeader::Segments
+        };
+        TableForm { lacking, ..self }
     }
 }
