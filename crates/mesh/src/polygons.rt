@@ -3,6 +3,7 @@
 use crate::building::point_index;
 use crate::paths::{Turn, path_between};
 use crate::splitting::point_vertices;
+use crate::ways::corner_indexes;
 use delaunay_core::math::validate_vertex;
 use delaunay_core::point::Point2;
 use delaunay_interface::Triangulation;
@@ -309,13 +310,9 @@ impl Search {
             if orders.is_empty() {
                 continue;
             }
-            let [a, b, c] = face.vertices();
-            let corners = [
-                point_index(indexes, a.fix().index()),
-                point_index(indexes, b.fix().index()),
-                point_index(indexes, c.fix().index()),
-            ];
-            if let Some(face) = map.find(index, corners) {
+            if let Some(corners) = corner_indexes(face, indexes)
+                && let Some(face) = map.find(index, corners)
+            {
                 self.note_all(face, orders, numbers)?;
             }
         }

@@ -36,7 +36,7 @@ impl FreeFaces for KeptFlags {
 }
 
 /// The indexes of the points at the corners of a face, of an inner one.
-fn corner_indexes<V, DE, UE, F>(
+pub fn corner_indexes<V, DE, UE, F>(
     face: FaceHandle<'_, V, DE, UE, F>,
     indexes: &[u32],
 ) -> Option<[u32; 3]> {
